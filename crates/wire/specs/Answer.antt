@@ -1,0 +1,22 @@
+-- What the readers of fields answer, as the two ends of a format's reading. Assumes nothing.
+use Prim.Native.Nat.{ℕ}
+use mathlib.Core.List.{List}
+use lib.ListN.{replicate}
+use Rattle.wire.specs.Format.{Format}
+use Rattle.wire.specs.Fields.{blob}
+use Rattle.wire.specs.declared.Part.{Part}
+use Rattle.wire.specs.declared.Part.the-variants as P
+use Rattle.wire.specs.declared.Number.{Number}
+use Rattle.wire.specs.declared.Number.the-variants as N
+
+-- where a value ends
+abbrev pub ended : {A : Type 0} → Format A → List ℕ → ℕ → Part
+ended F s at = F .run s at P.Refused (λ v n. P.Next n)
+
+-- a number and where it ends
+abbrev pub valued : Format ℕ → List ℕ → ℕ → Number
+valued F s at = F .run s at N.Refused N.Value
+
+-- the k bytes from at, or k zeros where they are not all there
+abbrev pub wholeAt : ℕ → List ℕ → ℕ → List ℕ
+wholeAt k s at = blob k .run s at (λ e. replicate k 0) (λ b n. b)

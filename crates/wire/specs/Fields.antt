@@ -1,0 +1,93 @@
+-- The fields: a run of n bytes, and a big-endian number. Both are refused as 2, cut short, where they are not wholly there. Assumes nothing.
+use mathlib.Core.Path.{_≡_, sym, ap, subst}
+use Prim.Native.Nat.{ℕ, _+_, _-_, _^_, _≤_, _<_}
+use native.Mathlib.Omega.{arith}
+use mathlib.Core.Bool.{Bool, true, false}
+use mathlib.Core.List.{List, _++_}
+use lib.ListN.{length, take, drop, length-append, length-drop, take-append-drop}
+use lib.Seq.{drop-drop, take-at, length-take-le}
+use lib.Dec.{leb}
+use borrow.Author.Tests.{leb-true, le-leb}
+use Rattle.wire.specs.declared.Refusal.{Refusal}
+use Rattle.wire.specs.Bytes.{Bytes, bytes-take, bytes-drop, value, digits, value-lt, length-digits, bytes-digits, value-digits, digits-value, pick}
+use Rattle.wire.specs.Numbers.{Ruled, cutShort, cutAt}
+use Rattle.wire.specs.Format.{Format, took, refused, Stands, onResult, moved, pick-inv, pick-same, pick-ruled, refused-number, took-refused}
+use Rattle.wire.specs.Sequence.{«as»}
+
+-- ---- n bytes
+
+module _ (n : ℕ) where
+  unfoldable pub blobRun : {R : Type 0} → List ℕ → ℕ → (Refusal → R) → (List ℕ → ℕ → R) → R
+  blobRun s at stop go = pick (leb n (length s - at)) (go (take n (drop at s)) (at + n)) (stop (cutAt n s at))
+
+  abbrev pub Sized : List ℕ → Type 0
+  Sized b = (length b ≡ n) × Bytes b
+
+  pub blob-sound : (s : List ℕ) (at : ℕ) (v : List ℕ) (next : ℕ) → Bytes s → blobRun s at refused took ≡ took v next → Sized v × Stands s at v next
+  unfolding blobRun
+  blob-sound s at v next bs e =
+      let (fits, e′) = pick-inv (leb n (length s - at)) (cutAt n s at) _ v next e in
+      let len : length (take n (drop at s)) ≡ n = length-take-le n (drop at s) (rw length-drop (leb-true n (length s - at) fits)) in
+      moved (λ b m. Sized b × Stands s at b m) e′ (
+        (len, bytes-take n (drop at s) (bytes-drop at s bs)),
+        record { ends = omega arith; there = rw (← drop-drop) (sym (take-append-drop n (drop at s))) },
+      )
+
+  pub blob-complete : {R : Type 0} (s : List ℕ) (at : ℕ) (v t : List ℕ) (stop : Refusal → R) (go : List ℕ → ℕ → R) → Sized v → drop at s ≡ v ++ t
+      → blobRun s at stop go ≡ go v (at + length v)
+  unfolding blobRun
+  blob-complete s at v t stop go h e =
+      let fits : n ≤ length s - at = omega (arith, simp (length-drop, length-append) at (ap length e)) in
+      rw (le-leb n (length s - at) fits, e, take-at v t n (h .0), h .0)
+
+  pub blob-same : {R : Type 0} (s : List ℕ) (at : ℕ) (stop : Refusal → R) (go : List ℕ → ℕ → R)
+      → blobRun s at stop go ≡ onResult (blobRun s at refused took) stop go
+  unfolding blobRun
+  blob-same s at stop go = pick-same (leb n (length s - at)) (cutAt n s at) _ _ stop go
+
+  -- it refuses as 2 only
+  pub blob-stable : (s t : List ℕ) (at : ℕ) (e : Refusal) → Bytes s → (e .number ≡ 2 → ⊥) → blobRun s at refused took ≡ refused e
+      → blobRun (s ++ t) at refused took ≡ refused e
+  unfolding blobRun
+  blob-stable s t at e bs ne q = go (leb n (length s - at)) q
+    where
+      go : (b : Bool) → pick b (took (take n (drop at s)) (at + n)) (refused (cutAt n s at)) ≡ refused e → blobRun (s ++ t) at refused took ≡ refused e
+      go true q = took-refused (take n (drop at s)) (at + n) e q
+      go false q = absurd (ne (refused-number (cutAt n s at) e q))
+
+  pub blob-ruled : (s : List ℕ) (at : ℕ) (e : Refusal) → blobRun s at refused took ≡ refused e → Ruled (e .number)
+  unfolding blobRun
+  blob-ruled s at e = pick-ruled (leb n (length s - at)) cutShort at (take n (drop at s)) (at + n) e
+
+  unfoldable pub blob : Format (List ℕ)
+  blob =
+      record {
+        run = blobRun;
+        write = λ b. b;
+        Good = Sized;
+        same = blob-same;
+        sound = blob-sound;
+        complete = blob-complete;
+        bytes = λ v h. h .1;
+        stable = blob-stable;
+        ruled = blob-ruled;
+      }
+
+pub blob-sized : (n : ℕ) (b : List ℕ) → blob n .Good b → length b ≡ n
+unfolding blob
+blob-sized n b h = h .0
+
+-- ---- a big-endian number of w bytes
+
+unfoldable pub number : ℕ → Format ℕ
+unfolding blob «as»
+number w =
+    «as» (blob w) (λ v. v < 256 ^ w)
+    record {
+      to = value;
+      from = digits w;
+      fit = λ b h. subst (λ (k : ℕ). value b < 256 ^ k) (h .0) (value-lt b (h .1));
+      has = λ v h. (length-digits w v, bytes-digits w v h);
+      from-to = λ b h. subst (λ (k : ℕ). digits k (value b) ≡ b) (h .0) (digits-value b (h .1));
+      to-from = λ v h. value-digits w v h;
+    }

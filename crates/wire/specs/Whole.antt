@@ -1,0 +1,89 @@
+-- The whole of a byte string as one value: at most so many bytes, and nothing behind the value. Assumes nothing.
+use mathlib.Core.Path.{_≡_, refl, sym, ap, _∙_}
+use Prim.Native.Nat.{ℕ, _≤_}
+use native.Mathlib.Omega.{arith}
+use native.Mathlib.Nat.{zero-add}
+use mathlib.Core.Bool.{Bool, true, false}
+use mathlib.Core.List.{List, [], _++_, append-nil}
+use lib.ListN.{length, drop, length-append}
+use lib.Seq.{drop-length}
+use lib.Dec.{leb, eqb}
+use borrow.Author.Tests.{leb-true, le-leb, eqb-true, eqb-false, eq-eqb, ne-eqb}
+use Rattle.wire.specs.declared.Refusal.{Refusal}
+use Rattle.wire.specs.Bytes.{Bytes, pick}
+use Rattle.wire.specs.Numbers.{refusal, tooLong, bytesAfterEnd, ruled-range}
+use Rattle.wire.specs.Format.{Format, Result, took, refused, onResult, read, moved, run-inv, run-same, run-stable, pick-inv, pick-same, stands-inside, refused-number, took-refused}
+
+module _ {A : Type 0} (F : Format A) (most : ℕ) where
+  abbrev pub whole : {R : Type 0} → List ℕ → (Refusal → R) → (A → ℕ → R) → R
+  whole s stop go =
+      pick (leb (length s) most)
+      (F .run s 0 stop λ v n. pick (eqb n (length s)) (go v n) (stop (refusal bytesAfterEnd n)))
+      (stop (refusal tooLong 0))
+
+  -- what is taken whole is a value of the format, its writing is the bytes, and these are not too many
+  pub whole-sound : (s : List ℕ) (v : A) (n : ℕ) → Bytes s → whole s refused took ≡ took v n → F .Good v × (F .write v ≡ s) × (n ≡ length s) × (length s ≤ most)
+  whole-sound s v n bs e =
+      let (fits, e₁) = pick-inv (leb (length s) most) (refusal tooLong 0) _ v n e in
+      let (a, m, ea, e₂) = run-inv F s 0 _ v n e₁ in
+      let (end, e₃) = pick-inv (eqb m (length s)) (refusal bytesAfterEnd m) _ v n e₂ in
+      let (ga, sa) = F .sound s 0 a m bs ea in
+      let len : m ≡ length s = eqb-true m (length s) end in
+      let gone : drop m s ≡ [] = rw len (drop-length s) in
+      moved (λ w k. F .Good w × (F .write w ≡ s) × (k ≡ length s) × (length s ≤ most)) e₃
+      (ga, sym (sa .there ∙ ap (λ (r : List ℕ). F .write a ++ r) gone ∙ append-nil (F .write a)), len, leb-true (length s) most fits)
+
+  -- the writing of a value of the format is taken whole
+  pub whole-complete : {R : Type 0} (v : A) (stop : Refusal → R) (go : A → ℕ → R) → F .Good v → length (F .write v) ≤ most
+      → whole (F .write v) stop go ≡ go v (length (F .write v))
+  whole-complete v stop go g h =
+      let w : List ℕ = F .write v in
+      rw (le-leb (length w) most h, F .complete w 0 v [] stop (λ v n. pick (eqb n (length w)) (go v n) (stop (refusal bytesAfterEnd n))) g (sym (append-nil w)), zero-add, eq-eqb (length w) (length w) refl)
+
+  pub whole-same : {R : Type 0} (s : List ℕ) (stop : Refusal → R) (go : A → ℕ → R) → whole s stop go ≡ onResult (whole s refused took) stop go
+  whole-same s stop go = fits (leb (length s) most)
+    where
+      inner : F .run s 0 stop (λ v n. pick (eqb n (length s)) (go v n) (stop (refusal bytesAfterEnd n)))
+          ≡ onResult (F .run s 0 refused (λ v n. pick (eqb n (length s)) (took v n) (refused (refusal bytesAfterEnd n)))) stop go
+      inner = run-same F s 0 _ _ stop go (λ v n. pick-same (eqb n (length s)) (refusal bytesAfterEnd n) v n stop go)
+
+      fits : (b : Bool) → pick b (F .run s 0 stop (λ v n. pick (eqb n (length s)) (go v n) (stop (refusal bytesAfterEnd n)))) (stop (refusal tooLong 0))
+          ≡ onResult (pick b (F .run s 0 refused (λ v n. pick (eqb n (length s)) (took v n) (refused (refusal bytesAfterEnd n)))) (refused (refusal tooLong 0))) stop go
+      fits true = inner
+      fits false = refl
+
+  -- a refusal other than 2 is kept when bytes are added behind, as long as there are not too many
+  pub whole-stable : (s t : List ℕ) (e : Refusal) → Bytes s → (e .number ≡ 2 → ⊥) → length (s ++ t) ≤ most → whole s refused took ≡ refused e
+      → whole (s ++ t) refused took ≡ refused e
+  whole-stable s t e bs ne h q =
+      let few : length s ≤ most = omega (arith, length-append s t) in
+      rw (le-leb (length (s ++ t)) most h)
+      (run-stable F s t 0 _ _ e bs ne
+      (λ v n r. behind v n (eqb n (length s)) refl (stands-inside s 0 (F .write v) n (F .sound s 0 v n bs r .1) (omega arith))) (rw (le-leb (length s) most few) at q))
+    where
+      behind : (v : A) (n : ℕ) (b : Bool) → eqb n (length s) ≡ b → n ≤ length s
+          → pick (eqb n (length s)) (took v n) (refused (refusal bytesAfterEnd n)) ≡ refused e
+          → pick (eqb n (length (s ++ t))) (took v n) (refused (refusal bytesAfterEnd n)) ≡ refused e
+      behind v n true q l r = let r′ : took v n ≡ refused e = rw q at r in took-refused v n e r′
+      behind v n false q l r = rw (ne-eqb n (length (s ++ t)) (λ z. eqb-false n (length s) q (omega (arith, length-append s t)))) (rw q at r)
+
+  -- refused by a number of the table, 1 to 13
+  pub whole-ruled : (s : List ℕ) (e : Refusal) → whole s refused took ≡ refused e → (1 ≤ e .number) × (e .number ≤ 13)
+  whole-ruled s e = fits (leb (length s) most)
+    where
+      behind : (v : A) (n : ℕ) (b : Bool) → pick b (took v n) (refused (refusal bytesAfterEnd n)) ≡ refused e → (1 ≤ e .number) × (e .number ≤ 13)
+      behind v n true q = took-refused v n e q
+      behind v n false q = let z = refused-number {A = A} (refusal bytesAfterEnd n) e q in (omega arith, omega arith)
+
+      inside : (o : Result A) → read F s 0 ≡ o → onResult o refused (λ v n. pick (eqb n (length s)) (took v n) (refused (refusal bytesAfterEnd n))) ≡ refused e
+          → (1 ≤ e .number) × (e .number ≤ 13)
+      inside (took v n) r q = behind v n (eqb n (length s)) q
+      inside (refused d) r q =
+          let z = refused-number {A = A} d e q in
+          let (a, b) = ruled-range (d .number) (F .ruled s 0 d r) in
+          (omega arith, omega arith)
+
+      fits : (b : Bool) → pick b (F .run s 0 refused (λ v n. pick (eqb n (length s)) (took v n) (refused (refusal bytesAfterEnd n)))) (refused (refusal tooLong 0)) ≡ refused e
+          → (1 ≤ e .number) × (e .number ≤ 13)
+      fits true q = inside (read F s 0) refl (sym (F .same s 0 refused _) ∙ q)
+      fits false q = let z = refused-number {A = A} (refusal tooLong 0) e q in (omega arith, omega arith)
