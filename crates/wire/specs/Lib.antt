@@ -6,4 +6,5 @@ pub mod Fields
 pub mod Sequence
 pub mod Series
 pub mod Whole
+pub mod Order
 pub mod Answer

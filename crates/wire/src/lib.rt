@@ -22,6 +22,13 @@ pub enum Number {
     Refused(Refusal),
 }
 
+// How one byte string stands to another.
+pub enum Order {
+    Below,
+    Equal,
+    Above,
+}
+
 // Cut short: of the width bytes from at, not all are there.
 pub fn cut(s: &[u8], at: usize, width: usize) -> Refusal
     ensures { λ r. ⌜ r ≡ cutAt width (now (s .entry)) at ⌝ }
