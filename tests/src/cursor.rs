@@ -5,18 +5,14 @@ use crate::refusal::{ensure, Number, Refusal};
 /// An identifier, borrowed from the transaction's bytes.
 pub type Id<'a> = &'a [u8; 32];
 
-/// A counted run inside the bytes: the place of its first element, behind the count.
-#[derive(Clone, Copy, Debug, PartialEq, Eq)]
+/// A counted run inside the bytes: the place of its first element, behind the count. The
+/// default is a list that is not there.
+#[derive(Clone, Copy, Debug, Default, PartialEq, Eq)]
 pub struct List {
     /// The place of the first element.
     pub at: usize,
     /// The number of elements.
     pub count: u32,
-}
-
-impl List {
-    /// A list that is not there.
-    pub const NONE: List = List { at: 0, count: 0 };
 }
 
 /// The next field's place in a byte slice.
@@ -154,7 +150,7 @@ impl<'a> Cursor<'a> {
     /// Steps over a list of `width` bytes an element, and answers its count.
     pub fn skip_list(&mut self, width: usize) -> Result<u32, Refusal> {
         let count = self.number32()?;
-        self.body(count as usize * width)?;
+        self.body((count as usize).saturating_mul(width))?;
         Ok(count)
     }
 }

@@ -1,18 +1,19 @@
--- The fields: a run of n bytes, and a big-endian number. Both are refused as 2, cut short, where they are not wholly there. Assumes nothing.
-use mathlib.Core.Path.{_≡_, sym, ap, subst}
+-- The fields: a run of n bytes, and a big-endian number. Both are refused as 2, cut short, where they are not wholly there.
+-- Assumes nothing.
+use mathlib.Core.Path.{_≡_, refl, sym, ap, subst}
 use Prim.Native.Nat.{ℕ, _+_, _-_, _^_, _≤_, _<_}
 use native.Mathlib.Omega.{arith}
 use mathlib.Core.Bool.{Bool, true, false}
 use mathlib.Core.List.{List, _++_}
 use lib.ListN.{length, take, drop, length-append, length-drop, take-append-drop}
 use lib.Seq.{drop-drop, take-at, length-take-le}
-use lib.Dec.{leb}
-use borrow.Author.Tests.{leb-true, le-leb}
+use lib.Dec.{leb, eqb}
+use borrow.Author.Tests.{leb-true, le-leb, eqb-true}
 use Rattle.wire.specs.declared.Refusal.{Refusal}
 use Rattle.wire.specs.Bytes.{Bytes, bytes-take, bytes-drop, value, digits, value-lt, length-digits, bytes-digits, value-digits, digits-value, pick}
-use Rattle.wire.specs.Numbers.{Ruled, cutShort, cutAt}
+use Rattle.wire.specs.Numbers.{Rule, Ruled, cutShort, cutAt}
 use Rattle.wire.specs.Format.{Format, took, refused, Stands, onResult, moved, pick-inv, pick-same, pick-ruled, refused-number, took-refused}
-use Rattle.wire.specs.Sequence.{«as»}
+use Rattle.wire.specs.Sequence.{«as», guard, named}
 
 -- ---- n bytes
 
@@ -91,3 +92,10 @@ number w =
       from-to = λ b h. subst (λ (k : ℕ). digits k (value b) ≡ b) (h .0) (digits-value b (h .1));
       to-from = λ v h. value-digits w v h;
     }
+
+-- ---- a number of w bytes that has to be v; any other is refused by x, at its start
+
+unfoldable pub constant : ℕ → ℕ → Rule → Format (Unit {0})
+unfolding number named guard
+constant w v x =
+    named (guard (number w) (λ n. eqb n v) x) (λ n. tt) (λ u. v) (λ n h. sym (eqb-true n v (h .1))) (λ u. refl)

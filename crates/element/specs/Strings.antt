@@ -1,0 +1,59 @@
+-- Strings: a length and so many bytes. The length is judged when it is read, characters when the whole string is there. Assumes nothing.
+use mathlib.Core.Path.{refl, ap}
+use Prim.Native.Nat.{ℕ, suc, _+_}
+use mathlib.Core.Bool.{Bool, _&&_}
+use mathlib.Core.List.{List, [], _∷_}
+use lib.ListN.{length}
+use lib.Dec.{leb, ltb, eqb}
+use Rattle.wire.specs.Bytes.{pick}
+use Rattle.wire.specs.Numbers.{badLength, notPrintable, badDenomination}
+use Rattle.wire.specs.Format.{Format}
+use Rattle.wire.specs.Fields.{number, blob, blob-sized}
+use Rattle.wire.specs.Sequence.{andThen, guard, guardAt, named}
+
+-- a length of w bytes, at most `most`
+abbrev pub lengthTo : ℕ → ℕ → Format ℕ
+lengthTo w most = guard (number w) (λ n. leb n most) badLength
+
+unfoldable pub string : ℕ → ℕ → Format (List ℕ)
+unfolding named andThen guard
+string w most =
+    named (andThen (lengthTo w most) blob) (λ v. v .1) (λ b. (length b, b))
+    (λ v h. ap (λ (n : ℕ). (n, v .1)) (blob-sized (v .0) (v .1) (h .1))) (λ b. refl)
+
+-- 256 in the base
+abbrev pub memo : ℕ → Format (List ℕ)
+memo most = string 4 most
+
+abbrev pub payload : Format (List ℕ)
+payload = string 4 1024
+
+-- ---- text: one to `most` characters, each from 0x20 to 0x7e
+
+abbrev pub isPrintable : ℕ → Bool
+isPrintable x = leb 32 x && leb x 126
+
+-- the index of the first character that is not printable; the length where all are
+unfoldable pub unprintable : List ℕ → ℕ
+unprintable [] = 0
+unprintable (x ∷ xs) = pick (isPrintable x) (suc (unprintable xs)) 0
+
+unfoldable pub printable : ℕ → Format (List ℕ)
+unfolding guardAt
+printable n = guardAt (blob n) (λ b. eqb (unprintable b) (length b)) notPrintable (λ at b. at + unprintable b)
+
+unfoldable pub text : ℕ → Format (List ℕ)
+unfolding named andThen guard guardAt printable
+text most =
+    named (andThen (guard (guard (number 2) (λ n. ltb 0 n) badLength) (λ n. leb n most) badLength) printable) (λ v. v .1) (λ b. (length b, b))
+    (λ v h. ap (λ (n : ℕ). (n, v .1)) (blob-sized (v .0) (v .1) (h .1 .0))) (λ b. refl)
+
+abbrev pub name : Format (List ℕ)
+name = text 128
+
+abbrev pub symbol : Format (List ℕ)
+symbol = text 4
+
+unfoldable pub denomination : Format ℕ
+unfolding guard
+denomination = guard (number 1) (λ n. leb n 32) badDenomination

@@ -1,0 +1,58 @@
+// The parts of a transaction: owners, outputs, inputs, operations and initial states.
+ghost use mathlib.Core.Path.{_≡_};
+
+// The numbers of an owners part: its addresses are addresses_count times 20 bytes from addresses_at on.
+pub struct OwnersFields {
+    pub locktime: u64,
+    pub threshold: u64,
+    pub addresses_at: usize,
+    pub addresses_count: u64,
+}
+
+// An output's own fields, by its type: 6, 7, 10 and 11.
+pub enum OutputFields {
+    SecpMint(OwnersFields),
+    SecpTransfer {
+        amount: u64,
+        owners: OwnersFields,
+    },
+    NftMint {
+        group: u64,
+        owners: OwnersFields,
+    },
+    NftTransfer {
+        group: u64,
+        payload_at: usize,
+        payload_length: u64,
+        owners: OwnersFields,
+    },
+}
+
+// An input's fields beside its identifiers.
+pub struct InputFields {
+    pub index: u64,
+    pub amount: u64,
+    pub indices_at: usize,
+    pub indices_count: u64,
+}
+
+// Who receives what an operation makes: a mint (12) has a list of owners, a transfer (13) has owners.
+pub enum Recipients {
+    Mint {
+        owners_at: usize,
+        owners_count: u64,
+    },
+    Transfer(OwnersFields),
+}
+
+// An operation's fields beside its asset id.
+pub struct OperationFields {
+    pub outputs_at: usize,
+    pub outputs_count: u64,
+    pub indices_at: usize,
+    pub indices_count: u64,
+    pub group: u64,
+    pub payload_at: usize,
+    pub payload_length: u64,
+    pub recipients: Recipients,
+}

@@ -1,0 +1,339 @@
+//! The case lines by which programs that answer the same questions are compared: a
+//! request line in, an answer line out. Nothing here knows the format; whatever answers
+//! stands behind the trait `Answers`.
+
+use std::fmt::{self, Display, Write as _};
+use std::io::{self, BufRead, Write};
+
+/// A lent buffer holds this byte everywhere before the call.
+const LENT: u8 = 0xa5;
+/// A lent table holds this number everywhere before the call.
+const LENT_NUMBER: u32 = 0xa5a5_a5a5;
+/// Larger rooms are no request, so that a line cannot ask for all memory.
+const ROOM_MOST: usize = 1 << 24;
+
+/// A number and its place.
+#[derive(Clone, Copy, Debug, PartialEq, Eq)]
+pub struct Answer {
+    /// The number of the table, 0 where it is done.
+    pub number: u32,
+    /// The place.
+    pub place: u64,
+}
+
+/// The value of an entry's field.
+#[derive(Clone, Copy, Debug, PartialEq, Eq)]
+pub enum Field {
+    /// Shown in decimal.
+    Number(u64),
+    /// Shown in hex.
+    Id([u8; 32]),
+}
+
+/// An entry as its kind and its named fields, in any order.
+#[derive(Clone, Debug, PartialEq, Eq)]
+pub struct EntryFields {
+    /// The entry's kind.
+    pub kind: u32,
+    /// The fields with their names.
+    pub fields: Vec<(&'static str, Field)>,
+}
+
+/// A call of the writer.
+#[derive(Clone, Debug, PartialEq, Eq)]
+#[allow(missing_docs)]
+pub enum Step {
+    Start { type_id: u32, network: u32, chain: [u8; 32] },
+    Output { asset: [u8; 32], amount: u64, locktime: u64, threshold: u32, addresses: Vec<u8> },
+    Input { txid: [u8; 32], index: u32, asset: [u8; 32], amount: u64, indices: Vec<u32> },
+    Operation(Vec<u8>),
+    State(Vec<u8>),
+    Close,
+    Memo(Vec<u8>),
+    Name(Vec<u8>),
+    Symbol(Vec<u8>),
+    Denomination(u8),
+    Chain([u8; 32]),
+    Finish,
+}
+
+/// A writer's call with the length of the buffer's lent front, all of it where none is
+/// given.
+#[derive(Clone, Debug, PartialEq, Eq)]
+pub struct Call {
+    /// The step.
+    pub step: Step,
+    /// The lent front's length.
+    pub lent: Option<usize>,
+}
+
+/// What answers the requests.
+pub trait Answers {
+    /// The writer's state before its first step is the default.
+    type Writer: Default;
+
+    /// Checks with no table lent.
+    fn check(&self, bytes: &[u8]) -> Answer;
+    /// Checks with a lent table; answers also the number of rows.
+    fn rows(&self, bytes: &[u8], table: &mut [u32]) -> (Answer, usize);
+    /// Reads one entry.
+    fn entry(&self, bytes: &[u8], n: u32) -> (Answer, Option<EntryFields>);
+    /// Fills a slot of the lent draft.
+    fn fill(&self, draft: &mut [u8], slot: u32, signature: &[u8]) -> Answer;
+    /// Merges two drafts into the output buffer.
+    fn merge(&self, first: &[u8], second: &[u8], output: &mut [u8]) -> Answer;
+    /// The phone program's check.
+    fn phone_check(&self, bytes: &[u8]) -> u64;
+    /// The phone program's merge.
+    fn phone_merge(&self, first: &[u8], second: &[u8], output: &mut [u8]) -> u64;
+    /// Makes one writer's step over the lent buffer.
+    fn step(&self, writer: &mut Self::Writer, buffer: &mut [u8], step: &Step) -> Answer;
+}
+
+/// Answers each line of the input with one line.
+pub fn serve(
+    answers: &impl Answers,
+    input: impl BufRead,
+    mut output: impl Write,
+) -> io::Result<()> {
+    for line in input.split(b'\n') {
+        let line = line?;
+        let answer = std::str::from_utf8(&line).ok().and_then(|line| answer(answers, line));
+        writeln!(output, "{}", answer.as_deref().unwrap_or("bad request"))?;
+    }
+    output.flush()
+}
+
+/// The answer to one request, or none where the line is no request.
+pub fn answer<A: Answers>(answers: &A, line: &str) -> Option<String> {
+    let words: Vec<&str> = line.split(' ').collect();
+    match words[..] {
+        ["check", bytes, "none"] => Some(answers.check(&unhex(bytes)?).to_string()),
+        ["check", bytes, room] => rows_line(answers, &unhex(bytes)?, lent_room(room)?),
+        ["entry", bytes, n] => Some(entry_line(answers, &unhex(bytes)?, number(n)?)),
+        ["fill", draft, slot, signature] => {
+            let mut draft = unhex(draft)?;
+            let answer = answers.fill(&mut draft, number(slot)?, &unhex(signature)?);
+            Some(format!("{answer} {}", Hex(&draft)))
+        }
+        ["merge", first, second, room] => {
+            let mut output = vec![LENT; lent_room(room)?];
+            let answer = answers.merge(&unhex(first)?, &unhex(second)?, &mut output);
+            Some(format!("{answer} {}", Hex(&output)))
+        }
+        ["phone-check", bytes] => Some(answers.phone_check(&unhex(bytes)?).to_string()),
+        ["phone-merge", first, second, room] => {
+            let mut output = vec![LENT; lent_room(room)?];
+            let answer = answers.phone_merge(&unhex(first)?, &unhex(second)?, &mut output);
+            Some(format!("{answer} {}", Hex(&output)))
+        }
+        ["write", length, ref steps @ ..] => write_line(answers, lent_room(length)?, steps),
+        _ => None,
+    }
+}
+
+fn rows_line(answers: &impl Answers, bytes: &[u8], room: usize) -> Option<String> {
+    let mut table = vec![LENT_NUMBER; room];
+    let (answer, rows) = answers.rows(bytes, &mut table);
+    let (written, beyond) = table.split_at_checked(3 * rows)?;
+    let mut line = format!("{answer} {rows}");
+    for number in written {
+        write!(line, " {number}").ok()?;
+    }
+    let kept = beyond.iter().all(|&number| number == LENT_NUMBER);
+    Some(line + if kept { " kept" } else { " changed" })
+}
+
+fn entry_line(answers: &impl Answers, bytes: &[u8], n: u32) -> String {
+    let (answer, entry) = answers.entry(bytes, n);
+    let Some(EntryFields { kind, mut fields }) = entry else {
+        return answer.to_string();
+    };
+    fields.sort_by_key(|&(name, _)| name);
+    let fields = fields.iter().map(|(name, field)| format!(" {name}={field}"));
+    format!("{answer} kind={kind}{}", fields.collect::<String>())
+}
+
+fn write_line<A: Answers>(answers: &A, length: usize, steps: &[&str]) -> Option<String> {
+    let calls: Option<Vec<Call>> = steps.iter().map(|step| call(step)).collect();
+    let mut buffer = vec![LENT; length];
+    let mut writer = A::Writer::default();
+    let mut line = String::new();
+    for Call { step, lent } in calls? {
+        let lent = buffer.get_mut(..lent.unwrap_or(length))?;
+        let answer = answers.step(&mut writer, lent, &step);
+        write!(line, "{answer} ").ok()?;
+    }
+    Some(format!("{line}{}", Hex(&buffer)))
+}
+
+/// Reads one writer's step: `CALL:ARG:ARG..`, with `@N` behind CALL where only the first
+/// N bytes of the buffer are lent.
+pub fn call(text: &str) -> Option<Call> {
+    let words: Vec<&str> = text.split(':').collect();
+    let (name, lent) = match words[0].split_once('@') {
+        Some((name, lent)) => (name, Some(number(lent)?)),
+        None => (words[0], None),
+    };
+    let step = match (name, &words[1..]) {
+        ("start", &[type_id, network, chain]) => Step::Start {
+            type_id: number(type_id)?,
+            network: number(network)?,
+            chain: id(chain)?,
+        },
+        ("output", &[asset, amount, locktime, threshold, addresses]) => Step::Output {
+            asset: id(asset)?,
+            amount: number(amount)?,
+            locktime: number(locktime)?,
+            threshold: number(threshold)?,
+            addresses: unhex(addresses)?,
+        },
+        ("input", &[txid, index, asset, amount, indices]) => Step::Input {
+            txid: id(txid)?,
+            index: number(index)?,
+            asset: id(asset)?,
+            amount: number(amount)?,
+            indices: numbers(indices)?,
+        },
+        (_, arguments) => short_step(name, arguments)?,
+    };
+    Some(Call { step, lent })
+}
+
+/// The steps with at most one argument.
+fn short_step(name: &str, arguments: &[&str]) -> Option<Step> {
+    Some(match (name, arguments) {
+        ("operation", [bytes]) => Step::Operation(unhex(bytes)?),
+        ("state", [bytes]) => Step::State(unhex(bytes)?),
+        ("close", []) => Step::Close,
+        ("memo", [bytes]) => Step::Memo(unhex(bytes)?),
+        ("name", [bytes]) => Step::Name(unhex(bytes)?),
+        ("symbol", [bytes]) => Step::Symbol(unhex(bytes)?),
+        ("denomination", [n]) => Step::Denomination(number(n)?),
+        ("chain", [chain]) => Step::Chain(id(chain)?),
+        ("finish", []) => Step::Finish,
+        _ => return None,
+    })
+}
+
+/// Reads lowercase hex, or `-` for none.
+pub fn unhex(text: &str) -> Option<Vec<u8>> {
+    if text == "-" {
+        return Some(Vec::new());
+    }
+    let digits = text.as_bytes();
+    if digits.is_empty() || digits.len() % 2 != 0 {
+        return None;
+    }
+    digits.chunks(2).map(|pair| Some(digit(pair[0])? << 4 | digit(pair[1])?)).collect()
+}
+
+fn digit(character: u8) -> Option<u8> {
+    match character {
+        b'0'..=b'9' => Some(character - b'0'),
+        b'a'..=b'f' => Some(character - b'a' + 10),
+        _ => None,
+    }
+}
+
+fn id(text: &str) -> Option<[u8; 32]> {
+    unhex(text)?.try_into().ok()
+}
+
+/// Reads a decimal number of digits only.
+fn number<T: std::str::FromStr>(text: &str) -> Option<T> {
+    let digits = text.bytes().all(|character| character.is_ascii_digit());
+    digits.then(|| text.parse().ok())?
+}
+
+fn numbers(text: &str) -> Option<Vec<u32>> {
+    match text {
+        "-" => Some(Vec::new()),
+        _ => text.split(',').map(number).collect(),
+    }
+}
+
+fn lent_room(text: &str) -> Option<usize> {
+    number(text).filter(|&room| room <= ROOM_MOST)
+}
+
+/// Shows bytes as lowercase hex, or `-` for none.
+pub struct Hex<'a>(pub &'a [u8]);
+
+impl Display for Hex<'_> {
+    fn fmt(&self, f: &mut fmt::Formatter) -> fmt::Result {
+        const DIGITS: &[u8; 16] = b"0123456789abcdef";
+        if self.0.is_empty() {
+            return f.write_str("-");
+        }
+        let digits = self.0.iter().flat_map(|byte| [byte >> 4, byte & 15]);
+        let text: String = digits.map(|digit| DIGITS[digit as usize] as char).collect();
+        f.write_str(&text)
+    }
+}
+
+impl Display for Answer {
+    fn fmt(&self, f: &mut fmt::Formatter) -> fmt::Result {
+        write!(f, "{} {}", self.number, self.place)
+    }
+}
+
+impl Display for Field {
+    fn fmt(&self, f: &mut fmt::Formatter) -> fmt::Result {
+        match self {
+            Field::Number(number) => write!(f, "{number}"),
+            Field::Id(id) => write!(f, "{}", Hex(id)),
+        }
+    }
+}
+
+impl Display for Call {
+    fn fmt(&self, f: &mut fmt::Formatter) -> fmt::Result {
+        let text = self.step.to_string();
+        let (name, arguments) = text.split_at(text.find(':').unwrap_or(text.len()));
+        match self.lent {
+            Some(lent) => write!(f, "{name}@{lent}{arguments}"),
+            None => f.write_str(&text),
+        }
+    }
+}
+
+impl Display for Step {
+    fn fmt(&self, f: &mut fmt::Formatter) -> fmt::Result {
+        match self {
+            Step::Start { type_id, network, chain } => {
+                write!(f, "start:{type_id}:{network}:{}", Hex(chain))
+            }
+            Step::Output { asset, amount, locktime, threshold, addresses } => {
+                let (asset, addresses) = (Hex(asset), Hex(addresses));
+                write!(f, "output:{asset}:{amount}:{locktime}:{threshold}:{addresses}")
+            }
+            Step::Input { txid, index, asset, amount, indices } => {
+                let (txid, asset, indices) = (Hex(txid), Hex(asset), Numbers(indices));
+                write!(f, "input:{txid}:{index}:{asset}:{amount}:{indices}")
+            }
+            Step::Operation(bytes) => write!(f, "operation:{}", Hex(bytes)),
+            Step::State(bytes) => write!(f, "state:{}", Hex(bytes)),
+            Step::Close => f.write_str("close"),
+            Step::Memo(bytes) => write!(f, "memo:{}", Hex(bytes)),
+            Step::Name(bytes) => write!(f, "name:{}", Hex(bytes)),
+            Step::Symbol(bytes) => write!(f, "symbol:{}", Hex(bytes)),
+            Step::Denomination(denomination) => write!(f, "denomination:{denomination}"),
+            Step::Chain(chain) => write!(f, "chain:{}", Hex(chain)),
+            Step::Finish => f.write_str("finish"),
+        }
+    }
+}
+
+/// Shows numbers with commas between, or `-` for none.
+struct Numbers<'a>(&'a [u32]);
+
+impl Display for Numbers<'_> {
+    fn fmt(&self, f: &mut fmt::Formatter) -> fmt::Result {
+        if self.0.is_empty() {
+            return f.write_str("-");
+        }
+        let numbers: Vec<String> = self.0.iter().map(u32::to_string).collect();
+        f.write_str(&numbers.join(","))
+    }
+}
