@@ -8,7 +8,7 @@ pub mod draft;
 pub mod element;
 pub mod encode;
 pub mod entries;
-//pub mod generate;
+pub mod generate;
 pub mod independent;
 pub mod lines;
 pub mod phone;

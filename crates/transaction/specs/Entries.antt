@@ -1,0 +1,87 @@
+-- Entries: the rows of the table, and the typed fields of each, from the values and where they stand. Assumes nothing.
+use Prim.Native.Nat.{ℕ, _+_, _-_, _*_}
+use mathlib.Core.List.{List, [], _∷_, _++_}
+use lib.ListN.{length, replicate}
+use Rattle.wire.specs.Format.{Format}
+use Rattle.wire.specs.Series.{notBelow}
+use Rattle.element.specs.Outputs.{Output, output, TransferableOutput, outputFields}
+use Rattle.element.specs.Inputs.{Input, inputFields}
+use Rattle.element.specs.Operations.{Operation, operationFields, InitialState, fxOutputs}
+use Rattle.transaction.specs.Slots.{signatureWidth}
+use Rattle.transaction.specs.Credentials.{Want, credentialCode}
+use Rattle.transaction.specs.declared.Entry.{Entry}
+use Rattle.transaction.specs.declared.Entry.the-variants as E
+
+abbrev pub kindOf : Entry → ℕ
+kindOf (E.Output f) = 1
+kindOf (E.Input f) = 2
+kindOf (E.Operation f) = 3
+kindOf (E.ImportedInput f) = 4
+kindOf (E.ExportedOutput f) = 5
+kindOf (E.InitialStateOutput f) = 6
+kindOf (E.Credential f) = 7
+
+-- an entry from `start` up to `end`: its typed fields, and the identifiers beside them, zero bytes where it has none
+pub record EntryAt : Type 0 where
+  pub fields : Entry
+  pub start : ℕ
+  pub end : ℕ
+  pub asset : List ℕ
+  pub txid : List ℕ
+
+-- the three numbers of a row: kind, start, length
+abbrev pub row : EntryAt → List ℕ
+row e = kindOf (e .fields) ∷ e .start ∷ (e .end - e .start) ∷ []
+
+unfoldable pub rows : List EntryAt → List ℕ
+rows [] = []
+rows (e ∷ l) = row e ++ rows l
+
+abbrev pub noId : List ℕ
+noId = replicate 32 0
+
+-- ---- what each element comes to, from its start and its end
+
+abbrev pub outputEntry : ℕ → ℕ → TransferableOutput → List EntryAt
+outputEntry at end o = record { fields = E.Output (outputFields (at + 32) end (o .output)); start = at; end = end; asset = o .asset; txid = noId } ∷ []
+
+abbrev pub exportedEntry : ℕ → ℕ → TransferableOutput → List EntryAt
+exportedEntry at end o = record { fields = E.ExportedOutput (outputFields (at + 32) end (o .output)); start = at; end = end; asset = o .asset; txid = noId } ∷ []
+
+abbrev pub inputEntry : ℕ → ℕ → Input → List EntryAt
+inputEntry at end i = record { fields = E.Input (inputFields end i); start = at; end = end; asset = i .asset; txid = i .txid } ∷ []
+
+abbrev pub importedEntry : ℕ → ℕ → Input → List EntryAt
+importedEntry at end i = record { fields = E.ImportedInput (inputFields end i); start = at; end = end; asset = i .asset; txid = i .txid } ∷ []
+
+abbrev pub operationEntry : ℕ → ℕ → Operation → List EntryAt
+operationEntry at end o = record { fields = E.Operation (operationFields at end o); start = at; end = end; asset = o .asset; txid = noId } ∷ []
+
+abbrev pub stateOutputEntry : ℕ → ℕ → Output → List EntryAt
+stateOutputEntry at end o = record { fields = E.InitialStateOutput (outputFields at end o); start = at; end = end; asset = noId; txid = noId } ∷ []
+
+-- elements one behind the other from `at` on
+module _ {A : Type 0} (E : List ℕ → Format A) (entry : ℕ → ℕ → A → List EntryAt) where
+  unfoldable pub entriesFrom : List ℕ → ℕ → List A → List EntryAt
+  entriesFrom prev at [] = []
+  entriesFrom prev at (a ∷ l) =
+      entry at (at + length (E prev .write a)) a ++ entriesFrom (E prev .write a) (at + length (E prev .write a)) l
+
+-- an initial state's outputs stand behind its FxID and their count
+abbrev pub stateEntries : ℕ → ℕ → InitialState → List EntryAt
+stateEntries at end v = entriesFrom (notBelow (output (fxOutputs (v .fx)))) stateOutputEntry [] (at + 8) (v .outputs)
+
+-- a credential's signatures are the last of its bytes
+abbrev pub credentialEntry : Want → ℕ → EntryAt
+credentialEntry w at =
+    record {
+      fields = E.Credential record { «type_id» = credentialCode (w .type); «signatures_at» = at + 8; «signatures_count» = w .signatures };
+      start = at;
+      end = at + (8 + w .signatures * signatureWidth);
+      asset = noId;
+      txid = noId;
+    }
+
+unfoldable pub credentialEntries : List Want → ℕ → List EntryAt
+credentialEntries [] at = []
+credentialEntries (w ∷ ws) at = credentialEntry w at ∷ credentialEntries ws (at + (8 + w .signatures * signatureWidth))

@@ -1,0 +1,8 @@
+-- A signed transaction: slots, credentials, plans, the AVM's rows, entries, and what is certain of the reading
+pub mod Slots
+pub mod Credentials
+pub mod Signed
+pub mod Entries
+pub mod Plan
+pub mod Family
+pub mod Avm
