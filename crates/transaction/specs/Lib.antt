@@ -6,3 +6,4 @@ pub mod Entries
 pub mod Plan
 pub mod Family
 pub mod Avm
+pub mod Codec

@@ -8,8 +8,10 @@ use crate::transaction::{read, Entry, Kind, Own, Row, Transaction};
 /// What can be damaged on purpose.
 #[derive(Default)]
 struct Marks {
-    /// Place and width of numbers.
+    /// Place and width of numbers that stand in many entries.
     numbers: Vec<(usize, usize)>,
+    /// Place and width of numbers that stand once in a transaction.
+    single: Vec<(usize, usize)>,
     /// Lists of fixed-width elements, with the width.
     runs: Vec<(List, usize)>,
     /// Place and length of texts.
@@ -31,9 +33,9 @@ impl Marks {
         let Ok(transaction) = transaction else {
             return Marks::default();
         };
-        marks.numbers.extend([(0, 2), (2, 4), (transaction.credentials_at, 4)]);
-        marks.list(transaction.outputs);
-        marks.list(transaction.inputs);
+        let counts = [transaction.outputs.at - 4, transaction.inputs.at - 4];
+        marks.single.extend(counts.map(|place| (place, 4)));
+        marks.single.extend([(0, 2), (2, 4), (transaction.credentials_at, 4)]);
         marks.own(bytes, &transaction, memo_at.max(transaction.inputs.at));
         marks
     }
@@ -100,28 +102,28 @@ impl Marks {
     }
 
     fn own(&mut self, bytes: &[u8], transaction: &Transaction, memo_at: usize) {
-        self.numbers.push((memo_at, 4));
+        self.single.push((memo_at, 4));
         match transaction.own {
             Own::Base => {}
             Own::CreateAsset { name, symbol, states, .. } => {
                 let name_at = memo_at + 4 + transaction.memo.len();
                 let symbol_at = name_at + 2 + name.len();
                 let denomination_at = symbol_at + 2 + symbol.len();
-                self.numbers.extend([(name_at, 2), (symbol_at, 2), (denomination_at, 1)]);
+                self.single.extend([(name_at, 2), (symbol_at, 2), (denomination_at, 1)]);
                 self.texts.extend([(name_at + 2, name.len()), (symbol_at + 2, symbol.len())]);
                 self.states(bytes, states);
             }
             Own::Operation { operations: list }
             | Own::Import { inputs: list, .. }
-            | Own::Export { outputs: list, .. } => self.list(list),
+            | Own::Export { outputs: list, .. } => self.single.push((list.at - 4, 4)),
         }
     }
 
     fn states(&mut self, bytes: &[u8], states: List) {
-        self.list(states);
+        self.single.push((states.at - 4, 4));
         let mut cursor = Cursor::at(bytes, states.at);
         for _ in 0..states.count {
-            self.numbers.extend([(cursor.place(), 4), (cursor.place() + 4, 4)]);
+            self.single.extend([(cursor.place(), 4), (cursor.place() + 4, 4)]);
             if element::initial_state(&mut cursor, None, |_, _, _| ()).is_err() {
                 return;
             }
@@ -159,10 +161,11 @@ fn flip(random: &mut Random, bytes: &mut [u8]) {
 }
 
 fn alter_number(random: &mut Random, bytes: &mut [u8], marks: &Marks) {
-    if marks.numbers.is_empty() {
+    if marks.single.is_empty() {
         return flip(random, bytes);
     }
-    let (place, width) = random.pick(&marks.numbers);
+    let single = marks.numbers.is_empty() || random.once_in(3);
+    let (place, width) = random.pick(if single { &marks.single } else { &marks.numbers });
     let field = &mut bytes[place..place + width];
     let old = field.iter().fold(0, |number: u64, &byte| number << 8 | u64::from(byte));
     let new = match random.below(8) {

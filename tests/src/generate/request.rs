@@ -120,8 +120,8 @@ fn entry_request(random: &mut Random) -> String {
     let bytes = if random.once_in(3) { bytes(random) } else { transaction(random) };
     let n = match random.below(30) {
         0 => u32::MAX as usize,
-        1 => rows(&bytes),
-        _ => random.below(rows(&bytes) + 1),
+        1 | 2 => rows(&bytes),
+        _ => random.below(rows(&bytes).max(1)),
     };
     format!("entry {} {n}", Hex(&bytes))
 }
@@ -148,7 +148,7 @@ fn fill_request(random: &mut Random) -> String {
     let slot = match random.below(12) {
         0 => places.len(),
         1 => random.number32() as usize,
-        _ => random.below(places.len() + 1),
+        _ => random.below(places.len().max(1)),
     };
     let held = places.get(slot).map(|&place| draft[place..place + SIGNATURE].to_vec());
     let mut bytes = signature(random).to_vec();
@@ -168,7 +168,7 @@ fn copies(random: &mut Random, count: usize, conflicts: bool) -> Vec<Vec<u8>> {
     let places = places(&whole);
     let mut others = BTreeMap::new();
     for &place in &places {
-        if conflicts && random.once_in(4) {
+        if conflicts && random.once_in(2) {
             others.insert(place, signature(random));
         }
     }
