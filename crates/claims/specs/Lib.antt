@@ -1,0 +1,2 @@
+-- Everything that is claimed, in one place
+pub mod Cases
