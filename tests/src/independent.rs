@@ -140,16 +140,16 @@ impl Fields {
     }
 
     fn owners(self, owners: Owners) -> Self {
-        self.number("locktime", owners.locktime)
-            .number("threshold", owners.threshold)
-            .list("addresses_at", "addresses_count", owners.addresses)
+        self.number("locktime", owners.locktime).number("threshold", owners.threshold).list(
+            "addresses_at",
+            "addresses_count",
+            owners.addresses,
+        )
     }
 
     fn output(self, output: Output) -> Self {
         match output {
-            Output::Mint { owners } => {
-                self.number("type", element::MINT_OUTPUT).owners(owners)
-            }
+            Output::Mint { owners } => self.number("type", element::MINT_OUTPUT).owners(owners),
             Output::Transfer { amount, owners } => self
                 .number("type", element::TRANSFER_OUTPUT)
                 .number("amount", amount)
@@ -172,12 +172,14 @@ impl Fields {
             .number("group", operation.group)
             .payload(operation.payload);
         match operation.receivers {
-            Receivers::Mint(owners) => shared
-                .number("type", element::NFT_MINT_OPERATION)
-                .list("owners_at", "owners_count", owners),
-            Receivers::Transfer(owners) => shared
-                .number("type", element::NFT_TRANSFER_OPERATION)
-                .owners(owners),
+            Receivers::Mint(owners) => shared.number("type", element::NFT_MINT_OPERATION).list(
+                "owners_at",
+                "owners_count",
+                owners,
+            ),
+            Receivers::Transfer(owners) => {
+                shared.number("type", element::NFT_TRANSFER_OPERATION).owners(owners)
+            }
         }
     }
 }

@@ -222,7 +222,7 @@ pub fn unhex(text: &str) -> Option<Vec<u8>> {
         return Some(Vec::new());
     }
     let digits = text.as_bytes();
-    if digits.is_empty() || digits.len() % 2 != 0 {
+    if digits.is_empty() || !digits.len().is_multiple_of(2) {
         return None;
     }
     digits.chunks(2).map(|pair| Some(digit(pair[0])? << 4 | digit(pair[1])?)).collect()

@@ -5,8 +5,8 @@ use crate::element::{self, OutputOrder, SIGNATURE};
 use crate::encode::Encoder;
 use crate::refusal::{ensure, Number, Refusal};
 use crate::transaction::{
-    DueCredentials, Own, CREATE_ASSET, DENOMINATION_MOST, EXPORT, IMPORT, LIMIT,
-    MEMO_MOST, NAME_MOST, OPERATION, SYMBOL_MOST, TYPES,
+    DueCredentials, Own, CREATE_ASSET, DENOMINATION_MOST, EXPORT, IMPORT, LIMIT, MEMO_MOST,
+    NAME_MOST, OPERATION, SYMBOL_MOST, TYPES,
 };
 
 /// The step that is due; a list is due until it is closed.
@@ -54,7 +54,13 @@ impl Writer {
     }
 
     /// Writes the codec, the base part's head, and an output count of 0.
-    pub fn start(&mut self, buffer: &mut [u8], type_id: u32, network: u32, chain: Id) -> Written {
+    pub fn start(
+        &mut self,
+        buffer: &mut [u8],
+        type_id: u32,
+        network: u32,
+        chain: Id,
+    ) -> Written {
         self.judge_due(buffer, &[Due::Start])?;
         ensure(TYPES.contains(&type_id), Number::Type, 0)?;
         let head = Encoder::new().u16(0).u32(type_id).u32(network).raw(chain);
@@ -75,7 +81,7 @@ impl Writer {
         addresses: &[u8],
     ) -> Written {
         self.judge_due(buffer, &[Due::Outputs, Due::Exported])?;
-        ensure(addresses.len() % 20 == 0, Number::CutShort, 0)?;
+        ensure(addresses.len().is_multiple_of(20), Number::CutShort, 0)?;
         let fields = Encoder::new().raw(asset).u32(element::TRANSFER_OUTPUT).u64(amount);
         let owners = fields.u64(locktime).u32(threshold);
         let count = (addresses.len() / 20) as u32;

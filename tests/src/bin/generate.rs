@@ -8,7 +8,9 @@ use cellfacet_tests::generate::{Kind, Requests};
 fn main() -> ExitCode {
     let arguments: Vec<String> = std::env::args().skip(1).collect();
     let Some((seed, count, kinds)) = parse(&arguments) else {
-        eprintln!("usage: cellfacet-generate SEED COUNT [check entry fill merge phone write]..");
+        eprintln!(
+            "usage: cellfacet-generate SEED COUNT [check entry fill merge phone write].."
+        );
         return ExitCode::from(2);
     };
     match print(Requests::new(seed, kinds).take(count)) {

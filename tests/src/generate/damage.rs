@@ -169,6 +169,7 @@ fn alter_number(random: &mut Random, bytes: &mut [u8], marks: &Marks) {
     let field = &mut bytes[place..place + width];
     let old = field.iter().fold(0, |number: u64, &byte| number << 8 | u64::from(byte));
     let new = match random.below(8) {
+        _ if width == 1 => random.pick(&[0, 32, 33, 34, 255]),
         0 | 1 => 0,
         2 => old.wrapping_add(1),
         3 => old.wrapping_sub(1),

@@ -337,7 +337,9 @@ fn altered(random: &mut Random, step: Step) -> Step {
         Step::Symbol(_) => Step::Symbol(altered_text(random, &[0, 4, 5])),
         Step::Denomination(_) => Step::Denomination(random.pick(&[0, 32, 33, 255])),
         Step::Chain(_) => Step::Chain(random.array()),
-        Step::Close | Step::Finish => random.pick(&[Step::Close, Step::Finish].each_ref()).clone(),
+        Step::Close | Step::Finish => {
+            random.pick(&[Step::Close, Step::Finish].each_ref()).clone()
+        }
     }
 }
 

@@ -1,0 +1,131 @@
+//! The request lines and their generator.
+#![allow(missing_docs)]
+
+mod common;
+
+use std::collections::BTreeSet;
+
+use cellfacet_tests::generate::{Kind, Requests};
+use cellfacet_tests::independent::Independent;
+use cellfacet_tests::lines::{answer, call, serve, Hex};
+use common::case_a;
+
+fn asked(request: &str) -> Option<String> {
+    answer(&Independent, request)
+}
+
+#[test]
+fn lines_in_and_lines_out() {
+    let mut output = Vec::new();
+    let input = b"check - none\n\ncheck 0001 0\nfoo\ncheck - \xff\nphone-check -";
+    serve(&Independent, &input[..], &mut output).expect("no failing write");
+    let lines = "2 0\nbad request\n3 0 0 kept\nbad request\nbad request\n8589934592\n";
+    assert_eq!(String::from_utf8(output).expect("text"), lines);
+}
+
+#[test]
+fn malformed_requests() {
+    let bad = [
+        "",
+        "check",
+        "check -",
+        "check 0 none",
+        "check 0G none",
+        "check AA none",
+        "check - -1",
+        "check - +1",
+        "check - 1 ",
+        "check  - 1",
+        "check - 99999999999",
+        "entry - x",
+        "entry - 4294967296",
+        "fill - 0",
+        "merge - -",
+        "write",
+        "write 5 go",
+        "write 5 start",
+        "write 5 start:0:0:00",
+        "write 5 close:",
+        "write 5 close@6",
+        "write 5 close@",
+        "write 5 memo",
+        "write 5 denomination:256",
+        "write 5 operation:0",
+        "edition",
+    ];
+    for request in bad {
+        assert_eq!(asked(request), None, "{request}");
+    }
+}
+
+#[test]
+fn answers_show_the_whole_buffer() {
+    let a = Hex(&case_a()).to_string();
+    assert_eq!(asked(&format!("merge {a} {a} 394")), Some(format!("0 392 {a}a5a5")));
+    assert_eq!(asked(&format!("merge {a} {a} 2")), Some("14 0 a5a5".into()));
+    assert_eq!(asked(&format!("merge {a} {a} 0")), Some("14 0 -".into()));
+    assert_eq!(asked(&format!("phone-merge {a} {a} 393")), Some(format!("392 {a}a5")));
+    assert_eq!(asked(&format!("fill {a} 9 -")), Some(format!("15 0 {a}")));
+    assert_eq!(asked("fill - 0 -"), Some("17 0 -".into()));
+    assert_eq!(asked("write 3"), Some("a5a5a5".into()));
+    assert_eq!(asked("write 0 close"), Some("16 0 -".into()));
+    assert_eq!(asked(&format!("check {a} 8")), Some("14 0 0 kept".into()));
+}
+
+#[test]
+fn steps_are_shown_as_they_are_read() {
+    let id = "ab".repeat(32);
+    let steps = [
+        format!("start@7:4:1:{id}"),
+        format!("output:{id}:1:2:3:{}", "cd".repeat(20)),
+        format!("input@0:{id}:1:{id}:2:3,4"),
+        format!("input:{id}:1:{id}:2:-"),
+        "close@12".into(),
+        "memo:-".into(),
+        "denomination:9".into(),
+        format!("chain:{id}"),
+        "finish".into(),
+    ];
+    for step in steps {
+        assert_eq!(call(&step).expect("a step").to_string(), step);
+    }
+}
+
+#[test]
+fn the_same_seed_gives_the_same_requests() {
+    let kinds = || Kind::ALL.map(|(_, kind)| kind).to_vec();
+    let first: Vec<String> = Requests::new(1, kinds()).take(300).collect();
+    let again: Vec<String> = Requests::new(1, kinds()).take(300).collect();
+    let other: Vec<String> = Requests::new(2, kinds()).take(300).collect();
+    assert_eq!(first, again);
+    assert_ne!(first, other);
+}
+
+/// The first numbers of the answers to random requests of one kind.
+fn numbers(kind: Kind, count: usize) -> BTreeSet<u32> {
+    let answers = Requests::new(4, vec![kind]).take(count).map(|request| {
+        let answer = asked(&request).expect("a request");
+        answer.split(' ').next().and_then(|number| number.parse().ok()).expect("a number")
+    });
+    answers.collect()
+}
+
+#[test]
+fn random_requests_meet_every_number() {
+    assert_eq!(numbers(Kind::Check, 8000), (0..=14).collect());
+    assert!(numbers(Kind::Entry, 3000).contains(&15));
+    assert_eq!(numbers(Kind::Fill, 1000), [0, 15, 17, 20, 21].into());
+    assert_eq!(numbers(Kind::Merge, 1000), [0, 14, 17, 18, 19, 20].into());
+}
+
+#[test]
+fn random_writes_meet_every_number() {
+    let mut met = BTreeSet::new();
+    for request in Requests::new(6, vec![Kind::Write]).take(5000) {
+        let answer = asked(&request).expect("a request");
+        let words: Vec<&str> = answer.split(' ').collect();
+        met.extend(words.chunks_exact(2).map(|pair| pair[0].to_string()));
+    }
+    let numbers = [0, 2, 4, 5, 6, 7, 8, 9, 10, 11, 13, 14, 16];
+    assert_eq!(met, numbers.map(|number: u32| number.to_string()).into());
+}
