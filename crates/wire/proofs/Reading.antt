@@ -235,8 +235,9 @@ module _ (k : ℕ) (s : List ℕ) (at : ℕ) where
   pub whole-part : (v : List ℕ) (n : ℕ) → read (blob k) s at ≡ took v n → wholeAt k s at ≡ v
   whole-part v n = run-took (blob k) s at (λ e. replicate k 0) (λ b n. b) v n
 
-  pub whole-next : (x : Part) (n : ℕ) → x ≡ ended (blob k) s at → x ≡ P.Next n → wholeAt k s at ≡ part at n s
-  whole-next x n p q = whole-part (part at n s) n (part-took k s at x n p q)
+  -- what was handed over, y, is the part
+  pub whole-next : (y : List ℕ) (x : Part) (n : ℕ) → y ≡ wholeAt k s at → x ≡ ended (blob k) s at → x ≡ P.Next n → y ≡ part at n s
+  whole-next y x n w p q = w ∙ whole-part (part at n s) n (part-took k s at x n p q)
 
   pub whole-length : length (wholeAt k s at) ≡ k
   unfolding blob blobRun

@@ -1,7 +1,6 @@
--- `wire::between` meets its contract.
--- Assumes nothing.
-use Rattle.wire.proofs.Bytes.{part-out, part-none, part-over}
+-- `wire::between` meets its contract. Assumes nothing.
 use borrow.Author.Needs.{needs}
+use Rattle.wire.proofs.Bytes.{part-out, part-none, part-over}
 use Rattle.wire.proofs.between.Statement.{statement}
 use Rattle.wire.proofs.between.Tie as tie
 
