@@ -1,6 +1,14 @@
-// Fields of a byte string at a place: a part of some width, a big-endian number, an identifier or an address handed over whole.
+// Fields of a byte string at a place: a part of some width, a big-endian number, an identifier or an address handed over whole; the order of byte
+// strings; numbers and bytes put into a buffer.
 ghost use mathlib.Core.Path.{_≡_};
+ghost use Prim.Native.Nat.{_-_, _%_, _^_, _≤_};
+ghost use mathlib.Core.List.{_++_};
+ghost use lib.ListN.{length, take, drop};
+ghost use Rattle.wire.specs.Bytes.{part, value, digits, below};
 ghost use Rattle.wire.specs.Numbers.{cutAt};
+ghost use Rattle.wire.specs.Fields.{blob, number};
+ghost use Rattle.wire.specs.Order.{order, keyBelow};
+ghost use Rattle.wire.specs.Answer.{ended, valued, wholeAt};
 
 pub mod numbers;
 
@@ -36,5 +44,206 @@ pub fn cut(s: &[u8], at: usize, width: usize) -> Refusal
     Refusal {
         number: numbers::CUT_SHORT,
         place: at,
+    }
+}
+
+// How many bytes there are from at on. A place past the end has none.
+fn ahead(s: &[u8], at: usize) -> usize
+    ensures { λ r. ⌜ r ≡ length (now (s .entry)) - at ⌝ }
+{
+    if s.len() < at {
+        return 0;
+    }
+    s.len() - at
+}
+
+pub fn part_at(s: &[u8], at: usize, width: usize) -> Part
+    ensures { λ r. ⌜ r ≡ ended (blob width) (now (s .entry)) at ⌝ }
+{
+    if ahead(s, at) < width {
+        return Part::Refused(cut(s, at, width));
+    }
+    Part::Next(at + width)
+}
+
+// The number that width bytes make, all of which are there.
+fn value_at(s: &[u8], at: usize, width: usize) -> u64
+    requires { ⌜ (width ≤ 8) × (width ≤ length (now s) - at) ⌝ }
+    ensures { λ r. ⌜ r ≡ value (take width (drop at (now (s .entry)))) ⌝ }
+{
+    let mut v: u64 = 0;
+    let mut i: usize = 0;
+    while i < width {
+        let byte = s[at + i] as u64;
+        v = v * 256 + byte;
+        i += 1;
+    }
+    v
+}
+
+// A number of any width that a u64 holds.
+fn number_at(s: &[u8], at: usize, width: usize) -> Number
+    requires { ⌜ width ≤ 8 ⌝ }
+    ensures { λ r. ⌜ r ≡ valued (number width) (now (s .entry)) at ⌝ }
+{
+    if ahead(s, at) < width {
+        return Number::Refused(cut(s, at, width));
+    }
+    Number::Value(value_at(s, at, width), at + width)
+}
+
+pub fn u8_at(s: &[u8], at: usize) -> Number
+    ensures { λ r. ⌜ r ≡ valued (number 1) (now (s .entry)) at ⌝ }
+{
+    number_at(s, at, 1)
+}
+
+pub fn u16_at(s: &[u8], at: usize) -> Number
+    ensures { λ r. ⌜ r ≡ valued (number 2) (now (s .entry)) at ⌝ }
+{
+    number_at(s, at, 2)
+}
+
+pub fn u32_at(s: &[u8], at: usize) -> Number
+    ensures { λ r. ⌜ r ≡ valued (number 4) (now (s .entry)) at ⌝ }
+{
+    number_at(s, at, 4)
+}
+
+pub fn u64_at(s: &[u8], at: usize) -> Number
+    ensures { λ r. ⌜ r ≡ valued (number 8) (now (s .entry)) at ⌝ }
+{
+    number_at(s, at, 8)
+}
+
+// The bytes from a up to e, as far as they are there.
+pub fn between(s: &[u8], a: usize, e: usize) -> &[u8]
+    ensures { λ r. ⌜ now r ≡ part a e (now (s .entry)) ⌝ }
+{
+    if s.len() < a {
+        return &s[..0];
+    }
+    if e < a {
+        return &s[..0];
+    }
+    if s.len() < e {
+        return &s[a..];
+    }
+    &s[a..e]
+}
+
+// Copies as many bytes as both have.
+pub fn put_bytes(room: &mut [u8], from: &[u8])
+    ensures { λ _. ⌜ now (room .exit) ≡ take (length (now (room .entry))) (now (from .entry)) ++ drop (length (now (from .entry))) (now (room .entry)) ⌝ }
+{
+    if from.len() <= room.len() {
+        bytes::copy(from, room);
+        return;
+    }
+    bytes::copy(&from[..room.len()], room);
+}
+
+// Fills room with the bytes from at, and leaves it where they are not all there.
+fn put_part(room: &mut [u8], s: &[u8], at: usize)
+    ensures { λ _. ⌜ now (room .exit) ≡ blob (length (now (room .entry))) .run (now (s .entry)) at (λ e. now (room .entry)) (λ b n. b) ⌝ }
+{
+    if ahead(s, at) < room.len() {
+        return;
+    }
+    put_bytes(room, between(s, at, s.len()));
+}
+
+// The 32 bytes of an identifier, or zeros where they are not all there.
+pub fn id_at(s: &[u8], at: usize) -> [u8; 32]
+    ensures { λ r. ⌜ r ≡ wholeAt 32 (now (s .entry)) at ⌝ }
+{
+    let mut id = [0u8; 32];
+    put_part(&mut id, s, at);
+    id
+}
+
+// The 20 bytes of an address, or zeros where they are not all there.
+pub fn address_at(s: &[u8], at: usize) -> [u8; 20]
+    ensures { λ r. ⌜ r ≡ wholeAt 20 (now (s .entry)) at ⌝ }
+{
+    let mut address = [0u8; 20];
+    put_part(&mut address, s, at);
+    address
+}
+
+// Every comparison goes through this one loop.
+pub fn order_of(a: &[u8], b: &[u8]) -> Order
+    ensures { λ r. ⌜ r ≡ order (now (a .entry)) (now (b .entry)) ⌝ }
+{
+    let mut i: usize = 0;
+    while i < a.len() {
+        if b.len() <= i {
+            return Order::Above;
+        }
+        if a[i] < b[i] {
+            return Order::Below;
+        }
+        if b[i] < a[i] {
+            return Order::Above;
+        }
+        i += 1;
+    }
+    if i < b.len() {
+        return Order::Below;
+    }
+    Order::Equal
+}
+
+// Is a strictly below b?
+pub fn is_below(a: &[u8], b: &[u8]) -> bool
+    ensures { λ r. ⌜ r ≡ below (now (a .entry)) (now (b .entry)) ⌝ }
+{
+    match order_of(a, b) {
+        Order::Below => true,
+        Order::Equal => false,
+        Order::Above => false,
+    }
+}
+
+// Are the bytes from a up to b strictly below those from c up to d?
+pub fn parts_below(s: &[u8], a: usize, b: usize, c: usize, d: usize) -> bool
+    ensures { λ r. ⌜ r ≡ below (part a b (now (s .entry))) (part c d (now (s .entry))) ⌝ }
+{
+    is_below(between(s, a, b), between(s, c, d))
+}
+
+pub fn id_order(a: [u8; 32], b: [u8; 32]) -> Order
+    ensures { λ r. ⌜ r ≡ order a b ⌝ }
+{
+    order_of(&a, &b)
+}
+
+pub fn address_below(a: [u8; 20], b: [u8; 20]) -> bool
+    ensures { λ r. ⌜ r ≡ below a b ⌝ }
+{
+    is_below(&a, &b)
+}
+
+// By identifier, then by index.
+pub fn key_below(a: [u8; 32], i: u64, b: [u8; 32], j: u64) -> bool
+    ensures { λ r. ⌜ r ≡ keyBelow a i b j ⌝ }
+{
+    match id_order(a, b) {
+        Order::Below => true,
+        Order::Equal => i < j,
+        Order::Above => false,
+    }
+}
+
+// Fills room with the lowest bytes of value, the highest of them first.
+pub fn put_number(room: &mut [u8], value: u64)
+    ensures { λ _. ⌜ now (room .exit) ≡ digits (length (now (room .entry))) (value % 256 ^ length (now (room .entry))) ⌝ }
+{
+    let mut i = room.len();
+    let mut v = value;
+    while 0 < i {
+        i -= 1;
+        room[i] = (v % 256) as u8;
+        v = v / 256;
     }
 }

@@ -1,0 +1,324 @@
+-- A format's reading, where it is known what the code found: each law goes one step into it, and the rulesets have them all, so that `search`
+-- walks the reading along what the calls ensure and what the code's tests found, with no path into its context. The conclusion of each law is
+-- the whole goal of a `return`, z ≡ (the reading), for any answer z; its premises are what a call ensures, what the match on its answer found,
+-- and the rest of the walk. The format, s and at are read off the goal; the answer x and its fields, off the context.
+-- Assumes nothing.
+use Prim.Native.Nat.{ℕ, zero, suc, _+_, _-_, _*_, _≤_, _<_}
+use mathlib.Core.Path.{_≡_, refl, sym, ap, _∙_, subst}
+use mathlib.Core.List.{List, [], _∷_}
+use mathlib.Core.Bool.{Bool, true, false, not}
+use native.Mathlib.Omega.{arith}
+use native.Mathlib.Numerals.{sub-one}
+use native.Mathlib.Nat.{not-suc-le-zero, mul-zero, mul-suc, add-comm}
+use lib.ListN.{length, take, drop, replicate, length-append, length-drop, length-replicate}
+use lib.Seq.{length-take-le}
+use lib.Dec.{ltb, leb, eqb}
+use borrow.Author.Tests.{lt-ltb, le-ltb, le-leb, lt-leb, leb-true, eq-eqb, ne-eqb}
+use Rattle.wire.specs.declared.Refusal.{Refusal}
+use Rattle.wire.specs.declared.Part.{Part}
+use Rattle.wire.specs.declared.Part.the-variants as P
+use Rattle.wire.specs.declared.Number.{Number}
+use Rattle.wire.specs.declared.Number.the-variants as N
+use Rattle.wire.specs.Bytes.{value, digits, digits-value, length-digits, pick, part, below}
+use Rattle.wire.specs.Numbers.{outOfOrder, by, cutAt}
+use Rattle.wire.specs.Format.{Format, Result, took, refused, onResult, read, refused-took, took-refused, run-alike-read, Stands, stands-part, stands-append}
+use Rattle.wire.specs.Fields.{blob, blobRun, number}
+use Rattle.wire.specs.Sequence.{guard}
+use Rattle.wire.specs.Series.{listRun, listWrite, Chain, items, left, above, increasing}
+use Rattle.wire.specs.Answer.{ended, valued, wholeAt}
+use Rattle.wire.proofs.Bytes.{found, Slice, slice-bytes}
+
+-- ---- what an answer says of the reading: for an answer of this crate, what its two cases say. A crate with answers of its own does the same
+
+module _ {A R : Type 0} (F : Format A) (s : List ℕ) (at : ℕ) (stop : Refusal → R) (go : A → ℕ → R) where
+  -- the reading took v, up to n
+  pub run-took : (v : A) (n : ℕ) → read F s at ≡ took v n → F .run s at stop go ≡ go v n
+  run-took v n q = F .same s at stop go ∙ ap (λ o. onResult o stop go) q
+
+  pub run-refused : (e : Refusal) → read F s at ≡ refused e → F .run s at stop go ≡ stop e
+  run-refused e q = F .same s at stop go ∙ ap (λ o. onResult o stop go) q
+
+pub part-next-inv : {A : Type 0} (o : Result A) (n : ℕ) → onResult o P.Refused (λ v m. P.Next m) ≡ P.Next n → (v : A) × (o ≡ took v n)
+part-next-inv (took v m) n q = (v, ap (λ k. took v k) cc)
+part-next-inv (refused e) n q = let z : _≡_ {A = ℕ} 0 1 = cc in absurd (omega arith)
+
+pub part-refused-inv : {A : Type 0} (o : Result A) (e : Refusal) → onResult o P.Refused (λ v m. P.Next m) ≡ P.Refused e → o ≡ refused e
+part-refused-inv (took v m) e q = let z : _≡_ {A = ℕ} 0 1 = cc in absurd (omega arith)
+part-refused-inv (refused d) e q = ap refused cc
+
+pub number-value-inv : (o : Result ℕ) (v n : ℕ) → onResult o N.Refused N.Value ≡ N.Value v n → o ≡ took v n
+number-value-inv (took w m) v n q = let a : w ≡ v = cc in let b : m ≡ n = cc in rw (a, b)
+number-value-inv (refused e) v n q = let z : _≡_ {A = ℕ} 0 1 = cc in absurd (omega arith)
+
+pub number-refused-inv : (o : Result ℕ) (e : Refusal) → onResult o N.Refused N.Value ≡ N.Refused e → o ≡ refused e
+number-refused-inv (took v m) e q = let z : _≡_ {A = ℕ} 0 1 = cc in absurd (omega arith)
+number-refused-inv (refused d) e q = ap refused cc
+
+-- ---- the leaves, where the code has compared the room, r, itself
+
+module _ {R : Type 0} (k : ℕ) (s : List ℕ) (at : ℕ) (z : R) (stop : Refusal → R) (r : ℕ) where
+  pub blob-there : (go : List ℕ → ℕ → R) → r ≡ length s - at → k ≤ r → z ≡ go (take k (drop at s)) (at + k) → z ≡ blob k .run s at stop go
+  unfolding blob blobRun
+  blob-there go p h e = rw (le-leb k (length s - at) (rw p at h)) e
+
+  pub blob-cut : (go : List ℕ → ℕ → R) → r ≡ length s - at → r < k → (f : Refusal) → f ≡ cutAt k s at → z ≡ stop f → z ≡ blob k .run s at stop go
+  unfolding blob blobRun
+  blob-cut go p h f g e = rw (lt-leb k (length s - at) (rw p at h)) (e ∙ ap stop g)
+
+  pub number-there : (go : ℕ → ℕ → R) (v : ℕ) → r ≡ length s - at → k ≤ r → v ≡ value (take k (drop at s)) → z ≡ go v (at + k) → z ≡ number k .run s at stop go
+  unfolding number
+  number-there go v p h q e = blob-there (λ b m. go (value b) m) p h (e ∙ ap (λ u. go u (at + k)) q)
+
+  pub number-cut : (go : ℕ → ℕ → R) → r ≡ length s - at → r < k → (f : Refusal) → f ≡ cutAt k s at → z ≡ stop f → z ≡ number k .run s at stop go
+  unfolding number
+  number-cut go p h f g e = blob-cut (λ b m. go (value b) m) p h f g e
+
+pub ruleset leaf = (blob-there, blob-cut, number-there, number-cut)
+
+-- ---- a call's answer: what it ensures, what the match found, and the reading goes on from there
+
+-- a leaf has one refusal
+pub blob-stops : (k : ℕ) (s : List ℕ) (at : ℕ) (e : Refusal) → read (blob k) s at ≡ refused e → e ≡ cutAt k s at
+unfolding blob blobRun
+blob-stops k s at e = cases (leb k (length s - at))
+  where
+    cases : (b : Bool) → pick b (took (take k (drop at s)) (at + k)) (refused (cutAt k s at)) ≡ refused e → e ≡ cutAt k s at
+    cases true q = took-refused (take k (drop at s)) (at + k) e q
+    cases false q = cc
+
+-- what is taken is the part
+pub blob-part : (k : ℕ) (s : List ℕ) (at : ℕ) (v : List ℕ) (n : ℕ) → read (blob k) s at ≡ took v n → v ≡ part at n s
+unfolding blob blobRun
+blob-part k s at v n = cases (leb k (length s - at))
+  where
+    cases : (b : Bool) → pick b (took (take k (drop at s)) (at + k)) (refused (cutAt k s at)) ≡ took v n → v ≡ part at n s
+    cases true q = let e : at + k ≡ n = cc in let d : n - at ≡ k = omega arith in let f : take k (drop at s) ≡ v = cc in sym f ∙ ap (λ i. take i (drop at s)) (sym d)
+    cases false q = refused-took (cutAt k s at) v n q
+
+pub number-stops : (k : ℕ) (s : List ℕ) (at : ℕ) (e : Refusal) → read (number k) s at ≡ refused e → e ≡ cutAt k s at
+unfolding number
+number-stops k s at e q = blob-stops k s at e (cases (read (blob k) s at) (sym (blob k .same s at refused (λ b m. took (value b) m)) ∙ q))
+  where
+    cases : (o : Result (List ℕ)) → onResult o refused (λ b m. took (value b) m) ≡ refused e → o ≡ refused e
+    cases (took b m) q = took-refused (value b) m e q
+    cases (refused d) q = ap refused cc
+
+module _ {A : Type 0} (F : Format A) (s : List ℕ) (at : ℕ) (x : Part) where
+  pub next-took : (n : ℕ) → x ≡ ended F s at → x ≡ P.Next n → (v : A) × (read F s at ≡ took v n)
+  next-took n p q = part-next-inv (read F s at) n (sym (F .same s at P.Refused (λ v n. P.Next n)) ∙ found p q)
+
+  pub next-refused : (e : Refusal) → x ≡ ended F s at → x ≡ P.Refused e → read F s at ≡ refused e
+  next-refused e p q = part-refused-inv (read F s at) e (sym (F .same s at P.Refused (λ v n. P.Next n)) ∙ found p q)
+
+-- Any format that a function ends as a Part: a crate states these two for a format of its own by name. (Stated for any F, they would fit every
+-- reading, and `search` would try them everywhere)
+module _ {A : Type 0} (F : Format A) where
+  abbrev pub Ends : Type 1
+  Ends = (R : Type 0) (s : List ℕ) (at : ℕ) (z : R) (stop : Refusal → R) (go : A → ℕ → R) (x : Part) (n : ℕ) → x ≡ ended F s at → x ≡ P.Next n
+      → ((v : A) → z ≡ go v n) → z ≡ F .run s at stop go
+
+  abbrev pub Stops : Type 1
+  Stops = (R : Type 0) (s : List ℕ) (at : ℕ) (z : R) (stop : Refusal → R) (go : A → ℕ → R) (x : Part) (e : Refusal) → x ≡ ended F s at → x ≡ P.Refused e
+      → z ≡ stop e → z ≡ F .run s at stop go
+
+  pub ends : Ends
+  ends R s at z stop go x n p q e = let (v, t) = next-took F s at x n p q in e v ∙ sym (run-took F s at stop go v n t)
+
+  pub stops : Stops
+  stops R s at z stop go x e p q r = r ∙ sym (run-refused F s at stop go e (next-refused F s at x e p q))
+
+-- a list: of its elements none is in hand
+module _ {A S R : Type 0} (E : S → Format A) (step : S → A → S) (st : S) (c : ℕ) (s : List ℕ) (at : ℕ) (z : R) (stop : Refusal → R) (go : List A → ℕ → R) (x : Part) where
+  pub on-list : (n : ℕ) → x ≡ ended (items E step st c) s at → x ≡ P.Next n → ((l : List A) → z ≡ go l n) → z ≡ items E step st c .run s at stop go
+  on-list = ends (items E step st c) R s at z stop go x
+
+  pub on-list-refused : (e : Refusal) → x ≡ ended (items E step st c) s at → x ≡ P.Refused e → z ≡ stop e → z ≡ items E step st c .run s at stop go
+  on-list-refused = stops (items E step st c) R s at z stop go x
+
+-- A list of elements of one width that was read: how many they are, and where they begin
+module _ {A : Type 0} (F : Format A) (k : ℕ) (wide : (a : A) → F .Good a → length (F .write a) ≡ k) where
+  wide-chain : (prev : List ℕ) (l : List A) → Chain (above F) (left (above F)) prev l → length (listWrite (above F) (left (above F)) prev l) ≡ k * length l
+  unfolding listWrite guard
+  wide-chain prev [] h = rw mul-zero
+  wide-chain prev (a ∷ l) h =
+      rw (length-append (F .write a) (listWrite (above F) (left (above F)) (F .write a) l), wide a (h .0 .0), wide-chain (F .write a) l (h .1), mul-suc) (add-comm k (k * length l))
+
+  pub wide-list : (c : ℕ) (s : List ℕ) (at n : ℕ) → Slice s → (x : Part) → x ≡ ended (increasing F c) s at → x ≡ P.Next n
+      → (l : List A) × (c ≡ length l) × (at ≡ n - k * length l) × (read (increasing F c) s at ≡ took l n)
+  unfolding items
+  wide-list c s at n b x p q =
+      let (l, t) = next-took (increasing F c) s at x n p q in
+      let (g, h) = increasing F c .sound s at l n (slice-bytes s b) t in
+      (l, sym (g .0), omega (arith, h .ends, wide-chain [] l (g .1)), t)
+
+blob-wide : (k : ℕ) (b : List ℕ) → blob k .Good b → length (blob k .write b) ≡ k
+unfolding blob
+blob-wide k b h = h .0
+
+number-wide : (k v : ℕ) → number k .Good v → length (number k .write v) ≡ k
+unfolding number
+number-wide k v h = length-digits k v
+
+-- numbers are in order as their bytes are
+pub numbers-turn : (k n : ℕ) (prev s : List ℕ) (at : ℕ) → Slice s
+    → ended (items (above (number k)) (left (above (number k))) prev n) s at ≡ ended (items (above (blob k)) (left (above (blob k))) prev n) s at
+unfolding items listRun guard number
+numbers-turn k zero prev s at b = refl
+numbers-turn k (suc n) prev s at b =
+    run-alike-read (blob k) s at P.Refused _ _ (λ w m q.
+    let g = blob k .sound s at w m (slice-bytes s b) q .0 in
+    let e : digits k (value w) ≡ w = subst (λ (j : ℕ). digits j (value w) ≡ w) (g .0) (digits-value w (g .1)) in
+    rw e (ap (λ (r : Part). pick (below prev w) r (P.Refused (by outOfOrder at))) (numbers-turn k n w s m b)))
+
+module _ {R : Type 0} (k c : ℕ) (s : List ℕ) (at : ℕ) (z : R) (stop : Refusal → R) (x : Part) where
+  pub on-parts : (go : List (List ℕ) → ℕ → R) (n : ℕ) → x ≡ ended (increasing (blob k) c) s at → x ≡ P.Next n → Slice s
+      → ((l : List (List ℕ)) → c ≡ length l → at ≡ n - k * length l → z ≡ go l n) → z ≡ increasing (blob k) c .run s at stop go
+  on-parts go n p q b e =
+      let (l, h, i, t) = wide-list (blob k) k (blob-wide k) c s at n b x p q in
+      e l h i ∙ sym (run-took (increasing (blob k) c) s at stop go l n t)
+
+  -- of numbers, the code looks at the bytes alone
+  pub on-numbers : (go : List ℕ → ℕ → R) (n : ℕ) → x ≡ ended (increasing (blob k) c) s at → x ≡ P.Next n → Slice s
+      → ((l : List ℕ) → c ≡ length l → at ≡ n - k * length l → z ≡ go l n) → z ≡ increasing (number k) c .run s at stop go
+  on-numbers go n p q b e =
+      let (l, h, i, t) = wide-list (number k) k (number-wide k) c s at n b x (p ∙ sym (numbers-turn k c [] s at b)) q in
+      e l h i ∙ sym (run-took (increasing (number k) c) s at stop go l n t)
+
+  pub on-numbers-refused : (go : List ℕ → ℕ → R) (e : Refusal) → x ≡ ended (increasing (blob k) c) s at → x ≡ P.Refused e → Slice s
+      → z ≡ stop e → z ≡ increasing (number k) c .run s at stop go
+  on-numbers-refused go e p q b r = stops (increasing (number k) c) R s at z stop go x e (p ∙ sym (numbers-turn k c [] s at b)) q r
+
+-- a part: its bytes are those of s
+part-took : (k : ℕ) (s : List ℕ) (at : ℕ) (x : Part) (n : ℕ) → x ≡ ended (blob k) s at → x ≡ P.Next n → read (blob k) s at ≡ took (part at n s) n
+part-took k s at x n p q = let (v, t) = next-took (blob k) s at x n p q in t ∙ ap (λ b. took b n) (blob-part k s at v n t)
+
+value-took : (k : ℕ) (s : List ℕ) (at : ℕ) (x : Number) (v n : ℕ) → x ≡ valued (number k) s at → x ≡ N.Value v n → read (number k) s at ≡ took v n
+value-took k s at x v n p q = number-value-inv (read (number k) s at) v n (sym (number k .same s at N.Refused N.Value) ∙ found p q)
+
+module _ {R : Type 0} (k : ℕ) (s : List ℕ) (at : ℕ) (z : R) (stop : Refusal → R) where
+  module _ (go : List ℕ → ℕ → R) (x : Part) where
+    pub on-part : (n : ℕ) → x ≡ ended (blob k) s at → x ≡ P.Next n → z ≡ go (part at n s) n → z ≡ blob k .run s at stop go
+    on-part n p q e = e ∙ sym (run-took (blob k) s at stop go (part at n s) n (part-took k s at x n p q))
+
+    -- the same, for a need that asks where it stands
+    pub on-part-there : (n : ℕ) → x ≡ ended (blob k) s at → x ≡ P.Next n → Slice s → (Stands s at (blob k .write (part at n s)) n → z ≡ go (part at n s) n)
+        → z ≡ blob k .run s at stop go
+    on-part-there n p q b e = on-part n p q (e (blob k .sound s at (part at n s) n (slice-bytes s b) (part-took k s at x n p q) .1))
+
+    -- its own refusal, handed up
+    pub on-part-refused : (e : Refusal) → x ≡ ended (blob k) s at → x ≡ P.Refused e → z ≡ stop e → z ≡ blob k .run s at stop go
+    on-part-refused = stops (blob k) R s at z stop go x
+
+    -- a refusal f that the code has made by a call
+    pub on-cut : (e : Refusal) → x ≡ ended (blob k) s at → x ≡ P.Refused e → (f : Refusal) → f ≡ cutAt k s at → z ≡ stop f → z ≡ blob k .run s at stop go
+    on-cut e p q f g r =
+        let o = next-refused (blob k) s at x e p q in
+        on-part-refused e p q (r ∙ ap stop (g ∙ sym (blob-stops k s at e o)))
+
+  module _ (go : ℕ → ℕ → R) (x : Number) where
+    pub on-value : (v n : ℕ) → x ≡ valued (number k) s at → x ≡ N.Value v n → z ≡ go v n → z ≡ number k .run s at stop go
+    on-value v n p q e = e ∙ sym (run-took (number k) s at stop go v n (value-took k s at x v n p q))
+
+    -- the same, for a need that asks where the number stands
+    pub on-value-there : (v n : ℕ) → x ≡ valued (number k) s at → x ≡ N.Value v n → Slice s → (Stands s at (number k .write v) n → z ≡ go v n) → z ≡ number k .run s at stop go
+    on-value-there v n p q b e = on-value v n p q (e (number k .sound s at v n (slice-bytes s b) (value-took k s at x v n p q) .1))
+
+    pub on-short : (e : Refusal) → x ≡ valued (number k) s at → x ≡ N.Refused e → (f : Refusal) → f ≡ cutAt k s at → z ≡ stop f → z ≡ number k .run s at stop go
+    on-short e p q f g r =
+        let o = number-refused-inv (read (number k) s at) e (sym (number k .same s at N.Refused N.Value) ∙ found p q) in
+        r ∙ ap stop (g ∙ sym (number-stops k s at e o)) ∙ sym (run-refused (number k) s at stop go e o)
+
+-- ---- bytes handed over by value
+
+module _ (k : ℕ) (s : List ℕ) (at : ℕ) where
+  -- what is there is handed over
+  pub whole-part : (v : List ℕ) (n : ℕ) → read (blob k) s at ≡ took v n → wholeAt k s at ≡ v
+  whole-part v n = run-took (blob k) s at (λ e. replicate k 0) (λ b n. b) v n
+
+  -- what was handed over, y, is the part
+  pub whole-next : (y : List ℕ) (x : Part) (n : ℕ) → y ≡ wholeAt k s at → x ≡ ended (blob k) s at → x ≡ P.Next n → y ≡ part at n s
+  whole-next y x n w p q = w ∙ whole-part (part at n s) n (part-took k s at x n p q)
+
+  pub whole-length : length (wholeAt k s at) ≡ k
+  unfolding blob blobRun
+  whole-length = cases (leb k (length s - at)) refl
+    where
+      cases : (b : Bool) → leb k (length s - at) ≡ b → length (pick b (take k (drop at s)) (replicate k 0)) ≡ k
+      cases true h = length-take-le k (drop at s) (rw length-drop (leb-true k (length s - at) h))
+      cases false h = length-replicate k 0
+
+-- ---- a test: what the code found by a comparison, or by a call that answers with a bool
+
+module _ {R : Type 0} where
+  pub if-lt : (a b : ℕ) (z x y : R) → a < b → z ≡ x → z ≡ pick (ltb a b) x y
+  if-lt a b z x y h e = rw (lt-ltb a b h) e
+
+  pub if-not-lt : (a b : ℕ) (z x y : R) → b ≤ a → z ≡ y → z ≡ pick (ltb a b) x y
+  if-not-lt a b z x y h e = rw (le-ltb a b h) e
+
+  pub if-le : (a b : ℕ) (z x y : R) → a ≤ b → z ≡ x → z ≡ pick (leb a b) x y
+  if-le a b z x y h e = rw (le-leb a b h) e
+
+  pub if-not-le : (a b : ℕ) (z x y : R) → b < a → z ≡ y → z ≡ pick (leb a b) x y
+  if-not-le a b z x y h e = rw (lt-leb a b h) e
+
+  pub if-eq : (a b : ℕ) (z x y : R) → a ≡ b → z ≡ x → z ≡ pick (eqb a b) x y
+  if-eq a b z x y h e = rw (eq-eqb a b h) e
+
+  pub if-ne : (a b : ℕ) (z x y : R) → (a ≡ b → ⊥) → z ≡ y → z ≡ pick (eqb a b) x y
+  if-ne a b z x y h e = rw (ne-eqb a b h) e
+
+  -- an amount that may not be 0
+  pub if-zero : (n : ℕ) (z x y : R) → n ≡ 0 → z ≡ y → z ≡ pick (ltb 0 n) x y
+  if-zero n z x y h e = if-not-lt 0 n z x y (omega arith) e
+
+  pub if-some : (n : ℕ) (z x y : R) → (n ≡ 0 → ⊥) → z ≡ x → z ≡ pick (ltb 0 n) x y
+  if-some n z x y h e = if-lt 0 n z x y (omega arith) e
+
+  -- the code compares elements where they stand; the format, their writings
+  module _ (p q at n : ℕ) (s w : List ℕ) (t : Bool) (z x y : R) (h : Stands s at w n) where
+    pub if-above : t ≡ below (part p q s) (part at n s) → t ≡ true → z ≡ x → z ≡ pick (below (part p q s) w) x y
+    if-above i j e = rw (stands-part s at w n h, found i j) e
+
+    pub if-not-above : t ≡ below (part p q s) (part at n s) → t ≡ false → z ≡ y → z ≡ pick (below (part p q s) w) x y
+    if-not-above i j e = rw (stands-part s at w n h, found i j) e
+
+    pub if-below : t ≡ below (part at n s) (part p q s) → t ≡ true → z ≡ y → z ≡ pick (not (below w (part p q s))) x y
+    if-below i j e = rw (stands-part s at w n h, found i j) e
+
+    pub if-not-below : t ≡ below (part at n s) (part p q s) → t ≡ false → z ≡ x → z ≡ pick (not (below w (part p q s))) x y
+    if-not-below i j e = rw (stands-part s at w n h, found i j) e
+
+pub ruleset tests = (if-lt, if-not-lt, if-le, if-not-le, if-eq, if-ne, if-zero, if-some)
+
+-- a let-else chain up to a refusal
+pub ruleset reading = (on-value, on-short, on-part, on-cut, on-part-refused, on-list, on-list-refused, on-numbers-refused, tests)
+
+-- a let-else chain that went through to its end: every field was there
+pub ruleset wholly = (on-value, on-part, on-parts, on-numbers, tests)
+
+-- ---- a loop: the code counts down, the format goes by `suc`. The invariant is that the rest of the reading is the whole reading, y
+
+module _ {A S R : Type 0} (E : S → Format A) (step : S → A → S) (s : List ℕ) (at : ℕ) (stop : Refusal → R) (go : List A → ℕ → R) where
+  pub list-on : (st : S) (n : ℕ) (z y : R) → items E step st n .run s at stop go ≡ y → 0 < n
+      → z ≡ E st .run s at stop (λ a m. items E step (step st a) (n - 1) .run s m stop (λ l k. go (a ∷ l) k)) → z ≡ y
+  unfolding items listRun
+  list-on st zero z y i h e = absurd (not-suc-le-zero h)
+  list-on st (suc n) z y i h e = (rw (sub-one (suc n)) at e) ∙ i
+
+  pub list-end : (st : S) (n : ℕ) (z y : R) → items E step st n .run s at stop go ≡ y → n ≤ 0 → z ≡ go [] at → z ≡ y
+  unfolding items listRun
+  list-end st zero z y i h e = e ∙ i
+  list-end st (suc n) z y i h e = absurd (not-suc-le-zero h)
+
+module _ {A R : Type 0} (E : List ℕ → Format A) (step : List ℕ → A → List ℕ) (s : List ℕ) (n at : ℕ) (stop : Refusal → R) (go : List A → ℕ → R) where
+  -- nothing stands before the first
+  pub list-start : (a : ℕ) → items E step (part a a s) n .run s at stop go ≡ items E step [] n .run s at stop go
+  list-start a = let e : a - a ≡ 0 = omega arith in rw e
+
+  -- the state that is left is the bytes of the element
+  pub list-again : (p q : ℕ) (w : List ℕ) → Stands s p w q → items E step (part p q s) n .run s at stop go ≡ items E step w n .run s at stop go
+  list-again p q w h = rw (stands-part s p w q h)
+
+-- a turn: of an element only its end is in hand, and what stands before it
+pub ruleset turn = (list-on, on-value-there, on-short, on-part-there, on-cut, if-above, if-not-above, if-below, if-not-below, stands-append, list-again)

@@ -1,0 +1,17 @@
+-- `wire::is_below` meets its contract. Assumes nothing.
+use borrow.Author.Needs.{needs}
+use Rattle.wire.proofs.Bytes.{ordered}
+use Rattle.wire.proofs.is_below.Statement.{statement}
+use Rattle.wire.proofs.is_below.Tie as tie
+
+pub is-below-spec : {M : Type 1} → statement M
+is-below-spec =
+    tie.close
+    (tie.spec
+    (λ c κs. search needs)  -- order-of-requires
+    (λ c. search needs)  -- enum-told
+    (λ c. search needs)  -- enum-told-2
+    (λ c. search needs)  -- enum-told-3
+    (λ c. search ordered)  -- returns
+    (λ c. search ordered)  -- returns-2
+    (λ c. search ordered))  -- returns-3

@@ -1,0 +1,15 @@
+-- `wire::part_at` meets its contract. Assumes nothing.
+use borrow.Author.Needs.{needs}
+use Rattle.wire.proofs.Reading.{leaf}
+use Rattle.wire.proofs.part_at.Statement.{statement}
+use Rattle.wire.proofs.part_at.Tie as tie
+
+pub part-at-spec : {M : Type 1} → statement M
+part-at-spec =
+    tie.close
+    (tie.spec
+    (λ c κs. search needs)  -- ahead-requires
+    (λ c κs. search needs)  -- cut-requires
+    (λ c. search leaf)  -- returns
+    (λ c. search needs)  -- add-t4
+    (λ c. search leaf))  -- returns-2

@@ -1,0 +1,18 @@
+-- `wire::put_part` meets its contract. Assumes nothing.
+use mathlib.Core.Path.{refl}
+use borrow.Author.Needs.{needs}
+use Rattle.wire.proofs.Bytes.{copy-part}
+use Rattle.wire.proofs.Reading.{leaf, blob-cut}
+use Rattle.wire.proofs.put_part.Statement.{statement}
+use Rattle.wire.proofs.put_part.Tie as tie
+
+pub put-part-spec : {M : Type 1} → statement M
+put-part-spec =
+    tie.close
+    (tie.spec
+    (λ c κs. search needs)  -- ahead-requires
+    (λ c. blob-cut _ _ _ _ _ _ _ (c .before .ahead .ensures) (c .if1 .taken) _ refl refl)  -- returns
+    (λ c κs. search needs)  -- between-requires
+    (λ c κs. search needs)  -- put-bytes-requires
+    (λ c. search needs)  -- same-length
+    (λ c. search (leaf, copy-part)))  -- returns-2
