@@ -36,15 +36,19 @@ unfoldable pub spend : Format (List ℕ × (Unit {0} × (ℕ × List ℕ)))
 unfolding andThen constant amount indices
 spend = andThen (blob 32) (λ asset. andThen (constant 4 5 unknownType) (λ type. andThen amount (λ n. indices)))
 
--- `prev` is the bytes of the input before, [] before the first
-unfoldable pub input : List ℕ → Format Input
+-- an input whose key is above the key bytes `before`
+unfoldable pub inputAfter : List ℕ → Format Input
 unfolding named andThen guard key spend
-input prev =
-    named (andThen (above key (take keyWidth prev)) (λ k. spend))
+inputAfter before =
+    named (andThen (above key before) (λ k. spend))
     (λ ((txid, index), (asset, (type, (n, list)))). record { txid = txid; index = index; asset = asset; amount = n; indices = list })
     (λ i. ((i .txid, i .index), (i .asset, (tt, (i .amount, i .indices)))))
     (λ v h. refl)
     (λ i. refl)
+
+-- `prev` is the bytes of the input before, [] before the first
+abbrev pub input : List ℕ → Format Input
+input prev = inputAfter (take keyWidth prev)
 
 -- the typed fields of an input that ends at `end`
 abbrev pub inputFields : ℕ → Input → InputFields

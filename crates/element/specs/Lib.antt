@@ -4,3 +4,4 @@ pub mod Owners
 pub mod Outputs
 pub mod Inputs
 pub mod Operations
+pub mod Answer

@@ -1,6 +1,6 @@
 -- Operations, and the initial states of an asset. Assumes nothing.
 use mathlib.Core.Path.{_≡_, refl}
-use Prim.Native.Nat.{ℕ, _+_, _*_}
+use Prim.Native.Nat.{ℕ, _+_, _-_, _*_}
 use mathlib.Core.List.{List, [], _∷_}
 use lib.ListN.{length, take}
 use lib.Dec.{eqb}
@@ -14,8 +14,8 @@ use Rattle.element.specs.Strings.{payload}
 use Rattle.element.specs.Owners.{Owners, owners, ownersFields}
 use Rattle.element.specs.Outputs.{OutputType, secpMint, secpTransfer, nftMint, nftTransfer, Output, output}
 use Rattle.element.specs.Inputs.{key, keyWidth, indices}
-use Rattle.element.specs.declared.OwnersFields.{OwnersFields}
 use Rattle.element.specs.declared.OperationFields.{OperationFields}
+use Rattle.element.specs.declared.TermsFields.{TermsFields}
 use Rattle.element.specs.declared.Recipients.{Recipients}
 use Rattle.element.specs.declared.Recipients.the-variants as R
 
@@ -44,27 +44,28 @@ abbrev pub operationOwners : (k : OperationType) → Format (OperationOwners k)
 operationOwners mintNft = counted (number 4) (λ prev. owners)
 operationOwners transferNft = owners
 
+-- address indices, group, payload
+unfoldable pub terms : Format (List ℕ × (ℕ × List ℕ))
+unfolding andThen indices
+terms = andThen indices (λ list. andThen (number 4) (λ group. payload))
+
 pub record Operation : Type 0 where
   pub asset : List ℕ
   pub outputs : List (List ℕ × ℕ)
-  pub indices : List ℕ
-  pub group : ℕ
-  pub payload : List ℕ
+  pub terms : List ℕ × (ℕ × List ℕ)
   pub owners : (k : OperationType) × OperationOwners k
 
--- asset id, the outputs consumed as (id, index) pairs, type, indices, group, payload, and what the type has
+-- asset id, the outputs consumed as (id, index) pairs, type, terms, and what the type has
 unfoldable pub operation : Format Operation
-unfolding named andThen guard counted key tag indices
+unfolding named andThen guard counted key tag terms
 operation =
     named
     (andThen (blob 32) (λ asset.
     andThen (counted (number 4) (above key)) (λ pairs.
     andThen (tag operationCode operationType operationType-code (number 4) (mintNft ∷ transferNft ∷ []) unknownType) (λ k.
-    andThen indices (λ list.
-    andThen (number 4) (λ group.
-    andThen payload (λ p. operationOwners k)))))))
-    (λ (asset, (pairs, (k, (list, (group, (p, o)))))). record { asset = asset; outputs = pairs; indices = list; group = group; payload = p; owners = (k, o) })
-    (λ v. (v .asset, (v .outputs, (v .owners .0, (v .indices, (v .group, (v .payload, v .owners .1)))))))
+    andThen terms (λ v. operationOwners k)))))
+    (λ (asset, (pairs, (k, (v, o)))). record { asset = asset; outputs = pairs; terms = v; owners = (k, o) })
+    (λ v. (v .asset, (v .outputs, (v .owners .0, (v .terms, v .owners .1)))))
     (λ v h. refl)
     (λ v. refl)
 
@@ -96,33 +97,44 @@ pub record InitialState : Type 0 where
   pub fx : Fx
   pub outputs : List Output
 
--- `prev` is the bytes of the initial state before, [] before the first
-unfoldable pub initialState : List ℕ → Format InitialState
+-- an initial state whose FxID is above the bytes `before`
+unfoldable pub initialStateAfter : List ℕ → Format InitialState
 unfolding named andThen guard fxId counted output
-initialState prev =
-    named (andThen (above fxId (take 4 prev)) (λ k. counted (number 4) (notBelow (output (fxOutputs k)))))
+initialStateAfter before =
+    named (andThen (above fxId before) (λ k. counted (number 4) (notBelow (output (fxOutputs k)))))
     (λ (k, list). record { fx = k; outputs = list })
     (λ v. (v .fx, v .outputs))
     (λ v h. refl)
     (λ v. refl)
 
+-- `prev` is the bytes of the initial state before, [] before the first
+abbrev pub initialState : List ℕ → Format InitialState
+initialState prev = initialStateAfter (take 4 prev)
+
 -- ---- the typed fields of an operation that starts at `at` and ends at `end`
 
+abbrev pub termsFields : ℕ → ℕ → List ℕ × (ℕ × List ℕ) → TermsFields
+termsFields at end (list, (group, p)) =
+    record {
+      «indices_at» = at + 4;
+      «indices_count» = length list;
+      group = group;
+      «payload_at» = end - length p;
+      «payload_length» = length p;
+    }
+
+-- the owners of a mint stand from `first` on, behind their count
 abbrev pub recipients : ℕ → ℕ → (k : OperationType) × OperationOwners k → Recipients
 recipients first end (mintNft, l) = R.Mint first (length l)
 recipients first end (transferNft, o) = R.Transfer (ownersFields end o)
 
 abbrev pub operationFields : ℕ → ℕ → Operation → OperationFields
 operationFields at end v =
-    let pairs = length (v .outputs) in
-    let n = length (v .indices) in
+    let first = at + 36 + keyWidth * length (v .outputs) + 4 in
+    let next = first + length (terms .write (v .terms)) in
     record {
       «outputs_at» = at + 36;
-      «outputs_count» = pairs;
-      «indices_at» = at + 44 + keyWidth * pairs;
-      «indices_count» = n;
-      group = v .group;
-      «payload_at» = at + 52 + keyWidth * pairs + 4 * n;
-      «payload_length» = length (v .payload);
-      recipients = recipients (at + 56 + keyWidth * pairs + 4 * n + length (v .payload)) end (v .owners);
+      «outputs_count» = length (v .outputs);
+      terms = termsFields first next (v .terms);
+      recipients = recipients (next + 4) end (v .owners);
     }

@@ -1,5 +1,18 @@
-// The parts of a transaction: owners, outputs, inputs, operations and initial states.
-ghost use mathlib.Core.Path.{_≡_};
+// The parts of a transaction, read left to right, each field taken apart by let .. else: strings, owners, outputs, inputs, operations and
+// initial states.
+pub mod inputs;
+pub mod operations;
+pub mod outputs;
+pub mod owners;
+pub mod strings;
+
+use wire::Refusal;
+
+// A string that is wholly there: its first byte's place, its length, and the place behind it.
+pub enum StringRead {
+    Whole(usize, u64, usize),
+    Refused(Refusal),
+}
 
 // The numbers of an owners part: its addresses are addresses_count times 20 bytes from addresses_at on.
 pub struct OwnersFields {
@@ -7,6 +20,11 @@ pub struct OwnersFields {
     pub threshold: u64,
     pub addresses_at: usize,
     pub addresses_count: u64,
+}
+
+pub enum OwnersRead {
+    Whole(OwnersFields, usize),
+    Refused(Refusal),
 }
 
 // An output's own fields, by its type: 6, 7, 10 and 11.
@@ -28,6 +46,11 @@ pub enum OutputFields {
     },
 }
 
+pub enum OutputRead {
+    Whole(OutputFields, usize),
+    Refused(Refusal),
+}
+
 // An input's fields beside its identifiers.
 pub struct InputFields {
     pub index: u64,
@@ -36,23 +59,40 @@ pub struct InputFields {
     pub indices_count: u64,
 }
 
+pub enum InputRead {
+    Whole(InputFields, usize),
+    Refused(Refusal),
+}
+
 // Who receives what an operation makes: a mint (12) has a list of owners, a transfer (13) has owners.
 pub enum Recipients {
-    Mint {
-        owners_at: usize,
-        owners_count: u64,
-    },
+    Mint { owners_at: usize, owners_count: u64 },
     Transfer(OwnersFields),
+}
+
+// What an operation says of its outputs: who may sign, the group and the payload.
+pub struct TermsFields {
+    pub indices_at: usize,
+    pub indices_count: u64,
+    pub group: u64,
+    pub payload_at: usize,
+    pub payload_length: u64,
+}
+
+pub enum TermsRead {
+    Whole(TermsFields, usize),
+    Refused(Refusal),
 }
 
 // An operation's fields beside its asset id.
 pub struct OperationFields {
     pub outputs_at: usize,
     pub outputs_count: u64,
-    pub indices_at: usize,
-    pub indices_count: u64,
-    pub group: u64,
-    pub payload_at: usize,
-    pub payload_length: u64,
+    pub terms: TermsFields,
     pub recipients: Recipients,
+}
+
+pub enum OperationRead {
+    Whole(OperationFields, usize),
+    Refused(Refusal),
 }

@@ -5,14 +5,14 @@ use native.Mathlib.Omega.{arith}
 use mathlib.Core.List.{List, [], _∷_, _++_}
 use lib.ListN.{length, length-append}
 use lib.Dec.{eqb}
-use Rattle.wire.specs.Bytes.{digits, length-digits, pick}
-use Rattle.wire.specs.Fields.{number, blob}
-use Rattle.wire.specs.Sequence.{andThen, guard, «as», named, tag}
+use Rattle.wire.specs.Bytes.{pick}
+use Rattle.wire.specs.Fields.{number, length-number, blob}
+use Rattle.wire.specs.Sequence.{andThen, guard, named, tag}
 use Rattle.wire.specs.Series.{notBelow}
 use Rattle.element.specs.Strings.{memo, name, symbol, denomination}
 use Rattle.element.specs.Outputs.{TransferableOutput, transferableOutput}
-use Rattle.element.specs.Inputs.{Input, key, input}
-use Rattle.element.specs.Operations.{Operation, operation, InitialState, fxCode, fxId, initialState}
+use Rattle.element.specs.Inputs.{Input, key, inputAfter, input}
+use Rattle.element.specs.Operations.{Operation, operation, InitialState, fxCode, fxId, initialStateAfter, initialState}
 use Rattle.transaction.specs.Credentials.{Want, secpCredential, nftCredential}
 use Rattle.transaction.specs.Entries.{EntryAt, outputEntry, exportedEntry, inputEntry, importedEntry, operationEntry, stateEntries}
 use Rattle.transaction.specs.Plan.{Plan, end, field, many, Field, Elements}
@@ -48,7 +48,7 @@ outputs least entry =
 
 -- each input asks for a credential of as many signatures as it has indices
 unfoldable pub inputs : ℕ → (ℕ → ℕ → Input → List EntryAt) → Elements
-unfolding input named andThen guard key blob
+unfolding inputAfter named andThen guard key blob
 inputs least entry =
     record {
       Element = Input;
@@ -74,12 +74,12 @@ operations =
 
 -- FxIDs strictly increase
 unfoldable pub states : Elements
-unfolding initialState fxId tag named andThen guard number «as»
+unfolding initialStateAfter fxId tag named andThen guard
 states =
     record {
       Element = InitialState;
       element = initialState;
-      solid = λ prev v h. longer (digits 4 (fxCode (v .fx))) _ 3 (length-digits 4 (fxCode (v .fx)));
+      solid = λ prev v h. longer (number 4 .write (fxCode (v .fx))) _ 3 (length-number 4 (fxCode (v .fx)));
       least = 1;
       asks = asksNothing;
       entries = stateEntries;

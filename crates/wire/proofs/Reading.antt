@@ -22,7 +22,7 @@ use Rattle.wire.specs.declared.Number.the-variants as N
 use Rattle.wire.specs.Bytes.{value, digits, digits-value, length-digits, pick, part, below}
 use Rattle.wire.specs.Numbers.{outOfOrder, by, cutAt}
 use Rattle.wire.specs.Format.{Format, Result, took, refused, onResult, read, refused-took, took-refused, run-alike-read, Stands, stands-part, stands-append}
-use Rattle.wire.specs.Fields.{blob, blobRun, number}
+use Rattle.wire.specs.Fields.{blob, blobRun, number, length-number}
 use Rattle.wire.specs.Sequence.{guard}
 use Rattle.wire.specs.Series.{listRun, listWrite, Chain, items, left, above, increasing}
 use Rattle.wire.specs.Answer.{ended, valued, wholeAt}
@@ -155,21 +155,6 @@ blob-wide : (k : ℕ) (b : List ℕ) → blob k .Good b → length (blob k .writ
 unfolding blob
 blob-wide k b h = h .0
 
-number-wide : (k v : ℕ) → number k .Good v → length (number k .write v) ≡ k
-unfolding number
-number-wide k v h = length-digits k v
-
--- numbers are in order as their bytes are
-pub numbers-turn : (k n : ℕ) (prev s : List ℕ) (at : ℕ) → Slice s
-    → ended (items (above (number k)) (left (above (number k))) prev n) s at ≡ ended (items (above (blob k)) (left (above (blob k))) prev n) s at
-unfolding items listRun guard number
-numbers-turn k zero prev s at b = refl
-numbers-turn k (suc n) prev s at b =
-    run-alike-read (blob k) s at P.Refused _ _ (λ w m q.
-    let g = blob k .sound s at w m (slice-bytes s b) q .0 in
-    let e : digits k (value w) ≡ w = subst (λ (j : ℕ). digits j (value w) ≡ w) (g .0) (digits-value w (g .1)) in
-    rw e (ap (λ (r : Part). pick (below prev w) r (P.Refused (by outOfOrder at))) (numbers-turn k n w s m b)))
-
 module _ {R : Type 0} (k c : ℕ) (s : List ℕ) (at : ℕ) (z : R) (stop : Refusal → R) (x : Part) where
   pub on-parts : (go : List (List ℕ) → ℕ → R) (n : ℕ) → x ≡ ended (increasing (blob k) c) s at → x ≡ P.Next n → Slice s
       → ((l : List (List ℕ)) → c ≡ length l → at ≡ n - k * length l → z ≡ go l n) → z ≡ increasing (blob k) c .run s at stop go
@@ -177,16 +162,11 @@ module _ {R : Type 0} (k c : ℕ) (s : List ℕ) (at : ℕ) (z : R) (stop : Refu
       let (l, h, i, t) = wide-list (blob k) k (blob-wide k) c s at n b x p q in
       e l h i ∙ sym (run-took (increasing (blob k) c) s at stop go l n t)
 
-  -- of numbers, the code looks at the bytes alone
-  pub on-numbers : (go : List ℕ → ℕ → R) (n : ℕ) → x ≡ ended (increasing (blob k) c) s at → x ≡ P.Next n → Slice s
+  pub on-numbers : (go : List ℕ → ℕ → R) (n : ℕ) → x ≡ ended (increasing (number k) c) s at → x ≡ P.Next n → Slice s
       → ((l : List ℕ) → c ≡ length l → at ≡ n - k * length l → z ≡ go l n) → z ≡ increasing (number k) c .run s at stop go
   on-numbers go n p q b e =
-      let (l, h, i, t) = wide-list (number k) k (number-wide k) c s at n b x (p ∙ sym (numbers-turn k c [] s at b)) q in
+      let (l, h, i, t) = wide-list (number k) k (λ v h. length-number k v) c s at n b x p q in
       e l h i ∙ sym (run-took (increasing (number k) c) s at stop go l n t)
-
-  pub on-numbers-refused : (go : List ℕ → ℕ → R) (e : Refusal) → x ≡ ended (increasing (blob k) c) s at → x ≡ P.Refused e → Slice s
-      → z ≡ stop e → z ≡ increasing (number k) c .run s at stop go
-  on-numbers-refused go e p q b r = stops (increasing (number k) c) R s at z stop go x e (p ∙ sym (numbers-turn k c [] s at b)) q r
 
 -- a part: its bytes are those of s
 part-took : (k : ℕ) (s : List ℕ) (at : ℕ) (x : Part) (n : ℕ) → x ≡ ended (blob k) s at → x ≡ P.Next n → read (blob k) s at ≡ took (part at n s) n
@@ -292,7 +272,7 @@ module _ {R : Type 0} where
 pub ruleset tests = (if-lt, if-not-lt, if-le, if-not-le, if-eq, if-ne, if-zero, if-some)
 
 -- a let-else chain up to a refusal
-pub ruleset reading = (on-value, on-short, on-part, on-cut, on-part-refused, on-list, on-list-refused, on-numbers-refused, tests)
+pub ruleset reading = (on-value, on-short, on-part, on-cut, on-part-refused, on-list, on-list-refused, tests)
 
 -- a let-else chain that went through to its end: every field was there
 pub ruleset wholly = (on-value, on-part, on-parts, on-numbers, tests)

@@ -93,9 +93,13 @@ number w =
       to-from = λ v h. value-digits w v h;
     }
 
+pub length-number : (w v : ℕ) → length (number w .write v) ≡ w
+unfolding number
+length-number w v = length-digits w v
+
 -- ---- a number of w bytes that has to be v; any other is refused by x, at its start
 
 unfoldable pub constant : ℕ → ℕ → Rule → Format (Unit {0})
-unfolding number named guard
+unfolding named guard
 constant w v x =
     named (guard (number w) (λ n. eqb n v) x) (λ n. tt) (λ u. v) (λ n h. sym (eqb-true n v (h .1))) (λ u. refl)

@@ -131,8 +131,11 @@ module _ {A : Type 0} (E : List ℕ → Format A) where
   abbrev pub left : List ℕ → A → List ℕ
   left prev a = E prev .write a
 
+  abbrev pub seriesFrom : List ℕ → ℕ → Format (List A)
+  seriesFrom prev n = items E left prev n
+
   abbrev pub series : ℕ → Format (List A)
-  series n = items E left [] n
+  series n = seriesFrom [] n
 
 -- an element that is strictly above the one before, by its first k bytes in view
 abbrev pub above : {A : Type 0} → Format A → List ℕ → Format A

@@ -1,0 +1,42 @@
+-- `element::inputs::indices_from` meets its contract. The invariant: the reading of what is left, from here, is the whole reading; what is kept of the index before is its bytes.
+-- Assumes nothing.
+use borrow.Author.Needs.{needs}
+use Prim.Native.Nat.{_^_, _<_}
+use mathlib.Core.Path.{_≡_, refl}
+use mathlib.Core.List.{[]}
+use Rattle.wire.specs.Bytes.{digits, pick}
+use Rattle.wire.specs.Fields.{number}
+use Rattle.wire.specs.Sequence.{guard}
+use Rattle.wire.specs.Series.{above, seriesFrom, increasing}
+use Rattle.wire.specs.Answer.{ended}
+use Rattle.wire.proofs.Reading.{turn, list-end}
+use Rattle.element.proofs.Reading.{value-small, if-number-follows, if-number-not}
+use Rattle.element.proofs.inputs.indices_from.Statement.{statement}
+use Rattle.element.proofs.inputs.indices_from.Tie as tie
+
+abbrev Inv-loop : tie.InvT-loop
+Inv-loop s start count left₀ any₀ prev₀ at₀ left any prev at =
+    (prev < 256 ^ 4) × (ended (seriesFrom (above (number 4)) (pick any (digits 4 prev) []) left) s at ≡ ended (increasing (number 4) count) s start)
+
+abbrev μ-loop : tie.MeasureT-loop
+μ-loop s start count left₀ any₀ prev₀ at₀ left any prev at = left
+
+pub indices-from-spec : {M : Type 1} → statement M
+unfolding guard number
+indices-from-spec =
+    tie.close
+    (tie.spec
+    Inv-loop
+    μ-loop
+    (λ c. (search needs, refl))  -- loop-holds
+    (λ c κs. search needs)  -- u32-at-requires
+    (λ c. search needs)  -- enum-known-index
+    (λ c. search needs)  -- enum-told
+    (λ c κs. search needs)  -- cut-requires
+    (λ c. search (turn, value-small, if-number-not) depth 10)  -- returns
+    (λ c κs. search needs)  -- number-follows-requires
+    (λ c. search needs)  -- sub-left
+    (λ c. search needs)  -- loop-less
+    (λ c. search (turn, value-small, if-number-follows) depth 10)  -- loop-again
+    (λ c. search (turn, value-small, if-number-not) depth 10)  -- returns-2
+    (λ c. search list-end))  -- returns-3

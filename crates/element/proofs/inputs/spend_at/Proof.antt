@@ -1,0 +1,40 @@
+-- `element::inputs::spend_at` meets its contract.
+-- Assumes nothing.
+use borrow.Author.Needs.{needs}
+use Rattle.element.proofs.Reading.{reading, wholly}
+use Rattle.element.specs.Inputs.{spend}
+use Rattle.element.proofs.inputs.spend_at.Statement.{statement}
+use Rattle.element.proofs.inputs.spend_at.Tie as tie
+
+pub spend-at-spec : {M : Type 1} → statement M
+unfolding spend
+spend-at-spec =
+    tie.close
+    (tie.spec
+    (λ c κs. search needs)  -- part-at-requires
+    (λ c. search needs)  -- enum-known-k
+    (λ c. search needs)  -- enum-told
+    (λ c κs. search needs)  -- cut-requires
+    (λ c. search reading depth 12)  -- returns
+    (λ c κs. search needs)  -- u32-at-requires
+    (λ c. search needs)  -- enum-known-kind
+    (λ c. search needs)  -- enum-told-2
+    (λ c κs. search needs)  -- cut-requires-2
+    (λ c. search reading depth 12)  -- returns-2
+    (λ c. search reading depth 12)  -- returns-3
+    (λ c κs. search needs)  -- u64-at-requires
+    (λ c. search needs)  -- enum-known-amount
+    (λ c. search needs)  -- enum-told-3
+    (λ c κs. search needs)  -- cut-requires-3
+    (λ c. search reading depth 12)  -- returns-4
+    (λ c. search reading depth 12)  -- returns-5
+    (λ c κs. search needs)  -- u32-at-requires-2
+    (λ c. search needs)  -- enum-known-indices-count
+    (λ c. search needs)  -- enum-told-4
+    (λ c κs. search needs)  -- cut-requires-4
+    (λ c. search reading depth 12)  -- returns-6
+    (λ c κs. search needs)  -- indices-from-requires
+    (λ c. search needs)  -- enum-known-next
+    (λ c. search needs)  -- enum-known-refusal
+    (λ c. search wholly depth 12)  -- returns-7
+    (λ c. search reading depth 12))  -- returns-8

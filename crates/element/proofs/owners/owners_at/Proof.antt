@@ -1,0 +1,34 @@
+-- `element::owners::owners_at` meets its contract.
+-- Assumes nothing.
+use borrow.Author.Needs.{needs}
+use Rattle.element.proofs.Reading.{reading, wholly}
+use Rattle.element.specs.Owners.{owners}
+use Rattle.element.proofs.owners.owners_at.Statement.{statement}
+use Rattle.element.proofs.owners.owners_at.Tie as tie
+
+pub owners-at-spec : {M : Type 1} → statement M
+unfolding owners
+owners-at-spec =
+    tie.close
+    (tie.spec
+    (λ c κs. search needs)  -- u64-at-requires
+    (λ c. search needs)  -- enum-known-locktime
+    (λ c. search needs)  -- enum-told
+    (λ c κs. search needs)  -- cut-requires
+    (λ c. search reading depth 12)  -- returns
+    (λ c κs. search needs)  -- u32-at-requires
+    (λ c. search needs)  -- enum-known-threshold
+    (λ c. search needs)  -- enum-told-2
+    (λ c κs. search needs)  -- cut-requires-2
+    (λ c. search reading depth 12)  -- returns-2
+    (λ c κs. search needs)  -- u32-at-requires-2
+    (λ c. search needs)  -- enum-known-addresses-count
+    (λ c. search needs)  -- enum-told-3
+    (λ c κs. search needs)  -- cut-requires-3
+    (λ c. search reading depth 12)  -- returns-3
+    (λ c. search reading depth 12)  -- returns-4
+    (λ c κs. search needs)  -- addresses-from-requires
+    (λ c. search needs)  -- enum-known-next
+    (λ c. search needs)  -- enum-known-refusal
+    (λ c. search wholly depth 12)  -- returns-5
+    (λ c. search reading depth 12))  -- returns-6

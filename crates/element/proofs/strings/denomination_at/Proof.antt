@@ -1,0 +1,20 @@
+-- `element::strings::denomination_at` meets its contract.
+-- Assumes nothing.
+use borrow.Author.Needs.{needs}
+use Rattle.wire.proofs.Reading.{reading}
+use Rattle.element.specs.Strings.{denomination}
+use Rattle.element.proofs.strings.denomination_at.Statement.{statement}
+use Rattle.element.proofs.strings.denomination_at.Tie as tie
+
+pub denomination-at-spec : {M : Type 1} → statement M
+unfolding denomination
+denomination-at-spec =
+    tie.close
+    (tie.spec
+    (λ c κs. search needs)  -- u8-at-requires
+    (λ c. search needs)  -- enum-known-value
+    (λ c. search needs)  -- enum-told
+    (λ c κs. search needs)  -- cut-requires
+    (λ c. search reading depth 12)  -- returns
+    (λ c. search reading depth 12)  -- returns-2
+    (λ c. search reading depth 12))  -- returns-3

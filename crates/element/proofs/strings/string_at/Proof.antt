@@ -1,0 +1,24 @@
+-- `element::strings::string_at` meets its contract.
+-- Assumes nothing.
+use borrow.Author.Needs.{needs}
+use Rattle.element.proofs.Reading.{reading, wholly}
+use Rattle.element.specs.Strings.{string}
+use Rattle.element.proofs.strings.string_at.Statement.{statement}
+use Rattle.element.proofs.strings.string_at.Tie as tie
+
+pub string-at-spec : {M : Type 1} → statement M
+unfolding string
+string-at-spec =
+    tie.close
+    (tie.spec
+    (λ c κs. search needs)  -- u32-at-requires
+    (λ c. search needs)  -- enum-known-length
+    (λ c. search needs)  -- enum-told
+    (λ c κs. search needs)  -- cut-requires
+    (λ c. search reading depth 12)  -- returns
+    (λ c. search reading depth 12)  -- returns-2
+    (λ c κs. search needs)  -- part-at-requires
+    (λ c. search needs)  -- enum-known-next
+    (λ c. search needs)  -- enum-known-refusal
+    (λ c. search wholly depth 12)  -- returns-3
+    (λ c. search reading depth 12))  -- returns-4

@@ -1,0 +1,81 @@
+-- What the readers of this crate answer, as the two ends of a format's reading. Assumes nothing.
+use Prim.Native.Nat.{ℕ, _+_, _-_, _*_}
+use mathlib.Core.Bool.{Bool, true, false}
+use mathlib.Core.List.{List}
+use lib.ListN.{length}
+use lib.Dec.{ltb}
+use Rattle.wire.specs.Bytes.{pick, below}
+use Rattle.wire.specs.Order.{keyBelow}
+use Rattle.element.specs.Strings.{string}
+use Rattle.element.specs.Owners.{Owners, owners, ownersFields}
+use Rattle.element.specs.Outputs.{OutputType, Output, output, TransferableOutput, transferableOutput, outputFields}
+use Rattle.element.specs.Inputs.{spend}
+use Rattle.element.specs.Operations.{terms, termsFields, Operation, operation, operationFields}
+use Rattle.element.specs.declared.StringRead.{StringRead}
+use Rattle.element.specs.declared.StringRead.the-variants as S
+use Rattle.element.specs.declared.OwnersRead.{OwnersRead}
+use Rattle.element.specs.declared.OwnersRead.the-variants as W
+use Rattle.element.specs.declared.OutputRead.{OutputRead}
+use Rattle.element.specs.declared.OutputRead.the-variants as O
+use Rattle.element.specs.declared.InputRead.{InputRead}
+use Rattle.element.specs.declared.InputRead.the-variants as I
+use Rattle.element.specs.declared.TermsRead.{TermsRead}
+use Rattle.element.specs.declared.TermsRead.the-variants as T
+use Rattle.element.specs.declared.OperationRead.{OperationRead}
+use Rattle.element.specs.declared.OperationRead.the-variants as P
+
+-- a string's bytes are the last of it
+abbrev pub stringWhole : List ℕ → ℕ → StringRead
+stringWhole b n = S.Whole (n - length b) (length b) n
+
+abbrev pub stringAt : ℕ → List ℕ → ℕ → StringRead
+stringAt most s at = string 4 most .run s at S.Refused stringWhole
+
+abbrev pub ownersWhole : Owners → ℕ → OwnersRead
+ownersWhole v n = W.Whole (ownersFields n v) n
+
+abbrev pub ownersAt : List ℕ → ℕ → OwnersRead
+ownersAt s at = owners .run s at W.Refused ownersWhole
+
+abbrev pub outputWhole : ℕ → Output → ℕ → OutputRead
+outputWhole at v n = O.Whole (outputFields at n v) n
+
+abbrev pub outputAt : List OutputType → List ℕ → ℕ → OutputRead
+outputAt types s at = output types .run s at O.Refused (outputWhole at)
+
+abbrev pub transferableWhole : ℕ → TransferableOutput → ℕ → OutputRead
+transferableWhole at v n = O.Whole (outputFields (at + 32) n (v .output)) n
+
+abbrev pub transferableAt : List ℕ → ℕ → OutputRead
+transferableAt s at = transferableOutput .run s at O.Refused (transferableWhole at)
+
+-- an input behind its key, whose index is known
+abbrev pub spendWhole : ℕ → List ℕ × (Unit {0} × (ℕ × List ℕ)) → ℕ → InputRead
+spendWhole index (asset, (type, (amount, list))) n =
+    I.Whole record { index = index; amount = amount; «indices_at» = n - 4 * length list; «indices_count» = length list } n
+
+abbrev pub spendAt : ℕ → List ℕ → ℕ → InputRead
+spendAt index s at = spend .run s at I.Refused (spendWhole index)
+
+abbrev pub termsWhole : ℕ → List ℕ × (ℕ × List ℕ) → ℕ → TermsRead
+termsWhole at v n = T.Whole (termsFields at n v) n
+
+abbrev pub termsAt : List ℕ → ℕ → TermsRead
+termsAt s at = terms .run s at T.Refused (termsWhole at)
+
+abbrev pub operationWhole : ℕ → Operation → ℕ → OperationRead
+operationWhole at v n = P.Whole (operationFields at n v) n
+
+abbrev pub operationAt : List ℕ → ℕ → OperationRead
+operationAt s at = operation .run s at P.Refused (operationWhole at)
+
+-- ---- orders as code keeps them: the first of a list has none before it
+
+abbrev pub addressFollows : Bool → List ℕ → List ℕ → Bool
+addressFollows any prev address = pick any (below prev address) true
+
+abbrev pub keyFollows : Bool → List ℕ → ℕ → List ℕ → ℕ → Bool
+keyFollows any prev i id j = pick any (keyBelow prev i id j) true
+
+abbrev pub numberFollows : Bool → ℕ → ℕ → Bool
+numberFollows any prev n = pick any (ltb prev n) true

@@ -1,0 +1,141 @@
+// Inputs: they strictly increase by transaction id and output index.
+ghost use mathlib.Core.Path.{_≡_};
+ghost use Rattle.wire.specs.Fields.{number};
+ghost use Rattle.wire.specs.Series.{increasing, series};
+ghost use Rattle.wire.specs.Answer.{ended};
+ghost use Rattle.element.specs.Inputs.{input};
+ghost use Rattle.element.specs.Answer.{numberFollows, keyFollows, spendAt};
+use crate::InputFields;
+use crate::InputRead;
+use wire::Number;
+use wire::Part;
+use wire::Refusal;
+
+// May this number stand behind the one before, if there is any?
+pub fn number_follows(any: bool, prev: u64, number: u64) -> bool
+    ensures { λ r. ⌜ r ≡ numberFollows any prev number ⌝ }
+{
+    if any {
+        return prev < number;
+    }
+    true
+}
+
+// May this key stand behind the one before, if there is any?
+pub fn key_follows(any: bool, prev: [u8; 32], last: u64, id: [u8; 32], index: u64) -> bool
+    ensures { λ r. ⌜ r ≡ keyFollows any prev last id index ⌝ }
+{
+    if any {
+        return wire::key_below(prev, last, id, index);
+    }
+    true
+}
+
+// So many address indices from start, each above the one before.
+pub fn indices_from(s: &[u8], start: usize, count: u64) -> Part
+    ensures { λ r. ⌜ r ≡ ended (increasing (number 4) count) (now (s .entry)) start ⌝ }
+{
+    let mut left = count;
+    let mut any = false;
+    let mut prev: u64 = 0;
+    let mut at = start;
+    while 0 < left {
+        let Number::Value(index, next) = wire::u32_at(s, at) else {
+            return Part::Refused(wire::cut(s, at, 4));
+        };
+        if number_follows(any, prev, index) {
+            any = true;
+            prev = index;
+            at = next;
+            left -= 1;
+        } else {
+            return Part::Refused(Refusal {
+                number: wire::numbers::OUT_OF_ORDER,
+                place: at,
+            });
+        }
+    }
+    Part::Next(at)
+}
+
+// What follows an input's key: asset id, type 5, amount, address indices.
+pub fn spend_at(s: &[u8], at: usize, index: u64) -> InputRead
+    ensures { λ r. ⌜ r ≡ spendAt index (now (s .entry)) at ⌝ }
+{
+    let Part::Next(k) = wire::part_at(s, at, 32) else {
+        return InputRead::Refused(wire::cut(s, at, 32));
+    };
+    let Number::Value(kind, a) = wire::u32_at(s, k) else {
+        return InputRead::Refused(wire::cut(s, k, 4));
+    };
+    if kind != 5 {
+        return InputRead::Refused(Refusal {
+            number: wire::numbers::UNKNOWN_TYPE,
+            place: k,
+        });
+    }
+    let Number::Value(amount, n) = wire::u64_at(s, a) else {
+        return InputRead::Refused(wire::cut(s, a, 8));
+    };
+    if amount == 0 {
+        return InputRead::Refused(Refusal {
+            number: wire::numbers::ZERO_AMOUNT,
+            place: a,
+        });
+    }
+    let Number::Value(indices_count, indices_at) = wire::u32_at(s, n) else {
+        return InputRead::Refused(wire::cut(s, n, 4));
+    };
+    match indices_from(s, indices_at, indices_count) {
+        Part::Next(next) => InputRead::Whole(
+            InputFields {
+                index,
+                amount,
+                indices_at,
+                indices_count,
+            },
+            next,
+        ),
+        Part::Refused(refusal) => InputRead::Refused(refusal),
+    }
+}
+
+// So many inputs from start.
+pub fn inputs_from(s: &[u8], start: usize, count: u64) -> Part
+    ensures { λ r. ⌜ r ≡ ended (series input count) (now (s .entry)) start ⌝ }
+{
+    let mut left = count;
+    let mut any = false;
+    let mut prev = [0u8; 32];
+    let mut last: u64 = 0;
+    let mut at = start;
+    while 0 < left {
+        let Part::Next(i) = wire::part_at(s, at, 32) else {
+            return Part::Refused(wire::cut(s, at, 32));
+        };
+        let id = wire::id_at(s, at);
+        let Number::Value(index, e) = wire::u32_at(s, i) else {
+            return Part::Refused(wire::cut(s, i, 4));
+        };
+        if key_follows(any, prev, last, id, index) {
+            match spend_at(s, e, index) {
+                InputRead::Refused(refusal) => {
+                    return Part::Refused(refusal);
+                }
+                InputRead::Whole(_, next) => {
+                    any = true;
+                    prev = id;
+                    last = index;
+                    at = next;
+                    left -= 1;
+                }
+            }
+        } else {
+            return Part::Refused(Refusal {
+                number: wire::numbers::OUT_OF_ORDER,
+                place: at,
+            });
+        }
+    }
+    Part::Next(at)
+}

@@ -1,0 +1,102 @@
+// Owners: locktime, threshold, addresses.
+ghost use mathlib.Core.Path.{_≡_};
+ghost use Rattle.wire.specs.Fields.{blob};
+ghost use Rattle.wire.specs.Series.{increasing, unordered};
+ghost use Rattle.wire.specs.Answer.{ended};
+ghost use Rattle.element.specs.Owners.{owners};
+ghost use Rattle.element.specs.Answer.{addressFollows, ownersAt};
+use crate::OwnersFields;
+use crate::OwnersRead;
+use wire::Number;
+use wire::Part;
+use wire::Refusal;
+
+// May this address stand behind the one before, if there is any?
+fn address_follows(any: bool, prev: [u8; 20], address: [u8; 20]) -> bool
+    ensures { λ r. ⌜ r ≡ addressFollows any prev address ⌝ }
+{
+    if any {
+        return wire::address_below(prev, address);
+    }
+    true
+}
+
+// So many addresses from start, each strictly above the one before.
+pub fn addresses_from(s: &[u8], start: usize, count: u64) -> Part
+    ensures { λ r. ⌜ r ≡ ended (increasing (blob 20) count) (now (s .entry)) start ⌝ }
+{
+    let mut left = count;
+    let mut any = false;
+    let mut prev = [0u8; 20];
+    let mut at = start;
+    while 0 < left {
+        let Part::Next(next) = wire::part_at(s, at, 20) else {
+            return Part::Refused(wire::cut(s, at, 20));
+        };
+        let address = wire::address_at(s, at);
+        if address_follows(any, prev, address) {
+            any = true;
+            prev = address;
+            at = next;
+            left -= 1;
+        } else {
+            return Part::Refused(Refusal {
+                number: wire::numbers::OUT_OF_ORDER,
+                place: at,
+            });
+        }
+    }
+    Part::Next(at)
+}
+
+pub fn owners_at(s: &[u8], at: usize) -> OwnersRead
+    ensures { λ r. ⌜ r ≡ ownersAt (now (s .entry)) at ⌝ }
+{
+    let Number::Value(locktime, t) = wire::u64_at(s, at) else {
+        return OwnersRead::Refused(wire::cut(s, at, 8));
+    };
+    let Number::Value(threshold, n) = wire::u32_at(s, t) else {
+        return OwnersRead::Refused(wire::cut(s, t, 4));
+    };
+    let Number::Value(addresses_count, addresses_at) = wire::u32_at(s, n) else {
+        return OwnersRead::Refused(wire::cut(s, n, 4));
+    };
+    if addresses_count < threshold {
+        return OwnersRead::Refused(Refusal {
+            number: wire::numbers::BAD_THRESHOLD,
+            place: t,
+        });
+    }
+    match addresses_from(s, addresses_at, addresses_count) {
+        Part::Next(next) => OwnersRead::Whole(
+            OwnersFields {
+                locktime,
+                threshold,
+                addresses_at,
+                addresses_count,
+            },
+            next,
+        ),
+        Part::Refused(refusal) => OwnersRead::Refused(refusal),
+    }
+}
+
+// So many owners from start, of no order.
+pub fn owners_list_at(s: &[u8], start: usize, count: u64) -> Part
+    ensures { λ r. ⌜ r ≡ ended (unordered owners count) (now (s .entry)) start ⌝ }
+{
+    let mut left = count;
+    let mut at = start;
+    while 0 < left {
+        match owners_at(s, at) {
+            OwnersRead::Refused(refusal) => {
+                return Part::Refused(refusal);
+            }
+            OwnersRead::Whole(_, next) => {
+                at = next;
+                left -= 1;
+            }
+        }
+    }
+    Part::Next(at)
+}

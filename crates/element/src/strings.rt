@@ -1,0 +1,93 @@
+// Strings: a length and so many bytes.
+ghost use mathlib.Core.Path.{_≡_};
+ghost use Rattle.wire.specs.Bytes.{part};
+ghost use Rattle.wire.specs.Answer.{ended};
+ghost use Rattle.element.specs.Strings.{unprintable, text, denomination};
+ghost use Rattle.element.specs.Answer.{stringAt};
+use crate::StringRead;
+use wire::Number;
+use wire::Part;
+use wire::Refusal;
+
+// A memo or a payload: a 32-bit length, at most so many bytes.
+pub fn string_at(s: &[u8], at: usize, most: u64) -> StringRead
+    ensures { λ r. ⌜ r ≡ stringAt most (now (s .entry)) at ⌝ }
+{
+    let Number::Value(length, first) = wire::u32_at(s, at) else {
+        return StringRead::Refused(wire::cut(s, at, 4));
+    };
+    if most < length {
+        return StringRead::Refused(Refusal {
+            number: wire::numbers::BAD_LENGTH,
+            place: at,
+        });
+    }
+    match wire::part_at(s, first, length as usize) {
+        Part::Next(next) => StringRead::Whole(first, length, next),
+        Part::Refused(refusal) => StringRead::Refused(refusal),
+    }
+}
+
+// The index of the first byte that is not printable; the length where all are.
+pub fn first_unprintable(s: &[u8]) -> usize
+    ensures { λ r. ⌜ r ≡ unprintable (now (s .entry)) ⌝ }
+{
+    let mut i: usize = 0;
+    while i < s.len() {
+        if s[i] < 32 {
+            return i;
+        }
+        if 126 < s[i] {
+            return i;
+        }
+        i += 1;
+    }
+    i
+}
+
+// A name or a symbol: a 16-bit length from 1 to most, and printable characters.
+pub fn text_at(s: &[u8], at: usize, most: u64) -> Part
+    ensures { λ r. ⌜ r ≡ ended (text most) (now (s .entry)) at ⌝ }
+{
+    let Number::Value(length, first) = wire::u16_at(s, at) else {
+        return Part::Refused(wire::cut(s, at, 2));
+    };
+    if length == 0 {
+        return Part::Refused(Refusal {
+            number: wire::numbers::BAD_LENGTH,
+            place: at,
+        });
+    }
+    if most < length {
+        return Part::Refused(Refusal {
+            number: wire::numbers::BAD_LENGTH,
+            place: at,
+        });
+    }
+    let Part::Next(next) = wire::part_at(s, first, length as usize) else {
+        return Part::Refused(wire::cut(s, first, length as usize));
+    };
+    let printable = first_unprintable(wire::between(s, first, next));
+    if printable as u64 != length {
+        return Part::Refused(Refusal {
+            number: wire::numbers::NOT_PRINTABLE,
+            place: first + printable,
+        });
+    }
+    Part::Next(next)
+}
+
+pub fn denomination_at(s: &[u8], at: usize) -> Part
+    ensures { λ r. ⌜ r ≡ ended denomination (now (s .entry)) at ⌝ }
+{
+    let Number::Value(value, next) = wire::u8_at(s, at) else {
+        return Part::Refused(wire::cut(s, at, 1));
+    };
+    if 32 < value {
+        return Part::Refused(Refusal {
+            number: wire::numbers::BAD_DENOMINATION,
+            place: at,
+        });
+    }
+    Part::Next(next)
+}
