@@ -5,17 +5,20 @@ use mathlib.Core.Path.{_≡_, refl, sym, ap, _∙_}
 use mathlib.Core.Bool.{Bool, true, false}
 use mathlib.Core.List.{List, [], _∷_, _++_}
 use native.Mathlib.Omega.{arith}
-use lib.ListN.{length, take, drop, getD, length-append}
+use native.Mathlib.Numerals.{add-one}
+use native.Mathlib.Nat.{zero-add, add-zero}
+use lib.ListN.{length, take, drop, getD, length-append, length-take, length-drop, drop-of-length-le}
 use lib.Seq.{drop-cons, take-at}
 use lib.Dec.{ltb, leb, eqb}
-use borrow.Author.Tests.{lt-leb, le-leb, eq-eqb, ne-eqb}
+use borrow.Author.Tests.{ltb-true, lt-leb, le-leb, eq-eqb, ne-eqb}
 use Rattle.wire.specs.declared.Refusal.{Refusal}
 use Rattle.wire.specs.declared.Part.{Part}
 use Rattle.wire.specs.declared.Part.the-variants as P
 use Rattle.wire.specs.declared.Number.{Number}
 use Rattle.wire.specs.declared.Number.the-variants as N
 use Rattle.wire.specs.Bytes.{Bytes, digits, length-digits, below, pick, part}
-use Rattle.wire.specs.Format.{Format, Result, took, refused, onResult, read, Stands, run-alike-read}
+use Rattle.wire.specs.Format.{Format, Result, took, refused, onResult, read, Stands, stands-part, run-alike-read}
+use Rattle.wire.specs.Numbers.{by, notPrintable}
 use Rattle.wire.specs.Fields.{blob, number}
 use Rattle.wire.specs.Series.{items, listRun, left, increasing}
 use Rattle.wire.specs.Order.{keyBelow}
@@ -24,10 +27,10 @@ use Rattle.wire.proofs.Bytes.{Slice, slice-bytes, found, below-digits, key-belo
 use Rattle.wire.proofs.Reading as W
 use Rattle.element.specs.Strings.{isPrintable, unprintable, string}
 use Rattle.element.specs.Owners.{Owners, owners, ownersFields}
-use Rattle.element.specs.Outputs.{OutputType, Output, output, TransferableOutput, transferableOutput, outputFields}
+use Rattle.element.specs.Outputs.{transferBody, OutputType, Output, output, TransferableOutput, transferableOutput, outputFields}
 use Rattle.element.specs.Inputs.{key, spend}
-use Rattle.element.specs.Operations.{terms, termsFields, Operation, operation}
-use Rattle.element.specs.Answer.{stringWhole, stringAt, ownersWhole, ownersAt, outputWhole, outputAt, transferableWhole, transferableAt, spendWhole, spendAt, termsWhole, termsAt, operationWhole, operationAt}
+use Rattle.element.specs.Operations.{OperationType, mintNft, transferNft, OperationOwners, terms, termsFields, recipients, action, Operation, operation, Fx, fxCode, fxOf, stateOutputs}
+use Rattle.element.specs.Answer.{stringWhole, stringAt, ownersWhole, ownersAt, transferWhole, transferBodyAt, outputWhole, outputAt, transferableWhole, transferableAt, spendWhole, spendAt, termsWhole, termsAt, operationWhole, operationAt}
 use Rattle.element.specs.declared.StringRead.{StringRead}
 use Rattle.element.specs.declared.StringRead.the-variants as S
 use Rattle.element.specs.declared.OwnersFields.{OwnersFields}
@@ -71,28 +74,28 @@ on-any : (any : Bool) (t x : Bool) → t ≡ pick any x true → (any ≡ true �
 on-any true t x e = (λ h. e, λ h. let z : _≡_ {A = ℕ} 0 1 = cc in absurd (omega arith))
 on-any false t x e = (λ h. let z : _≡_ {A = ℕ} 0 1 = cc in absurd (omega arith), λ h. e)
 
--- a part handed over whole, compared with the one before
-module _ {R : Type 0} (k : ℕ) (s : List ℕ) (at n : ℕ) (any : Bool) (prev a : List ℕ) (x : Part) (t : Bool) (z X Y : R)
-    (ha : a ≡ wholeAt k s at) (p : x ≡ ended (blob k) s at) (q : x ≡ P.Next n) (w : Stands s at (blob k .write (part at n s)) n) (e : t ≡ pick any (below prev a) true) where
-  -- (k is not 0)
-  same-test : 0 < k → below (pick any prev []) (part at n s) ≡ t
-  same-test h =
-      let i : a ≡ part at n s = W.whole-next k s at a x n ha p q in
+-- a part handed over whole, compared with the one before: w is its writing
+module _ {R : Type 0} (k : ℕ) (s : List ℕ) (at n : ℕ) (any : Bool) (prev a w : List ℕ) (x : Part) (t : Bool) (z X Y : R)
+    (h : Stands s at w n) (ha : a ≡ wholeAt k s at) (p : x ≡ ended (blob k) s at) (q : x ≡ P.Next n) (e : t ≡ pick any (below prev a) true) where
+  part-test : ltb 0 k ≡ true → below (pick any prev []) w ≡ t
+  part-test j =
+      let j′ : 0 < k = ltb-true 0 k j in
+      let i : a ≡ w = W.whole-next k s at a x n ha p q ∙ sym (stands-part s at w n h) in
       let (f, g) = on-any any t (below prev a) e in
       let len : length a ≡ k = ap length ha ∙ W.whole-length k s at in
       rw (← i) (first-below any prev a t f g (omega arith))
 
-  pub if-part-follows : t ≡ true → 0 < k → z ≡ X → z ≡ pick (below (pick any prev []) (part at n s)) X Y
-  if-part-follows h j i = rw (same-test j, h) i
+  pub if-part-follows : t ≡ true → ltb 0 k ≡ true → z ≡ X → z ≡ pick (below (pick any prev []) w) X Y
+  if-part-follows i j e = rw (part-test j, i) e
 
-  pub if-part-not : t ≡ false → 0 < k → z ≡ Y → z ≡ pick (below (pick any prev []) (part at n s)) X Y
-  if-part-not h j i = rw (same-test j, h) i
+  pub if-part-not : t ≡ false → ltb 0 k ≡ true → z ≡ Y → z ≡ pick (below (pick any prev []) w) X Y
+  if-part-not i j e = rw (part-test j, i) e
 
--- what is kept of a part handed over whole is its bytes
+-- what is kept of a part handed over whole is its writing
 module _ {A R : Type 0} (E : List ℕ → Format A) (step : List ℕ → A → List ℕ) (s : List ℕ) (n at : ℕ) (stop : Refusal → R) (go : List A → ℕ → R) where
-  pub part-again : (k p q : ℕ) (a : List ℕ) (x : Part) → a ≡ wholeAt k s p → x ≡ ended (blob k) s p → x ≡ P.Next q
-      → items E step a n .run s at stop go ≡ items E step (part p q s) n .run s at stop go
-  part-again k p q a x h i j = rw (W.whole-next k s p a x q h i j)
+  pub part-again : (k p q : ℕ) (a w : List ℕ) (x : Part) → Stands s p w q → a ≡ wholeAt k s p → x ≡ ended (blob k) s p → x ≡ P.Next q
+      → items E step a n .run s at stop go ≡ items E step w n .run s at stop go
+  part-again k p q a w x h ha i j = rw (W.whole-next k s p a x q ha i j ∙ sym (stands-part s p w q h))
 
 -- ---- a number compared with the one before
 
@@ -199,8 +202,135 @@ pub input-made : (i a c d p q n : ℕ) → p ≡ q → c ≡ d
     → I.Whole record { index = i; amount = a; «indices_at» = p; «indices_count» = c } n ≡ I.Whole record { index = i; amount = a; «indices_at» = q; «indices_count» = d } n
 input-made i a c d p q n e f = rw (e, f)
 
-pub ruleset reading = (W.on-value, W.on-short, W.on-part, W.on-cut, W.on-part-refused, W.on-list, W.on-list-refused, W.tests, on-owners-refused, on-string-refused)
+-- ---- characters: what is left of the search for one that is not printable, from index i on
 
-pub ruleset wholly = (W.on-value, W.on-part, W.on-parts, W.on-numbers, W.tests, string-made, on-string, on-owners, owners-made, input-made)
+unfoldable pub unprintableFrom : List ℕ → ℕ → ℕ
+unprintableFrom s i = i + unprintable (drop i s)
 
-pub ruleset spent = (W.on-value, W.on-part, W.on-numbers, W.if-eq, W.if-some, input-made)
+pub unprintable-all : (s : List ℕ) → unprintableFrom s 0 ≡ unprintable s
+unfolding unprintableFrom
+unprintable-all s = zero-add (unprintable s)
+
+module _ (s : List ℕ) (i y : ℕ) (w : unprintableFrom s i ≡ y) where
+  pub unprintable-low : i < length s → getD s i 0 < 32 → i ≡ y
+  unfolding unprintableFrom unprintable
+  unprintable-low h k = sym (add-zero i) ∙ rw (drop-cons s i 0 h, lt-leb 32 (getD s i 0) k) at w
+
+  pub unprintable-high : i < length s → 126 < getD s i 0 → i ≡ y
+  unfolding unprintableFrom unprintable
+  unprintable-high h k = sym (add-zero i) ∙ rw (drop-cons s i 0 h, le-leb 32 (getD s i 0) (omega arith), lt-leb (getD s i 0) 126 k) at w
+
+  pub unprintable-on : i < length s → 32 ≤ getD s i 0 → getD s i 0 ≤ 126 → unprintableFrom s (i + 1) ≡ y
+  unfolding unprintableFrom unprintable
+  unprintable-on h k l =
+      let e : i + suc (unprintable (drop (suc i) s)) ≡ y = rw (drop-cons s i 0 h, le-leb 32 (getD s i 0) k, le-leb (getD s i 0) 126 l) at w in
+      rw add-one (omega arith)
+
+  pub unprintable-end : length s ≤ i → i ≡ y
+  unfolding unprintableFrom unprintable
+  unprintable-end h = sym (add-zero i) ∙ rw (drop-of-length-le s h) at w
+
+pub ruleset characters = (unprintable-low, unprintable-high, unprintable-on, unprintable-end)
+
+pub unprintable-le : (s : List ℕ) → unprintable s ≤ length s
+unfolding unprintable
+unprintable-le [] = omega arith
+unprintable-le (x ∷ s) = go (isPrintable x) (unprintable-le s)
+  where
+    go : (t : Bool) → unprintable s ≤ length s → pick t (suc (unprintable s)) 0 ≤ suc (length s)
+    go true h = omega arith
+    go false h = omega arith
+
+-- the characters of a body that is wholly there, where the code has looked at them: u is the index of the first that is not printable
+module _ (k : ℕ) (s : List ℕ) (at : ℕ) (z X : Part) (x : Part) (n : ℕ) (b : List ℕ) (u : ℕ)
+    (p : x ≡ ended (blob k) s at) (q : x ≡ P.Next n) (c : Slice s) (e : b ≡ part at n s) (d : u ≡ unprintable b) where
+  body-length : length (part at n s) ≡ k
+  unfolding blob
+  body-length =
+      let (v, t) = W.next-took (blob k) s at x n p q in
+      ap length (sym (W.blob-part k s at v n t)) ∙ blob k .sound s at v n (slice-bytes s c) t .0 .0
+
+  pub if-printable : u ≡ k → z ≡ X → z ≡ pick (eqb (unprintable (part at n s)) (length (part at n s))) X (P.Refused (by notPrintable (at + unprintable (part at n s))))
+  if-printable h i = rw (← e, ← d, h, e, body-length, eq-eqb k k refl) i
+
+  pub if-unprintable : (u ≡ k → ⊥) → z ≡ P.Refused (by notPrintable (at + u)) → z ≡ pick (eqb (unprintable (part at n s)) (length (part at n s))) X (P.Refused (by notPrintable (at + unprintable (part at n s))))
+  if-unprintable h i = rw (body-length, ← e, ← d, ne-eqb u k h) i
+
+pub unprintable-room : (s b : List ℕ) (a e u : ℕ) → b ≡ part a e s → u ≡ unprintable b → u ≤ length s - a
+unprintable-room s b a e u h k =
+    omega (arith, k, unprintable-le b, ap length h, length-take (e - a) (drop a s), length-drop a s)
+
+-- ---- outputs
+
+-- what is made of owners' numbers that are known to be equal
+pub mint-made : (w u : OwnersFields) (n : ℕ) → w ≡ u → O.Whole (F.SecpMint w) n ≡ O.Whole (F.SecpMint u) n
+mint-made w u n e = rw e
+
+pub transfer-made : (a : ℕ) (w u : OwnersFields) (n : ℕ) → w ≡ u → O.Whole (F.SecpTransfer a w) n ≡ O.Whole (F.SecpTransfer a u) n
+transfer-made a w u n e = rw e
+
+pub nft-mint-made : (g : ℕ) (w u : OwnersFields) (n : ℕ) → w ≡ u → O.Whole (F.NftMint g w) n ≡ O.Whole (F.NftMint g u) n
+nft-mint-made g w u n e = rw e
+
+pub output-made : (f g : OutputFields) (n : ℕ) → f ≡ g → O.Whole f n ≡ O.Whole g n
+output-made f g n e = rw e
+
+module _ {R : Type 0} (s : List ℕ) (at : ℕ) (z : R) (stop : Refusal → R) (go : ℕ × Owners → ℕ → R) (x : OutputRead) (p : x ≡ transferBodyAt s at) where
+  pub on-transfer : (f : OutputFields) (n : ℕ) → x ≡ O.Whole f n → ((v : ℕ × Owners) → f ≡ F.SecpTransfer (v .0) (ownersFields n (v .1)) → z ≡ go v n)
+      → z ≡ transferBody .run s at stop go
+  on-transfer f n q e =
+      let (v, m, t, i) = answer-took transferBody s at O.Refused transferWhole x p (O.Whole f n) q (λ e i. let z : _≡_ {A = ℕ} 0 1 = cc in omega arith) in
+      let em : m ≡ n = cc in
+      let ef : f ≡ F.SecpTransfer (v .0) (ownersFields m (v .1)) = cc in
+      e v (ef ∙ ap (λ k. F.SecpTransfer (v .0) (ownersFields k (v .1))) em) ∙ sym (W.run-took transferBody s at stop go v n (t ∙ ap (took v) em))
+
+  pub on-transfer-refused : (e : Refusal) → x ≡ O.Refused e → z ≡ stop e → z ≡ transferBody .run s at stop go
+  on-transfer-refused e q r =
+      let (d, t, w) = answer-refused transferBody s at O.Refused transferWhole x p (O.Refused e) q (λ v m i. let z : _≡_ {A = ℕ} 0 1 = cc in omega arith) in
+      let i : d ≡ e = cc in
+      r ∙ ap stop (sym i) ∙ sym (W.run-refused transferBody s at stop go d t)
+
+-- an output of a list: where its writing stands
+module _ {R : Type 0} (s : List ℕ) (at : ℕ) (z : R) (stop : Refusal → R) (x : OutputRead) where
+  module _ (go : TransferableOutput → ℕ → R) (p : x ≡ transferableAt s at) where
+    pub on-transferable : (f : OutputFields) (n : ℕ) → x ≡ O.Whole f n → Slice s → ((v : TransferableOutput) → Stands s at (transferableOutput .write v) n → z ≡ go v n)
+        → z ≡ transferableOutput .run s at stop go
+    on-transferable f n q b e =
+        let (v, m, t, i) = answer-took transferableOutput s at O.Refused (transferableWhole at) x p (O.Whole f n) q (λ e i. let z : _≡_ {A = ℕ} 0 1 = cc in omega arith) in
+        let em : m ≡ n = cc in
+        let u = t ∙ ap (took v) em in
+        e v (transferableOutput .sound s at v n (slice-bytes s b) u .1) ∙ sym (W.run-took transferableOutput s at stop go v n u)
+
+    pub on-transferable-refused : (e : Refusal) → x ≡ O.Refused e → z ≡ stop e → z ≡ transferableOutput .run s at stop go
+    on-transferable-refused e q r =
+        let (d, t, w) = answer-refused transferableOutput s at O.Refused (transferableWhole at) x p (O.Refused e) q (λ v m i. let z : _≡_ {A = ℕ} 0 1 = cc in omega arith) in
+        let i : d ≡ e = cc in
+        r ∙ ap stop (sym i) ∙ sym (W.run-refused transferableOutput s at stop go d t)
+
+  module _ (types : List OutputType) (go : Output → ℕ → R) (p : x ≡ outputAt types s at) where
+    pub on-output : (f : OutputFields) (n : ℕ) → x ≡ O.Whole f n → Slice s → ((v : Output) → Stands s at (output types .write v) n → z ≡ go v n) → z ≡ output types .run s at stop go
+    on-output f n q b e =
+        let (v, m, t, i) = answer-took (output types) s at O.Refused (outputWhole at) x p (O.Whole f n) q (λ e i. let z : _≡_ {A = ℕ} 0 1 = cc in omega arith) in
+        let em : m ≡ n = cc in
+        let u = t ∙ ap (took v) em in
+        e v (output types .sound s at v n (slice-bytes s b) u .1) ∙ sym (W.run-took (output types) s at stop go v n u)
+
+    pub on-output-refused : (e : Refusal) → x ≡ O.Refused e → z ≡ stop e → z ≡ output types .run s at stop go
+    on-output-refused e q r =
+        let (d, t, w) = answer-refused (output types) s at O.Refused (outputWhole at) x p (O.Refused e) q (λ v m i. let z : _≡_ {A = ℕ} 0 1 = cc in omega arith) in
+        let i : d ≡ e = cc in
+        r ∙ ap stop (sym i) ∙ sym (W.run-refused (output types) s at stop go d t)
+
+-- ---- lists of no order: what is left does not hang on the element before
+
+pub unordered-again : {A R : Type 0} (F : Format A) (s : List ℕ) (n at : ℕ) (stop : Refusal → R) (go : List A → ℕ → R) (p q : List ℕ)
+    → items (λ prev. F) (left (λ prev. F)) p n .run s at stop go ≡ items (λ prev. F) (left (λ prev. F)) q n .run s at stop go
+unfolding items listRun
+unordered-again F s zero at stop go p q = refl
+unordered-again F s (suc n) at stop go p q = refl
+
+-- ---- rulesets: a chain up to a refusal, and one that went through to its end
+
+pub ruleset reading = (W.on-value, W.on-short, W.on-part, W.on-cut, W.on-part-refused, W.on-list, W.on-list-refused, W.tests, on-owners-refused, on-string-refused, on-transfer-refused)
+
+pub ruleset wholly = (W.on-value, W.on-part, W.on-parts, W.on-numbers, W.tests, string-made, on-string, on-owners, on-transfer, owners-made, input-made, mint-made, transfer-made, nft-mint-made, output-made)

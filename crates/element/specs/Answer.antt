@@ -8,13 +8,14 @@ use Rattle.wire.specs.Bytes.{pick, below}
 use Rattle.wire.specs.Order.{keyBelow}
 use Rattle.element.specs.Strings.{string}
 use Rattle.element.specs.Owners.{Owners, owners, ownersFields}
-use Rattle.element.specs.Outputs.{OutputType, Output, output, TransferableOutput, transferableOutput, outputFields}
+use Rattle.element.specs.Outputs.{transferBody, OutputType, Output, output, TransferableOutput, transferableOutput, outputFields}
 use Rattle.element.specs.Inputs.{spend}
-use Rattle.element.specs.Operations.{terms, termsFields, Operation, operation, operationFields}
+use Rattle.element.specs.Operations.{OperationType, OperationOwners, terms, termsFields, recipients, action, Operation, operation, operationFields}
 use Rattle.element.specs.declared.StringRead.{StringRead}
 use Rattle.element.specs.declared.StringRead.the-variants as S
 use Rattle.element.specs.declared.OwnersRead.{OwnersRead}
 use Rattle.element.specs.declared.OwnersRead.the-variants as W
+use Rattle.element.specs.declared.OutputFields.the-variants as F
 use Rattle.element.specs.declared.OutputRead.{OutputRead}
 use Rattle.element.specs.declared.OutputRead.the-variants as O
 use Rattle.element.specs.declared.InputRead.{InputRead}
@@ -36,6 +37,13 @@ ownersWhole v n = W.Whole (ownersFields n v) n
 
 abbrev pub ownersAt : List ℕ → ℕ → OwnersRead
 ownersAt s at = owners .run s at W.Refused ownersWhole
+
+-- type 7 behind its type
+abbrev pub transferWhole : ℕ × Owners → ℕ → OutputRead
+transferWhole v n = O.Whole (F.SecpTransfer (v .0) (ownersFields n (v .1))) n
+
+abbrev pub transferBodyAt : List ℕ → ℕ → OutputRead
+transferBodyAt s at = transferBody .run s at O.Refused transferWhole
 
 abbrev pub outputWhole : ℕ → Output → ℕ → OutputRead
 outputWhole at v n = O.Whole (outputFields at n v) n
@@ -62,6 +70,21 @@ termsWhole at v n = T.Whole (termsFields at n v) n
 
 abbrev pub termsAt : List ℕ → ℕ → TermsRead
 termsAt s at = terms .run s at T.Refused (termsWhole at)
+
+-- behind the pairs, whose place and number are known
+abbrev pub actionWhole : ℕ → ℕ → ℕ → (k : OperationType) × ((List ℕ × (ℕ × List ℕ)) × OperationOwners k) → ℕ → OperationRead
+actionWhole place count at (k, (v, o)) n =
+    P.Whole
+    record {
+      «outputs_at» = place;
+      «outputs_count» = count;
+      terms = termsFields (at + 4) (at + 4 + length (terms .write v)) v;
+      recipients = recipients (at + 4 + length (terms .write v) + 4) n (k, o);
+    }
+    n
+
+abbrev pub actionAt : ℕ → ℕ → List ℕ → ℕ → OperationRead
+actionAt place count s at = action .run s at P.Refused (actionWhole place count at)
 
 abbrev pub operationWhole : ℕ → Operation → ℕ → OperationRead
 operationWhole at v n = P.Whole (operationFields at n v) n

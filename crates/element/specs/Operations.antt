@@ -49,21 +49,26 @@ unfoldable pub terms : Format (List ℕ × (ℕ × List ℕ))
 unfolding andThen indices
 terms = andThen indices (λ list. andThen (number 4) (λ group. payload))
 
+-- type, terms, and what the type has
+unfoldable pub action : Format ((k : OperationType) × ((List ℕ × (ℕ × List ℕ)) × OperationOwners k))
+unfolding andThen tag counted
+action =
+    andThen (tag operationCode operationType operationType-code (number 4) (mintNft ∷ transferNft ∷ []) unknownType) (λ k.
+    andThen terms (λ v. operationOwners k))
+
 pub record Operation : Type 0 where
   pub asset : List ℕ
   pub outputs : List (List ℕ × ℕ)
   pub terms : List ℕ × (ℕ × List ℕ)
   pub owners : (k : OperationType) × OperationOwners k
 
--- asset id, the outputs consumed as (id, index) pairs, type, terms, and what the type has
+-- asset id, the outputs consumed as (id, index) pairs, and the action
 unfoldable pub operation : Format Operation
-unfolding named andThen guard counted key tag terms
+unfolding named andThen counted
 operation =
     named
     (andThen (blob 32) (λ asset.
-    andThen (counted (number 4) (above key)) (λ pairs.
-    andThen (tag operationCode operationType operationType-code (number 4) (mintNft ∷ transferNft ∷ []) unknownType) (λ k.
-    andThen terms (λ v. operationOwners k)))))
+    andThen (counted (number 4) (above key)) (λ pairs. action)))
     (λ (asset, (pairs, (k, (v, o)))). record { asset = asset; outputs = pairs; terms = v; owners = (k, o) })
     (λ v. (v .asset, (v .outputs, (v .owners .0, (v .terms, v .owners .1)))))
     (λ v h. refl)
@@ -78,12 +83,12 @@ abbrev pub fxCode : Fx → ℕ
 fxCode secpFx = 0
 fxCode nftFx = 1
 
-abbrev pub fx : ℕ → Fx
-fx n = pick (eqb n 0) secpFx nftFx
+abbrev pub fxOf : ℕ → Fx
+fxOf n = pick (eqb n 0) secpFx nftFx
 
-pub fx-code : (k : Fx) → fx (fxCode k) ≡ k
-fx-code secpFx = refl
-fx-code nftFx = refl
+pub fxOf-code : (k : Fx) → fxOf (fxCode k) ≡ k
+fxOf-code secpFx = refl
+fxOf-code nftFx = refl
 
 abbrev pub fxOutputs : Fx → List OutputType
 fxOutputs secpFx = secpMint ∷ secpTransfer ∷ []
@@ -91,17 +96,22 @@ fxOutputs nftFx = nftMint ∷ nftTransfer ∷ []
 
 unfoldable pub fxId : Format Fx
 unfolding tag
-fxId = tag fxCode fx fx-code (number 4) (secpFx ∷ nftFx ∷ []) unknownType
+fxId = tag fxCode fxOf fxOf-code (number 4) (secpFx ∷ nftFx ∷ []) unknownType
 
 pub record InitialState : Type 0 where
   pub fx : Fx
   pub outputs : List Output
 
+-- the outputs that an FxID allows, none below the one before
+unfoldable pub stateOutputs : Fx → Format (List Output)
+unfolding counted
+stateOutputs k = counted (number 4) (notBelow (output (fxOutputs k)))
+
 -- an initial state whose FxID is above the bytes `before`
 unfoldable pub initialStateAfter : List ℕ → Format InitialState
-unfolding named andThen guard fxId counted output
+unfolding named andThen guard fxId
 initialStateAfter before =
-    named (andThen (above fxId before) (λ k. counted (number 4) (notBelow (output (fxOutputs k)))))
+    named (andThen (above fxId before) stateOutputs)
     (λ (k, list). record { fx = k; outputs = list })
     (λ v. (v .fx, v .outputs))
     (λ v h. refl)

@@ -43,9 +43,13 @@ OutputBody secpTransfer = ℕ × Owners
 OutputBody nftMint = ℕ × Owners
 OutputBody nftTransfer = ℕ × (List ℕ × Owners)
 
+unfoldable pub transferBody : Format (ℕ × Owners)
+unfolding andThen amount
+transferBody = andThen amount (λ n. owners)
+
 abbrev pub outputBody : (k : OutputType) → Format (OutputBody k)
 outputBody secpMint = owners
-outputBody secpTransfer = andThen amount (λ n. owners)
+outputBody secpTransfer = transferBody
 outputBody nftMint = andThen (number 4) (λ group. owners)
 outputBody nftTransfer = andThen (number 4) (λ group. andThen payload (λ p. owners))
 
@@ -54,7 +58,7 @@ Output = (k : OutputType) × OutputBody k
 
 -- an output of one of the types listed
 unfoldable pub output : List OutputType → Format Output
-unfolding andThen tag amount
+unfolding andThen tag
 output types = andThen (tag outputCode outputType outputType-code (number 4) types unknownType) outputBody
 
 -- ---- an output with its asset id; base and exported outputs take type 7 only

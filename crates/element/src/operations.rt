@@ -3,8 +3,8 @@ ghost use mathlib.Core.Path.{_≡_};
 ghost use Rattle.wire.specs.Series.{increasing, series, unordered};
 ghost use Rattle.wire.specs.Answer.{ended};
 ghost use Rattle.element.specs.Inputs.{key};
-ghost use Rattle.element.specs.Operations.{operation, initialState};
-ghost use Rattle.element.specs.Answer.{termsAt, operationAt};
+ghost use Rattle.element.specs.Operations.{operation, fxOf, stateOutputs, initialState};
+ghost use Rattle.element.specs.Answer.{termsAt, actionAt, operationAt};
 use crate::OperationFields;
 use crate::OperationRead;
 use crate::OwnersRead;
@@ -81,4 +81,154 @@ pub fn terms_at(s: &[u8], at: usize) -> TermsRead
             }
         }
     }
+}
+
+// Asset id, (id, index) pairs, type, terms, and what the type has.
+pub fn operation_at(s: &[u8], at: usize) -> OperationRead
+    ensures { λ r. ⌜ r ≡ operationAt (now (s .entry)) at ⌝ }
+{
+    let Part::Next(p) = wire::part_at(s, at, 32) else {
+        return OperationRead::Refused(wire::cut(s, at, 32));
+    };
+    let Number::Value(outputs_count, outputs_at) = wire::u32_at(s, p) else {
+        return OperationRead::Refused(wire::cut(s, p, 4));
+    };
+    match pairs_from(s, outputs_at, outputs_count) {
+        Part::Refused(refusal) => OperationRead::Refused(refusal),
+        Part::Next(t) => action_at(s, t, outputs_at, outputs_count),
+    }
+}
+
+// What follows an operation's pairs.
+fn action_at(s: &[u8], at: usize, outputs_at: usize, outputs_count: u64) -> OperationRead
+    ensures { λ r. ⌜ r ≡ actionAt «outputs_at» «outputs_count» (now (s .entry)) at ⌝ }
+{
+    let Number::Value(kind, i) = wire::u32_at(s, at) else {
+        return OperationRead::Refused(wire::cut(s, at, 4));
+    };
+    if kind == 12 {
+        match terms_at(s, i) {
+            TermsRead::Refused(refusal) => {
+                return OperationRead::Refused(refusal);
+            }
+            TermsRead::Whole(terms, o) => {
+                let Number::Value(owners_count, owners_at) = wire::u32_at(s, o) else {
+                    return OperationRead::Refused(wire::cut(s, o, 4));
+                };
+                match owners::owners_list_at(s, owners_at, owners_count) {
+                    Part::Refused(refusal) => {
+                        return OperationRead::Refused(refusal);
+                    }
+                    Part::Next(next) => {
+                        return OperationRead::Whole(
+                            OperationFields {
+                                outputs_at,
+                                outputs_count,
+                                terms,
+                                recipients: Recipients::Mint {
+                                    owners_at,
+                                    owners_count,
+                                },
+                            },
+                            next,
+                        );
+                    }
+                }
+            }
+        }
+    }
+    if kind != 13 {
+        return OperationRead::Refused(Refusal {
+            number: wire::numbers::UNKNOWN_TYPE,
+            place: at,
+        });
+    }
+    match terms_at(s, i) {
+        TermsRead::Refused(refusal) => OperationRead::Refused(refusal),
+        TermsRead::Whole(terms, o) => match owners::owners_at(s, o) {
+            OwnersRead::Refused(refusal) => OperationRead::Refused(refusal),
+            OwnersRead::Whole(owners, next) => OperationRead::Whole(
+                OperationFields {
+                    outputs_at,
+                    outputs_count,
+                    terms,
+                    recipients: Recipients::Transfer(owners),
+                },
+                next,
+            ),
+        },
+    }
+}
+
+// So many operations from start, of no order.
+pub fn operations_from(s: &[u8], start: usize, count: u64) -> Part
+    ensures { λ r. ⌜ r ≡ ended (unordered operation count) (now (s .entry)) start ⌝ }
+{
+    let mut left = count;
+    let mut at = start;
+    while 0 < left {
+        match operation_at(s, at) {
+            OperationRead::Refused(refusal) => {
+                return Part::Refused(refusal);
+            }
+            OperationRead::Whole(_, next) => {
+                at = next;
+                left -= 1;
+            }
+        }
+    }
+    Part::Next(at)
+}
+
+// The outputs of an initial state: their count, and as many of the types that its FxID allows.
+pub fn state_outputs_at(s: &[u8], at: usize, fx: u64) -> Part
+    ensures { λ r. ⌜ r ≡ ended (stateOutputs (fxOf fx)) (now (s .entry)) at ⌝ }
+{
+    let Number::Value(count, first) = wire::u32_at(s, at) else {
+        return Part::Refused(wire::cut(s, at, 4));
+    };
+    if fx == 0 {
+        return outputs::secp_from(s, first, count);
+    }
+    outputs::nft_from(s, first, count)
+}
+
+// So many initial states from start, whose FxIDs increase.
+pub fn states_from(s: &[u8], start: usize, count: u64) -> Part
+    ensures { λ r. ⌜ r ≡ ended (series initialState count) (now (s .entry)) start ⌝ }
+{
+    let mut left = count;
+    let mut any = false;
+    let mut last: u64 = 0;
+    let mut at = start;
+    while 0 < left {
+        let Number::Value(fx, o) = wire::u32_at(s, at) else {
+            return Part::Refused(wire::cut(s, at, 4));
+        };
+        if 1 < fx {
+            return Part::Refused(Refusal {
+                number: wire::numbers::UNKNOWN_TYPE,
+                place: at,
+            });
+        }
+        if inputs::number_follows(any, last, fx) {
+            match state_outputs_at(s, o, fx) {
+                Part::Refused(refusal) => {
+                    return Part::Refused(refusal);
+                }
+                Part::Next(next) => {
+                    any = true;
+                    last = fx;
+                    at = next;
+                    left -= 1;
+                }
+            }
+        } else {
+            return Part::Refused(Refusal {
+                number: wire::numbers::OUT_OF_ORDER,
+                place: at,
+            });
+        }
+    }
+    Part::Next(at)
 }

@@ -1,11 +1,10 @@
 // Outputs of the four types, and lists of them.
 ghost use mathlib.Core.Path.{_≡_};
-ghost use mathlib.Core.List.{[], _∷_};
 ghost use Rattle.wire.specs.Series.{nondecreasing};
 ghost use Rattle.wire.specs.Answer.{ended};
-ghost use Rattle.element.specs.Outputs.{secpTransfer, output, transferableOutput};
+ghost use Rattle.element.specs.Outputs.{output, transferableOutput};
 ghost use Rattle.element.specs.Operations.{secpFx, nftFx, fxOutputs};
-ghost use Rattle.element.specs.Answer.{outputAt, transferableAt};
+ghost use Rattle.element.specs.Answer.{transferBodyAt, outputAt, transferableAt};
 use crate::OutputFields;
 use crate::OutputRead;
 use crate::OwnersRead;
@@ -16,26 +15,17 @@ use wire::Number;
 use wire::Part;
 use wire::Refusal;
 
-// Type 7: type, amount, owners.
-pub fn transfer_at(s: &[u8], at: usize) -> OutputRead
-    ensures { λ r. ⌜ r ≡ outputAt (secpTransfer ∷ []) (now (s .entry)) at ⌝ }
+// Type 7 behind its type: amount, owners.
+pub fn transfer_body_at(s: &[u8], at: usize) -> OutputRead
+    ensures { λ r. ⌜ r ≡ transferBodyAt (now (s .entry)) at ⌝ }
 {
-    let Number::Value(kind, a) = wire::u32_at(s, at) else {
-        return OutputRead::Refused(wire::cut(s, at, 4));
-    };
-    if kind != 7 {
-        return OutputRead::Refused(Refusal {
-            number: wire::numbers::UNKNOWN_TYPE,
-            place: at,
-        });
-    }
-    let Number::Value(amount, o) = wire::u64_at(s, a) else {
-        return OutputRead::Refused(wire::cut(s, a, 8));
+    let Number::Value(amount, o) = wire::u64_at(s, at) else {
+        return OutputRead::Refused(wire::cut(s, at, 8));
     };
     if amount == 0 {
         return OutputRead::Refused(Refusal {
             number: wire::numbers::ZERO_AMOUNT,
-            place: a,
+            place: at,
         });
     }
     match owners::owners_at(s, o) {
@@ -64,7 +54,16 @@ pub fn secp_at(s: &[u8], at: usize) -> OutputRead
             }
         }
     }
-    transfer_at(s, at)
+    if kind != 7 {
+        return OutputRead::Refused(Refusal {
+            number: wire::numbers::UNKNOWN_TYPE,
+            place: at,
+        });
+    }
+    match transfer_body_at(s, a) {
+        OutputRead::Whole(fields, next) => OutputRead::Whole(fields, next),
+        OutputRead::Refused(refusal) => OutputRead::Refused(refusal),
+    }
 }
 
 // Under FxID 1: type 10, group, owners; or type 11, group, payload, owners.
@@ -117,10 +116,19 @@ pub fn nft_at(s: &[u8], at: usize) -> OutputRead
 pub fn transferable_at(s: &[u8], at: usize) -> OutputRead
     ensures { λ r. ⌜ r ≡ transferableAt (now (s .entry)) at ⌝ }
 {
-    let Part::Next(o) = wire::part_at(s, at, 32) else {
+    let Part::Next(k) = wire::part_at(s, at, 32) else {
         return OutputRead::Refused(wire::cut(s, at, 32));
     };
-    match transfer_at(s, o) {
+    let Number::Value(kind, a) = wire::u32_at(s, k) else {
+        return OutputRead::Refused(wire::cut(s, k, 4));
+    };
+    if kind != 7 {
+        return OutputRead::Refused(Refusal {
+            number: wire::numbers::UNKNOWN_TYPE,
+            place: k,
+        });
+    }
+    match transfer_body_at(s, a) {
         OutputRead::Whole(fields, next) => OutputRead::Whole(fields, next),
         OutputRead::Refused(refusal) => OutputRead::Refused(refusal),
     }

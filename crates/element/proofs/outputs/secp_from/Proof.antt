@@ -1,75 +1,40 @@
+-- `element::outputs::secp_from` meets its contract. The invariant: the reading of what is left, from here, is the whole reading; what is kept of the output before is its bytes.
+-- Assumes nothing.
 use borrow.Author.Needs.{needs}
+use mathlib.Core.Path.{_≡_}
+use Rattle.wire.specs.Bytes.{part}
+use Rattle.wire.specs.Sequence.{guard}
+use Rattle.wire.specs.Series.{notBelow, seriesFrom, nondecreasing}
+use Rattle.wire.specs.Answer.{ended}
+use Rattle.wire.proofs.Reading.{turn, list-start, list-end}
+use Rattle.element.specs.Outputs.{output}
+use Rattle.element.specs.Operations.{secpFx, fxOutputs}
+use Rattle.element.proofs.Reading.{on-output, on-output-refused}
 use Rattle.element.proofs.outputs.secp_from.Statement.{statement}
 use Rattle.element.proofs.outputs.secp_from.Tie as tie
-use Rattle.element.proofs.outputs.secp_from.Reads as reads
-use Rattle.element.proofs.outputs.secp_from.Lts as lts
-use Rattle.element.proofs.outputs.secp_at.Reads as secp-at-reads
-use Rattle.wire.proofs.parts_below.Reads as parts-below-reads
 
 abbrev Inv-loop : tie.InvT-loop
-Inv-loop s start count left₀ prev₀ at₀ left prev at = ?
+Inv-loop s start count left₀ prev₀ at₀ left prev at =
+    ended (seriesFrom (notBelow (output (fxOutputs secpFx))) (part prev at s) left) s at ≡ ended (nondecreasing (output (fxOutputs secpFx)) count) s start
 
 abbrev μ-loop : tie.MeasureT-loop
-μ-loop s start count left₀ prev₀ at₀ left prev at = ?
-
--- src/outputs.rt:164:5
-loop-holds : tie.Need-loop-holds Inv-loop μ-loop
-loop-holds c = search needs
-
--- src/outputs.rt:165:15
-secp-at-requires : tie.Need-secp-at-requires Inv-loop μ-loop
-secp-at-requires c κs = search needs
-
--- src/outputs.rt:166:33
-enum-known-refusal : tie.Need-enum-known-refusal Inv-loop μ-loop
-enum-known-refusal c = search needs
-
--- src/outputs.rt:167:17
-returns : tie.Need-returns Inv-loop μ-loop
-returns c = search needs
-
--- src/outputs.rt:169:34
-enum-known-next : tie.Need-enum-known-next Inv-loop μ-loop
-enum-known-next c = search needs
-
--- src/outputs.rt:170:20
-parts-below-requires : tie.Need-parts-below-requires Inv-loop μ-loop
-parts-below-requires c κs = search needs
-
--- src/outputs.rt:171:21
-returns-2 : tie.Need-returns-2 Inv-loop μ-loop
-returns-2 c = search needs
-
--- src/outputs.rt:178:17
-sub-left : tie.Need-sub-left Inv-loop μ-loop
-sub-left c = search needs
-
--- src/outputs.rt:164:5
-loop-less : tie.Need-loop-less Inv-loop μ-loop
-loop-less c = search needs
-
--- src/outputs.rt:164:5
-loop-again : tie.Need-loop-again Inv-loop μ-loop
-loop-again c = search needs
-
--- src/outputs.rt:158:1
-returns-3 : tie.Need-returns-3 Inv-loop μ-loop
-returns-3 c = search needs
+μ-loop s start count left₀ prev₀ at₀ left prev at = left
 
 pub secp-from-spec : {M : Type 1} → statement M
+unfolding guard
 secp-from-spec =
     tie.close
     (tie.spec
     Inv-loop
     μ-loop
-    loop-holds
-    secp-at-requires
-    enum-known-refusal
-    returns
-    enum-known-next
-    parts-below-requires
-    returns-2
-    sub-left
-    loop-less
-    loop-again
-    returns-3)
+    (λ c. search list-start)  -- loop-holds
+    (λ c κs. search needs)  -- secp-at-requires
+    (λ c. search needs)  -- enum-known-refusal
+    (λ c. search (turn, on-output-refused) depth 8)  -- returns
+    (λ c. search needs)  -- enum-known-next
+    (λ c κs. search needs)  -- parts-below-requires
+    (λ c. search (turn, on-output) depth 8)  -- returns-2
+    (λ c. search needs)  -- sub-left
+    (λ c. search needs)  -- loop-less
+    (λ c. search (turn, on-output) depth 8)  -- loop-again
+    (λ c. search list-end))  -- returns-3

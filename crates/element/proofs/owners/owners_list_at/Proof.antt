@@ -1,51 +1,21 @@
+-- `element::owners::owners_list_at` meets its contract. The invariant: the reading of what is left, from here, is the whole reading.
+-- Assumes nothing.
 use borrow.Author.Needs.{needs}
+use mathlib.Core.Path.{_≡_, refl}
+use Rattle.wire.specs.Series.{unordered}
+use Rattle.wire.specs.Answer.{ended}
+use Rattle.wire.proofs.Reading.{list-on, list-end}
+use Rattle.element.specs.Owners.{owners}
+use Rattle.element.proofs.Reading.{on-owners, on-owners-refused, unordered-again}
 use Rattle.element.proofs.owners.owners_list_at.Statement.{statement}
 use Rattle.element.proofs.owners.owners_list_at.Tie as tie
-use Rattle.element.proofs.owners.owners_list_at.Reads as reads
-use Rattle.element.proofs.owners.owners_list_at.Lts as lts
-use Rattle.element.proofs.owners.owners_at.Reads as owners-at-reads
 
 abbrev Inv-loop : tie.InvT-loop
-Inv-loop s start count left₀ at₀ left at = ?
+Inv-loop s start count left₀ at₀ left at =
+    ended (unordered owners left) s at ≡ ended (unordered owners count) s start
 
 abbrev μ-loop : tie.MeasureT-loop
-μ-loop s start count left₀ at₀ left at = ?
-
--- src/owners.rt:90:5
-loop-holds : tie.Need-loop-holds Inv-loop μ-loop
-loop-holds c = search needs
-
--- src/owners.rt:91:15
-owners-at-requires : tie.Need-owners-at-requires Inv-loop μ-loop
-owners-at-requires c κs = search needs
-
--- src/owners.rt:92:33
-enum-known-refusal : tie.Need-enum-known-refusal Inv-loop μ-loop
-enum-known-refusal c = search needs
-
--- src/owners.rt:93:17
-returns : tie.Need-returns Inv-loop μ-loop
-returns c = search needs
-
--- src/owners.rt:95:34
-enum-known-next : tie.Need-enum-known-next Inv-loop μ-loop
-enum-known-next c = search needs
-
--- src/owners.rt:97:17
-sub-left : tie.Need-sub-left Inv-loop μ-loop
-sub-left c = search needs
-
--- src/owners.rt:90:5
-loop-less : tie.Need-loop-less Inv-loop μ-loop
-loop-less c = search needs
-
--- src/owners.rt:90:5
-loop-again : tie.Need-loop-again Inv-loop μ-loop
-loop-again c = search needs
-
--- src/owners.rt:85:1
-returns-2 : tie.Need-returns-2 Inv-loop μ-loop
-returns-2 c = search needs
+μ-loop s start count left₀ at₀ left at = left
 
 pub owners-list-at-spec : {M : Type 1} → statement M
 owners-list-at-spec =
@@ -53,12 +23,12 @@ owners-list-at-spec =
     (tie.spec
     Inv-loop
     μ-loop
-    loop-holds
-    owners-at-requires
-    enum-known-refusal
-    returns
-    enum-known-next
-    sub-left
-    loop-less
-    loop-again
-    returns-2)
+    (λ c. refl)  -- loop-holds
+    (λ c κs. search needs)  -- owners-at-requires
+    (λ c. search needs)  -- enum-known-refusal
+    (λ c. search (list-on, on-owners-refused) depth 6)  -- returns
+    (λ c. search needs)  -- enum-known-next
+    (λ c. search needs)  -- sub-left
+    (λ c. search needs)  -- loop-less
+    (λ c. search (list-on, on-owners, unordered-again) depth 6)  -- loop-again
+    (λ c. search list-end))  -- returns-2

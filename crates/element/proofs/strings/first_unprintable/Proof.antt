@@ -1,50 +1,20 @@
+-- `element::strings::first_unprintable` meets its contract. The invariant: what is left of the search, from index i on, is the whole.
+-- Assumes nothing.
 use borrow.Author.Needs.{needs}
+use Prim.Native.Nat.{_-_}
+use mathlib.Core.Path.{_≡_}
+use lib.ListN.{length}
+use Rattle.element.specs.Strings.{unprintable}
+use Rattle.element.proofs.Reading.{unprintableFrom, unprintable-all, characters}
 use Rattle.element.proofs.strings.first_unprintable.Statement.{statement}
 use Rattle.element.proofs.strings.first_unprintable.Tie as tie
-use Rattle.element.proofs.strings.first_unprintable.Reads as reads
-use Rattle.element.proofs.strings.first_unprintable.Lts as lts
 
 abbrev Inv-loop : tie.InvT-loop
-Inv-loop s i₀ i = ?
+Inv-loop s i₀ i =
+    unprintableFrom s i ≡ unprintable s
 
 abbrev μ-loop : tie.MeasureT-loop
-μ-loop s i₀ i = ?
-
--- src/strings.rt:36:5
-loop-holds : tie.Need-loop-holds Inv-loop μ-loop
-loop-holds c = search needs
-
--- src/strings.rt:37:12
-shared-slice-read-if1 : tie.Need-shared-slice-read-if1 Inv-loop μ-loop
-shared-slice-read-if1 c = search needs
-
--- src/strings.rt:38:13
-returns : tie.Need-returns Inv-loop μ-loop
-returns c = search needs
-
--- src/strings.rt:40:18
-shared-slice-read-if2 : tie.Need-shared-slice-read-if2 Inv-loop μ-loop
-shared-slice-read-if2 c = search needs
-
--- src/strings.rt:41:13
-returns-2 : tie.Need-returns-2 Inv-loop μ-loop
-returns-2 c = search needs
-
--- src/strings.rt:43:9
-add-i : tie.Need-add-i Inv-loop μ-loop
-add-i c = search needs
-
--- src/strings.rt:36:5
-loop-less : tie.Need-loop-less Inv-loop μ-loop
-loop-less c = search needs
-
--- src/strings.rt:36:5
-loop-again : tie.Need-loop-again Inv-loop μ-loop
-loop-again c = search needs
-
--- src/strings.rt:32:1
-returns-3 : tie.Need-returns-3 Inv-loop μ-loop
-returns-3 c = search needs
+μ-loop s i₀ i = length s - i
 
 pub first-unprintable-spec : {M : Type 1} → statement M
 first-unprintable-spec =
@@ -52,12 +22,12 @@ first-unprintable-spec =
     (tie.spec
     Inv-loop
     μ-loop
-    loop-holds
-    shared-slice-read-if1
-    returns
-    shared-slice-read-if2
-    returns-2
-    add-i
-    loop-less
-    loop-again
-    returns-3)
+    (λ c. unprintable-all _)  -- loop-holds
+    (λ c. search needs)  -- shared-slice-read-if1
+    (λ c. search characters)  -- returns
+    (λ c. search needs)  -- shared-slice-read-if2
+    (λ c. search characters)  -- returns-2
+    (λ c. search needs)  -- add-i
+    (λ c. search needs)  -- loop-less
+    (λ c. search characters)  -- loop-again
+    (λ c. search characters))  -- returns-3

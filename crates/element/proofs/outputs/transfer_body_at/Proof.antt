@@ -1,0 +1,24 @@
+-- `element::outputs::transfer_body_at` meets its contract.
+-- Assumes nothing.
+use borrow.Author.Needs.{needs}
+use Rattle.element.proofs.Reading.{reading, wholly}
+use Rattle.element.specs.Outputs.{transferBody}
+use Rattle.element.proofs.outputs.transfer_body_at.Statement.{statement}
+use Rattle.element.proofs.outputs.transfer_body_at.Tie as tie
+
+pub transfer-body-at-spec : {M : Type 1} → statement M
+unfolding transferBody
+transfer-body-at-spec =
+    tie.close
+    (tie.spec
+    (λ c κs. search needs)  -- u64-at-requires
+    (λ c. search needs)  -- enum-known-amount
+    (λ c. search needs)  -- enum-told
+    (λ c κs. search needs)  -- cut-requires
+    (λ c. search reading depth 12)  -- returns
+    (λ c. search reading depth 12)  -- returns-2
+    (λ c κs. search needs)  -- owners-at-requires
+    (λ c. search needs)  -- enum-known-owners
+    (λ c. search needs)  -- enum-known-refusal
+    (λ c. search wholly depth 12)  -- returns-3
+    (λ c. search reading depth 12))  -- returns-4
