@@ -4,4 +4,5 @@ pub mod Owners
 pub mod Outputs
 pub mod Inputs
 pub mod Operations
+pub mod Good
 pub mod Answer

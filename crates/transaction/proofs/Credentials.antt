@@ -41,7 +41,7 @@ module _ {R : Type 0} (s : List ℕ) (stop : Refusal → R) (go : ℕ → R) whe
 -- ---- lengths and places
 
 pub length-pieces : (ps : List Piece) (l : List (List ℕ)) → pieces ps .Good l → length (pieces ps .write l) ≡ size ps
-unfolding pieces size
+unfolding pieces size number
 length-pieces [] l h = refl
 length-pieces (due x v ∷ ps) l h = omega (arith, length-append (digits 4 v) (pieces ps .write l), length-digits 4 v, length-pieces ps l (h .1))
 length-pieces (signature ∷ ps) [] h = absurd h
@@ -76,7 +76,7 @@ by-front a b c d n j ea eb f g = go (decLe n j)
 -- two runs of the same pieces are the same outside the signatures
 pub pieces-outside : (ps : List Piece) (l m : List (List ℕ)) → pieces ps .Good l → pieces ps .Good m
     → (p j : ℕ) → Outside (places p ps) (p + j) → getD (pieces ps .write l) j 0 ≡ getD (pieces ps .write m) j 0
-unfolding pieces places
+unfolding pieces places number
 pieces-outside [] l m g h p j o = refl
 pieces-outside (due x v ∷ ps) l m g h p j o =
     by-front (digits 4 v) (digits 4 v) (pieces ps .write l) (pieces ps .write m) 4 j (length-digits 4 v) (length-digits 4 v) (λ k. refl)
@@ -91,7 +91,7 @@ pieces-outside (signature ∷ ps) (x ∷ l) (y ∷ m) g h p j o =
 -- at the k-th place stands the k-th signature
 pub slot-is : (ps : List Piece) (l : List (List ℕ)) → pieces ps .Good l → (pre : List ℕ) (p : ℕ) → length pre ≡ p
     → (k : ℕ) → k < length l → (z : List ℕ) → slotAt (pre ++ pieces ps .write l) (getD (places p ps) k 0) ≡ getD l k z
-unfolding pieces places slotAt
+unfolding pieces places slotAt number
 slot-is [] l h pre p e k b z = absurd (omega (arith, ap length h))
 slot-is (due x v ∷ ps) l h pre p e k b z =
     ap (λ (s : List ℕ). slotAt s (getD (places (p + 4) ps) k 0)) (sym (append-assoc pre (digits 4 v) (pieces ps .write l)))
@@ -182,14 +182,14 @@ Fitting (due x v ∷ ps) = (v < 256 ^ 4) × Fitting ps
 Fitting (signature ∷ ps) = Fitting ps
 
 pub blanks-good : (ps : List Piece) → Fitting ps → pieces ps .Good (blanks ps)
-unfolding pieces blanks
+unfolding pieces blanks number
 blanks-good [] h = refl
 blanks-good (due x v ∷ ps) h = ((h .0, eq-eqb v v refl), blanks-good ps (h .1))
 blanks-good (signature ∷ ps) h = ((length-blank, bytes-blank), blanks-good ps h)
 
-code-small : (k : CredentialType) → credentialCode k < 256 ^ 4
-code-small secpCredential = omega arith
-code-small nftCredential = omega arith
+pub credentialCode-fits : (k : CredentialType) → credentialCode k < 256 ^ 4
+credentialCode-fits secpCredential = omega arith
+credentialCode-fits nftCredential = omega arith
 
 fitting-signatures : (n : ℕ) (ps : List Piece) → Fitting ps → Fitting (signatures n ps)
 unfolding signatures
@@ -201,7 +201,7 @@ unfolding each size signatureWidth
 fitting-each [] k = tt
 fitting-each (w ∷ ws) k =
     let e : size (signatures (w .signatures) (each ws)) ≡ w .signatures * signatureWidth + size (each ws) = size-signatures (w .signatures) (each ws) in
-    (code-small (w .type), (omega arith, fitting-signatures (w .signatures) (each ws) (fitting-each ws (omega arith))))
+    (credentialCode-fits (w .type), (omega arith, fitting-signatures (w .signatures) (each ws) (fitting-each ws (omega arith))))
 
 -- counts have 32 bits wherever the list is not too long
 pub fitting-layout : (ws : List Want) → size (layout ws) ≤ 65536 → Fitting (layout ws)
@@ -210,7 +210,7 @@ fitting-layout ws k = (omega (arith, size-each ws), fitting-each ws (omega arith
 
 -- as many bytes as any others
 length-blanks : (ps : List Piece) → length (pieces ps .write (blanks ps)) ≡ size ps
-unfolding pieces blanks size
+unfolding pieces blanks size number
 length-blanks [] = refl
 length-blanks (due x v ∷ ps) = omega (arith, length-append (digits 4 v) (pieces ps .write (blanks ps)), length-digits 4 v, length-blanks ps)
 length-blanks (signature ∷ ps) = omega (arith, length-append blank (pieces ps .write (blanks ps)), length-blank, length-blanks ps)

@@ -68,7 +68,7 @@ operations =
       element = λ prev. operation;
       solid = λ prev v h. longer (v .asset) _ 31 (h .0 .0);
       least = 1;
-      asks = λ v. record { type = nftCredential; signatures = length (v .indices) } ∷ [];
+      asks = λ v. record { type = nftCredential; signatures = length (v .terms .0) } ∷ [];
       entries = operationEntry;
     }
 

@@ -7,3 +7,4 @@ pub mod Plan
 pub mod Family
 pub mod Avm
 pub mod Codec
+pub mod Transaction

@@ -7,4 +7,5 @@ pub mod Sequence
 pub mod Series
 pub mod Whole
 pub mod Order
+pub mod Orders
 pub mod Answer

@@ -137,11 +137,11 @@ module _ {A : Type 0} (E : List ℕ → Format A) where
   abbrev pub series : ℕ → Format (List A)
   series n = seriesFrom [] n
 
--- an element that is strictly above the one before, by its first k bytes in view
+-- an element that is strictly above `prev`: its whole writing is compared with it
 abbrev pub above : {A : Type 0} → Format A → List ℕ → Format A
 above F prev = guard F (λ a. below prev (F .write a)) outOfOrder
 
--- an element that is not below the one before
+-- an element that is not below `prev`, in the same way
 abbrev pub notBelow : {A : Type 0} → Format A → List ℕ → Format A
 notBelow F prev = guard F (λ a. not (below (F .write a) prev)) outOfOrder
 

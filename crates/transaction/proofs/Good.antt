@@ -1,0 +1,364 @@
+-- The signed format has exactly the transactions that specs/Transaction says. Assumes nothing.
+use mathlib.Core.Path.{_≡_, refl, ap, ap₂, _∙_}
+use mathlib.Core.Logic.{_↔_, Iff·rfl, Iff·trans, Iff·and, inl, inr}
+use Prim.Native.Nat.{ℕ, zero, suc, _+_, _^_, _≤_, _<_}
+use native.Mathlib.Nat.{zero-add}
+use native.Mathlib.Omega.{arith}
+use mathlib.Core.Bool.{true, false}
+use mathlib.Core.List.{List, [], _∷_, _++_, map, append-nil}
+use lib.ListN.{length}
+use lib.Dec.{leb}
+use borrow.Author.Tests.{leb-true, le-leb}
+use Rattle.wire.specs.Bytes.{digits, length-digits, below}
+use Rattle.wire.specs.Numbers.{wrongCodec, unknownType, wrongCount, emptyList}
+use Rattle.wire.specs.Fields.{Sized, number, blob}
+use Rattle.wire.specs.Sequence.{guard}
+use Rattle.wire.specs.Series.{left, Chain, notBelow}
+use Rattle.wire.specs.Orders.{All, OneOf, Increasing, Nondecreasing, Ascending}
+use Rattle.wire.proofs.Orders.{constant-good, tag-good, digits-order, notBelow-good, unordered-good, keyed-good, counted-good, adjacent-map}
+use Rattle.element.specs.Outputs.{TransferableOutput, transferableOutput}
+use Rattle.element.specs.Inputs.{Input, input}
+use Rattle.element.specs.Operations.{Operation, operation, fxCode, InitialState, initialState}
+use Rattle.element.specs.Good.{GoodTransferableOutput, GoodInput, inputKey, GoodOperation, GoodInitialState}
+use Rattle.element.proofs.Good.{string-good, text-good, denomination-good, transferableOutput-good, key-width, input-good, input-front, operation-good, fxCode-fits, initialState-good, initialState-front}
+use Rattle.transaction.specs.Slots.{signatureWidth}
+use Rattle.transaction.specs.Credentials.{credentialCode, Want, Piece, signatures, each, pieces, credentials, total}
+use Rattle.transaction.specs.Entries.{EntryAt, importedEntry, exportedEntry, outputEntry, inputEntry}
+use Rattle.transaction.specs.Plan.{Elements, listOf, Value, form, asked, wanted}
+use Rattle.transaction.specs.Family.{Head, head, unsigned, wants, Signed, signed}
+use Rattle.transaction.specs.Signed as Any
+use Rattle.transaction.specs.Avm.{asksNothing, outputs, inputs, operations, states, kindCode, kindOf, kindOf-code, ownPlan, avm}
+use Rattle.transaction.specs.Transaction.{Own, plain, createAsset, operate, importFrom, exportTo, Transaction, inputWant, operationWant, ownWants, credentialsOf, GoodOutputs, GoodInputs, GoodOperations, GoodStates, GoodOwn, GoodTransaction, ownOf, reading, kindOwn, ownValue, valueOf, AcceptedExactly}
+use Rattle.transaction.specs.declared.Kind.{Kind}
+use Rattle.transaction.specs.declared.Kind.the-variants as K
+use Rattle.transaction.proofs.Credentials.{credentialCode-fits}
+use Rattle.transaction.proofs.Codec.{codec}
+
+-- ---- a transaction and a value of the format are the same thing
+
+ownOf-value : (o : Own) → ownOf (kindOwn o) (ownValue o) ≡ o
+unfolding ownOf ownValue
+ownOf-value plain = refl
+ownOf-value (createAsset name symbol denomination list) = refl
+ownOf-value (operate list) = refl
+ownOf-value (importFrom chain list) = refl
+ownOf-value (exportTo chain list) = refl
+
+pub reading-value : (most : ℕ) (t : Transaction) → reading most (valueOf most t) ≡ t
+unfolding reading valueOf
+reading-value most t = ap (λ o. record { base = t .base; own = o; signatures = t .signatures }) (ownOf-value (t .own))
+
+pub value-reading : (most : ℕ) (v : Signed (avm most)) → valueOf most (reading most v) ≡ v
+unfolding reading valueOf
+value-reading most ((h, (outs, (ins, (memo, own)))), signatures) = go (h .kind) own
+  where
+    go : (k : Kind) (own : Value (ownPlan k))
+        → _≡_ {A = Signed (avm most)}
+        ((record { kind = kindOwn (ownOf k own); network = h .network; chain = h .chain }, (outs, (ins, (memo, ownValue (ownOf k own))))), signatures)
+        ((record { kind = k; network = h .network; chain = h .chain }, (outs, (ins, (memo, own)))), signatures)
+    go K.Base own = refl
+    go K.CreateAsset own = refl
+    go K.Operation own = refl
+    go K.Import own = refl
+    go K.Export own = refl
+
+-- ---- the credentials: as many signatures as are wanted, of 65 bytes each, and each number of the list has 32 bits
+
+-- n signatures in front of pieces that want m
+signatures-good : (ps : List Piece) (m : ℕ) (W : Type 0) → ((l : List (List ℕ)) → pieces ps .Good l ↔ ((length l ≡ m) × All (Sized 65) l × W))
+    → (n : ℕ) (l : List (List ℕ)) → pieces (signatures n ps) .Good l ↔ ((length l ≡ n + m) × All (Sized 65) l × W)
+unfolding pieces signatures signatureWidth
+signatures-good ps m W good zero l = rw (zero-add m) (good l)
+signatures-good ps m W good (suc n) [] = (λ h. absurd h, λ g. absurd (omega arith))
+signatures-good ps m W good (suc n) (b ∷ l) =
+    let on = signatures-good ps m W good n l in (
+      λ h.
+          let (len, each, w) = on .0 (h .1) in
+          (omega arith, (h .0, each), w),
+      λ g. (g .1 .0, on .1 (omega arith, g .1 .1, g .2)),
+    )
+
+each-good : (ws : List Want) (l : List (List ℕ))
+    → pieces (each ws) .Good l ↔ ((length l ≡ total ws) × All (Sized 65) l × All (λ w. w .signatures < 256 ^ 4) ws)
+unfolding pieces each total
+each-good [] [] = (λ h. (refl, tt, tt), λ g. refl)
+each-good [] (b ∷ l) = (λ h. let z : _≡_ {A = ℕ} 0 1 = cc in absurd (omega arith), λ g. absurd (omega arith))
+each-good (w ∷ ws) l =
+    let on = signatures-good (each ws) (total ws) (All (λ w. w .signatures < 256 ^ 4) ws) (each-good ws) (w .signatures) l in (
+      λ h.
+          let (len, signed, fit) = on .0 (h .1 .1) in
+          (len, signed, (constant-good 4 (w .signatures) wrongCount .0 (h .1 .0), fit)),
+      λ g. (
+        constant-good 4 (credentialCode (w .type)) unknownType .1 (credentialCode-fits (w .type)),
+        (constant-good 4 (w .signatures) wrongCount .1 (g .2 .0), on .1 (g .0, g .1, g .2 .1)),
+      ),
+    )
+
+pub credentials-good : (ws : List Want) (l : List (List ℕ))
+    → credentials ws .Good l ↔ ((length ws < 256 ^ 4) × All (λ w. w .signatures < 256 ^ 4) ws × (length l ≡ total ws) × All (Sized 65) l)
+unfolding credentials
+credentials-good ws l = (
+  λ h.
+      let (len, signed, fit) = each-good ws l .0 (h .1) in
+      (constant-good 4 (length ws) wrongCount .0 (h .0), fit, len, signed),
+  λ g. (constant-good 4 (length ws) wrongCount .1 (g .0), each-good ws l .1 (g .2, g .3, g .1)),
+)
+
+-- ---- lists
+
+-- a list of at least so many elements
+list-good : (E : Elements) (P : List (E .Element) → Type 0) → ((l : List (E .Element)) → Chain (E .element) (left (E .element)) [] l ↔ P l)
+    → (l : List (E .Element)) → listOf E .Good l ↔ ((E .least ≤ length l) × (length l < 256 ^ 4) × P l)
+unfolding listOf number
+list-good E P good l =
+    let on = counted-good (E .element) P good (guard (number 4) (λ n. leb (E .least) n) emptyList) l in (
+      λ h.
+          let ((count, least), p) = on .0 h in
+          (leb-true (E .least) (length l) least, count, p),
+      λ g. on .1 ((g .1, le-leb (E .least) (length l) (g .0)), g .2),
+    )
+
+module _ (least : ℕ) (entry : ℕ → ℕ → TransferableOutput → List EntryAt) where
+  pub outputs-good : (l : List TransferableOutput) → unfold outputs in (listOf (outputs least entry) .Good l ↔ ((least ≤ length l) × GoodOutputs l))
+  unfolding outputs
+  outputs-good l =
+      let on = list-good (outputs least entry) Sorted chain l in (
+        λ h.
+            let (some, count, (each, sorted)) = on .0 h in
+            (some, record { count = count; each = each; order = sorted }),
+        λ g. on .1 (g .0, g .1 .count, (g .1 .each, g .1 .order)),
+      )
+    where
+      Sorted : List TransferableOutput → Type 0
+      Sorted l = All GoodTransferableOutput l × Nondecreasing (map (transferableOutput .write) l)
+
+      chain : (l : List TransferableOutput) → Chain (notBelow transferableOutput) (left (notBelow transferableOutput)) [] l ↔ Sorted l
+      chain l =
+          Iff·trans
+          (notBelow-good transferableOutput GoodTransferableOutput transferableOutput-good l)
+          (Iff·and Iff·rfl (adjacent-map (transferableOutput .write) (λ a b. below b a ≡ false) l))
+
+module _ (least : ℕ) (entry : ℕ → ℕ → Input → List EntryAt) where
+  pub inputs-good : (l : List Input) → unfold inputs in (listOf (inputs least entry) .Good l ↔ ((least ≤ length l) × GoodInputs l))
+  unfolding inputs
+  inputs-good l =
+      let on = list-good (inputs least entry) Sorted chain l in (
+        λ h.
+            let (some, count, (each, sorted)) = on .0 h in
+            (some, record { count = count; each = each; order = sorted }),
+        λ g. on .1 (g .0, g .1 .count, (g .1 .each, g .1 .order)),
+      )
+    where
+      Sorted : List Input → Type 0
+      Sorted l = All GoodInput l × Increasing (map inputKey l)
+
+      chain : (l : List Input) → Chain input (left input) [] l ↔ Sorted l
+      chain l =
+          Iff·trans
+          (keyed-good input GoodInput 35 inputKey (λ a b. below (inputKey a) (inputKey b) ≡ true) input-good input-front
+          (λ i g. key-width (i .txid, i .index) (g .key)) (λ a b ga gb. Iff·rfl) l)
+          (Iff·and Iff·rfl (adjacent-map inputKey (λ a b. below a b ≡ true) l))
+
+pub operations-good : (l : List Operation) → unfold operations in (listOf operations .Good l ↔ GoodOperations l)
+unfolding operations
+operations-good l =
+    let on = list-good operations (All GoodOperation) (unordered-good operation GoodOperation operation-good []) l in (
+      λ h.
+          let (some, count, each) = on .0 h in
+          record { some = some; count = count; each = each },
+      λ g. on .1 (g .some, g .count, g .each),
+    )
+
+pub states-good : (l : List InitialState) → unfold states in (listOf states .Good l ↔ GoodStates l)
+unfolding states
+states-good l =
+    let on = list-good states Sorted chain l in (
+      λ h.
+          let (some, count, (each, sorted)) = on .0 h in
+          record { some = some; count = count; each = each; order = sorted },
+      λ g. on .1 (g .some, g .count, (g .each, g .order)),
+    )
+  where
+    code : InitialState → ℕ
+    code v = fxCode (v .fx)
+
+    Sorted : List InitialState → Type 0
+    Sorted l = All GoodInitialState l × Ascending (map code l)
+
+    chain : (l : List InitialState) → Chain initialState (left initialState) [] l ↔ Sorted l
+    chain l =
+        Iff·trans
+        (keyed-good initialState GoodInitialState 3 (λ v. digits 4 (code v)) (λ a b. code a < code b) initialState-good initialState-front
+        (λ v g. length-digits 4 (code v)) (λ a b ga gb. digits-order 4 (code a) (code b) (fxCode-fits (a .fx)) (fxCode-fits (b .fx))) l)
+        (Iff·and Iff·rfl (adjacent-map code (λ m n. m < n) l))
+
+-- ---- what a type has of its own
+
+pub own-good : (k : Kind) (w : Value (ownPlan k)) → form (ownPlan k) .Good w ↔ GoodOwn (ownOf k w)
+unfolding ownOf form blob
+own-good K.Base w = (λ h. tt, λ g. refl)
+own-good K.CreateAsset (name, (symbol, (denomination, (list, w)))) = (
+  λ h.
+      record {
+        name-good = text-good 128 (omega arith) name .0 (h .0);
+        symbol-good = text-good 4 (omega arith) symbol .0 (h .1 .0);
+        denomination-good = denomination-good denomination .0 (h .1 .1 .0);
+        states-good = states-good list .0 (h .1 .1 .1 .0);
+      },
+  λ g. (
+    text-good 128 (omega arith) name .1 (g .name-good),
+    (text-good 4 (omega arith) symbol .1 (g .symbol-good), (denomination-good denomination .1 (g .denomination-good), (states-good list .1 (g .states-good), refl))),
+  ),
+)
+own-good K.Operation (list, w) = (λ h. operations-good list .0 (h .0), λ g. (operations-good list .1 g, refl))
+own-good K.Import (chain, (list, w)) = (
+  λ h.
+      let (some, good) = inputs-good 1 importedEntry list .0 (h .1 .0) in
+      record { chain-good = h .0; some = some; inputs-good = good },
+  λ g. (g .chain-good, (inputs-good 1 importedEntry list .1 (g .some, g .inputs-good), refl)),
+)
+own-good K.Export (chain, (list, w)) = (
+  λ h.
+      let (some, good) = outputs-good 1 exportedEntry list .0 (h .1 .0) in
+      record { chain-good = h .0; some = some; outputs-good = good },
+  λ g. (g .chain-good, (outputs-good 1 exportedEntry list .1 (g .some, g .outputs-good), refl)),
+)
+
+-- ---- the credentials that a transaction wants
+
+asked-none : {A : Type 0} (l : List A) → asked asksNothing l ≡ []
+unfolding asked
+asked-none [] = refl
+asked-none (a ∷ l) = asked-none l
+
+asked-one : {A : Type 0} (f : A → Want) (l : List A) → asked (λ a. f a ∷ []) l ≡ map f l
+unfolding asked
+asked-one f [] = refl
+asked-one f (a ∷ l) = ap (λ (ws : List Want). f a ∷ ws) (asked-one f l)
+
+own-wanted : (k : Kind) (w : Value (ownPlan k)) → wanted (ownPlan k) w ≡ ownWants (ownOf k w)
+unfolding ownOf wanted
+own-wanted K.Base w = refl
+own-wanted K.CreateAsset (name, (symbol, (denomination, (list, w)))) = append-nil (asked asksNothing list) ∙ asked-none list
+own-wanted K.Operation (list, w) = append-nil _ ∙ asked-one operationWant list
+own-wanted K.Import (chain, (list, w)) = append-nil _ ∙ asked-one inputWant list
+own-wanted K.Export (chain, (list, w)) = append-nil (asked asksNothing list) ∙ asked-none list
+
+-- one for each input, then for each operation or imported input
+pub wants-credentials : (most : ℕ) (v : Signed (avm most)) → wants (avm most) (v .0) ≡ credentialsOf (reading most v)
+unfolding wants reading
+wants-credentials most ((h, (outs, (ins, (memo, own)))), signatures) =
+    ap₂ (λ (a b : List Want). a ++ b) (asked-none outs)
+    (ap₂ (λ (a b : List Want). a ++ b) (asked-one inputWant ins) (own-wanted (h .kind) own))
+
+-- their counts are those of indices, which have 32 bits
+all-append : {A : Type 0} (P : A → Type 0) (a b : List A) → All P a → All P b → All P (a ++ b)
+all-append P [] b h k = k
+all-append P (x ∷ a) b h k = (h .0, all-append P a b (h .1) k)
+
+all-map : {A B : Type 0} (f : A → B) (Q : A → Type 0) (P : B → Type 0) → ((a : A) → Q a → P (f a)) → (l : List A) → All Q l → All P (map f l)
+all-map f Q P on [] h = tt
+all-map f Q P on (a ∷ l) h = (on a (h .0), all-map f Q P on l (h .1))
+
+abbrev Narrow : Want → Type 0
+Narrow w = w .signatures < 256 ^ 4
+
+own-narrow : (o : Own) → GoodOwn o → All Narrow (ownWants o)
+own-narrow plain g = tt
+own-narrow (createAsset name symbol denomination list) g = tt
+own-narrow (operate list) g = all-map operationWant GoodOperation Narrow (λ o h. h .terms .indices-good .count) list (g .each)
+own-narrow (importFrom chain list) g = all-map inputWant GoodInput Narrow (λ i h. h .indices .count) list (g .inputs-good .each)
+own-narrow (exportTo chain list) g = tt
+
+-- ---- the whole
+
+kindCode-fits : (k : Kind) → kindCode k < 256 ^ 4
+kindCode-fits K.Base = omega arith
+kindCode-fits K.CreateAsset = omega arith
+kindCode-fits K.Operation = omega arith
+kindCode-fits K.Import = omega arith
+kindCode-fits K.Export = omega arith
+
+kind-listed : (k : Kind) → OneOf k (K.Base ∷ K.CreateAsset ∷ K.Operation ∷ K.Import ∷ K.Export ∷ [])
+kind-listed K.Base = inl refl
+kind-listed K.CreateAsset = inr (inl refl)
+kind-listed K.Operation = inr (inr (inl refl))
+kind-listed K.Import = inr (inr (inr (inl refl)))
+kind-listed K.Export = inr (inr (inr (inr (inl refl))))
+
+-- codec and type take nothing away: every type is one of the five
+pub head-good : (most : ℕ) (h : Head Kind) → head (avm most) .Good h ↔ ((h .network < 256 ^ 4) × Sized 32 (h .chain))
+unfolding head number blob
+head-good most h = (
+  λ g. g .1 .1,
+  λ g. (
+    constant-good 2 0 wrongCodec .1 (omega arith),
+    (
+      tag-good kindCode kindOf kindOf-code (number 4) (K.Base ∷ K.CreateAsset ∷ K.Operation ∷ K.Import ∷ K.Export ∷ []) unknownType (h .kind) (kindCode-fits (h .kind)) .1
+          (kind-listed (h .kind)),
+      g,
+    ),
+  ),
+)
+
+pub transaction-good : (most : ℕ) (v : Signed (avm most)) → signed (avm most) .Good v ↔ GoodTransaction most (reading most v)
+unfolding Any.signed unsigned reading
+transaction-good most ((h, (outs, (ins, (memo, own)))), signatures) = (
+  λ g.
+      let (network, chain) = head-good most h .0 (g .0 .0) in
+      let (note, length-fits) = string-good 4 most memo .0 (g .0 .1 .1 .1 .0) in
+      let (credentials, fit, count, sized) = credentials-good (credentialsOf t) signatures .0 (rw wanted-are at g .1) in
+      record {
+        base =
+            record {
+              network = network;
+              chain = chain;
+              outputs = outputs-good 0 outputEntry outs .0 (g .0 .1 .0) .1;
+              inputs = inputs-good 0 inputEntry ins .0 (g .0 .1 .1 .0) .1;
+              memo = note;
+              memo-length = length-fits;
+            };
+        own = own-good (h .kind) own .0 (g .0 .1 .1 .1 .1);
+        credentials = credentials;
+        count = count;
+        signatures = sized;
+      },
+  λ g. (
+    (
+      head-good most h .1 (g .base .network, g .base .chain),
+      (
+        outputs-good 0 outputEntry outs .1 (omega arith, g .base .outputs),
+        (
+          inputs-good 0 inputEntry ins .1 (omega arith, g .base .inputs),
+          (string-good 4 most memo .1 (g .base .memo, g .base .memo-length), own-good (h .kind) own .1 (g .own)),
+        ),
+      ),
+    ),
+    rw wanted-are (credentials-good (credentialsOf t) signatures .1 (g .credentials, narrow g, g .count, g .signatures)),
+  ),
+)
+  where
+    t : Transaction
+    t = reading most ((h, (outs, (ins, (memo, own)))), signatures)
+
+    wanted-are : wants (avm most) (h, (outs, (ins, (memo, own)))) ≡ credentialsOf t
+    wanted-are = wants-credentials most ((h, (outs, (ins, (memo, own)))), signatures)
+
+    narrow : GoodTransaction most t → All Narrow (credentialsOf t)
+    narrow g =
+        all-append Narrow (map inputWant ins) (ownWants (ownOf (h .kind) own))
+        (all-map inputWant GoodInput Narrow (λ i k. k .indices .count) ins (g .base .inputs .each))
+        (own-narrow (ownOf (h .kind) own) (g .own))
+
+-- ---- what is accepted
+
+pub accepted-good : (most : ℕ) → AcceptedExactly most
+accepted-good most s b =
+    let on = codec (avm most) .accepted-exactly s b in (
+      λ h.
+          let (v, w) = on .0 h in
+          (reading most v, record { good = transaction-good most v .0 (w .good); written = rw (value-reading most v) (w .written); short = w .short }),
+      λ (t, w).
+          let v = valueOf most t in
+          on .1 (v, record { good = transaction-good most v .1 (rw (reading-value most t) (w .good)); written = w .written; short = w .short }),
+    )

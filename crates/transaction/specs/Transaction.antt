@@ -1,0 +1,189 @@
+-- A signed transaction as a reader of document 01 knows it, and which transactions there are, in plain words: its "Layout" and its "Rules and
+-- their moments". proofs/Good shows that these are exactly the values of the signed format. Assumes nothing.
+use mathlib.Core.Path.{_≡_}
+use mathlib.Core.Logic.{_↔_}
+use mathlib.Core.Bool.{true}
+use Prim.Native.Nat.{ℕ, _^_, _≤_, _<_}
+use mathlib.Core.List.{List, [], _++_, map}
+use lib.ListN.{length}
+use Rattle.wire.specs.Bytes.{Bytes}
+use Rattle.wire.specs.Fields.{Sized}
+use Rattle.wire.specs.Orders.{All, Increasing, Nondecreasing, Ascending}
+use Rattle.element.specs.Outputs.{TransferableOutput, transferableOutput}
+use Rattle.element.specs.Inputs.{Input}
+use Rattle.element.specs.Operations.{Operation, InitialState, fxCode}
+use Rattle.element.specs.Good.{GoodString, GoodText, GoodTransferableOutput, GoodInput, inputKey, GoodOperation, GoodInitialState}
+use Rattle.transaction.specs.Credentials.{Want, secpCredential, nftCredential, total}
+use Rattle.transaction.specs.Plan.{Value}
+use Rattle.transaction.specs.Signed.{mostBytes}
+use Rattle.transaction.specs.Family.{Signed, signed, accepted}
+use Rattle.transaction.specs.Avm.{outputs, inputs, operations, states, ownPlan, avm}
+use Rattle.transaction.specs.declared.Kind.{Kind}
+use Rattle.transaction.specs.declared.Kind.the-variants as K
+
+-- ---- the transaction
+
+pub record Base : Type 0 where
+  pub network : ℕ
+  pub chain : List ℕ
+  pub outputs : List TransferableOutput
+  pub inputs : List Input
+  pub memo : List ℕ
+
+-- what a type has behind the base part, from type 0 to type 4
+pub data Own : Type 0 where
+  plain : Own
+  createAsset : (name symbol : List ℕ) (denomination : ℕ) (states : List InitialState) → Own
+  operate : (operations : List Operation) → Own
+  importFrom : (chain : List ℕ) (inputs : List Input) → Own
+  exportTo : (chain : List ℕ) (outputs : List TransferableOutput) → Own
+
+-- its signatures, across the credentials
+pub record Transaction : Type 0 where
+  pub base : Base
+  pub own : Own
+  pub signatures : List (List ℕ)
+
+-- ---- the credentials that it wants: one for each input, in order, then for each operation or imported input; each of as many signatures as
+-- that element has indices
+
+abbrev pub inputWant : Input → Want
+inputWant i = record { type = secpCredential; signatures = length (i .indices) }
+
+abbrev pub operationWant : Operation → Want
+operationWant o = record { type = nftCredential; signatures = length (o .terms .0) }
+
+abbrev pub ownWants : Own → List Want
+ownWants plain = []
+ownWants (createAsset name symbol denomination states) = []
+ownWants (operate operations) = map operationWant operations
+ownWants (importFrom chain inputs) = map inputWant inputs
+ownWants (exportTo chain outputs) = []
+
+abbrev pub credentialsOf : Transaction → List Want
+credentialsOf t = map inputWant (t .base .inputs) ++ ownWants (t .own)
+
+-- ---- which there are
+
+-- not decreasing as byte strings, asset id included
+pub record GoodOutputs (l : List TransferableOutput) : Type 0 where
+  pub count : length l < 2 ^ 32
+  pub each : All GoodTransferableOutput l
+  pub order : Nondecreasing (map (transferableOutput .write) l)
+
+-- strictly increasing by (id, index)
+pub record GoodInputs (l : List Input) : Type 0 where
+  pub count : length l < 2 ^ 32
+  pub each : All GoodInput l
+  pub order : Increasing (map inputKey l)
+
+-- of no order
+pub record GoodOperations (l : List Operation) : Type 0 where
+  pub some : 1 ≤ length l
+  pub count : length l < 2 ^ 32
+  pub each : All GoodOperation l
+
+-- FxIDs strictly increase
+pub record GoodStates (l : List InitialState) : Type 0 where
+  pub some : 1 ≤ length l
+  pub count : length l < 2 ^ 32
+  pub each : All GoodInitialState l
+  pub order : Ascending (map (λ v. fxCode (v .fx)) l)
+
+-- the memo is of at most `most` bytes, 256 in the base, and its length is a number of 32 bits
+pub record GoodBase (most : ℕ) (b : Base) : Type 0 where
+  pub network : b .network < 2 ^ 32
+  pub chain : Sized 32 (b .chain)
+  pub outputs : GoodOutputs (b .outputs)
+  pub inputs : GoodInputs (b .inputs)
+  pub memo : GoodString most (b .memo)
+  pub memo-length : length (b .memo) < 2 ^ 32
+
+pub record GoodCreateAsset (name symbol : List ℕ) (denomination : ℕ) (states : List InitialState) : Type 0 where
+  pub name-good : GoodText 128 name
+  pub symbol-good : GoodText 4 symbol
+  pub denomination-good : denomination ≤ 32
+  pub states-good : GoodStates states
+
+-- imported inputs are a list of their own
+pub record GoodImport (chain : List ℕ) (inputs : List Input) : Type 0 where
+  pub chain-good : Sized 32 chain
+  pub some : 1 ≤ length inputs
+  pub inputs-good : GoodInputs inputs
+
+pub record GoodExport (chain : List ℕ) (outputs : List TransferableOutput) : Type 0 where
+  pub chain-good : Sized 32 chain
+  pub some : 1 ≤ length outputs
+  pub outputs-good : GoodOutputs outputs
+
+abbrev pub GoodOwn : Own → Type 0
+GoodOwn plain = Unit {0}
+GoodOwn (createAsset name symbol denomination states) = GoodCreateAsset name symbol denomination states
+GoodOwn (operate operations) = GoodOperations operations
+GoodOwn (importFrom chain inputs) = GoodImport chain inputs
+GoodOwn (exportTo chain outputs) = GoodExport chain outputs
+
+-- the number of credentials is a number of 32 bits, and there are as many signatures as these want, of 65 bytes each
+pub record GoodTransaction (most : ℕ) (t : Transaction) : Type 0 where
+  pub base : GoodBase most (t .base)
+  pub own : GoodOwn (t .own)
+  pub credentials : length (credentialsOf t) < 2 ^ 32
+  pub count : length (t .signatures) ≡ total (credentialsOf t)
+  pub signatures : All (Sized 65) (t .signatures)
+
+-- ---- the transaction that a value of the signed format is, and the value that a transaction is; each undoes the other (proofs/Good)
+
+unfoldable pub ownOf : (k : Kind) → Value (ownPlan k) → Own
+unfolding outputs inputs operations states
+ownOf K.Base v = plain
+ownOf K.CreateAsset (name, (symbol, (denomination, (list, v)))) = createAsset name symbol denomination list
+ownOf K.Operation (list, v) = operate list
+ownOf K.Import (chain, (list, v)) = importFrom chain list
+ownOf K.Export (chain, (list, v)) = exportTo chain list
+
+unfoldable pub reading : (most : ℕ) → Signed (avm most) → Transaction
+unfolding outputs inputs ownOf
+reading most ((h, (outs, (ins, (memo, own)))), signatures) =
+    record {
+      base = record { network = h .network; chain = h .chain; outputs = outs; inputs = ins; memo = memo };
+      own = ownOf (h .kind) own;
+      signatures = signatures;
+    }
+
+abbrev pub kindOwn : Own → Kind
+kindOwn plain = K.Base
+kindOwn (createAsset name symbol denomination states) = K.CreateAsset
+kindOwn (operate operations) = K.Operation
+kindOwn (importFrom chain inputs) = K.Import
+kindOwn (exportTo chain outputs) = K.Export
+
+unfoldable pub ownValue : (o : Own) → Value (ownPlan (kindOwn o))
+unfolding outputs inputs operations states
+ownValue plain = tt
+ownValue (createAsset name symbol denomination list) = (name, (symbol, (denomination, (list, tt))))
+ownValue (operate list) = (list, tt)
+ownValue (importFrom chain list) = (chain, (list, tt))
+ownValue (exportTo chain list) = (chain, (list, tt))
+
+unfoldable pub valueOf : (most : ℕ) → Transaction → Signed (avm most)
+unfolding outputs inputs ownValue
+valueOf most t =
+    let b = t .base in (
+      (
+        record { kind = kindOwn (t .own); network = b .network; chain = b .chain },
+        (b .outputs, (b .inputs, (b .memo, ownValue (t .own)))),
+      ),
+      t .signatures,
+    )
+
+-- ---- what is accepted
+
+-- s is the writing of the good transaction t, and not too long
+pub record GoodWriting (most : ℕ) (s : List ℕ) (t : Transaction) : Type 0 where
+  pub good : GoodTransaction most t
+  pub written : signed (avm most) .write (valueOf most t) ≡ s
+  pub short : length s ≤ mostBytes
+
+-- bytes are accepted exactly when they are the writing of a good transaction of at most 65,536 bytes (`accepted-good`, of proofs/Good)
+abbrev pub AcceptedExactly : ℕ → Type 0
+AcceptedExactly most = (s : List ℕ) → Bytes s → (accepted (avm most) s ≡ true) ↔ ((t : Transaction) × GoodWriting most s t)
