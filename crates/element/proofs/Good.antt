@@ -18,9 +18,9 @@ use Rattle.wire.proofs.Bytes.{key-below}
 use Rattle.wire.proofs.Orders.{constant-good, tag-good, keyBelow-order, above-good, notBelow-good, unordered-good, ascending-good, series-good, counted-good, adjacent-map}
 use Rattle.element.specs.Strings.{string, payload, isPrintable, unprintable, text, denomination}
 use Rattle.element.specs.Owners.{Owners, owners}
-use Rattle.element.specs.Outputs.{amount, OutputType, secpMint, secpTransfer, nftMint, nftTransfer, outputCode, OutputBody, outputBody, outputType, outputType-code, Output, output, TransferableOutput, transferableOutput}
+use Rattle.element.specs.Outputs.{amount, transferBody, OutputType, secpMint, secpTransfer, nftMint, nftTransfer, outputCode, OutputBody, outputBody, outputType, outputType-code, Output, output, TransferableOutput, transferableOutput}
 use Rattle.element.specs.Inputs.{key, indices, Input, spend, inputAfter, input}
-use Rattle.element.specs.Operations.{OperationType, mintNft, transferNft, operationCode, operationType, operationType-code, OperationOwners, operationOwners, terms, Operation, operation, Fx, secpFx, nftFx, fxCode, fx, fx-code, fxOutputs, fxId, InitialState, initialStateAfter, initialState}
+use Rattle.element.specs.Operations.{OperationType, mintNft, transferNft, operationCode, operationType, operationType-code, OperationOwners, operationOwners, terms, action, Operation, operation, Fx, secpFx, nftFx, fxCode, fxOf, fxOf-code, fxOutputs, fxId, stateOutputs, InitialState, initialStateAfter, initialState}
 use Rattle.element.specs.Good.{GoodString, Printable, GoodText, GoodOwners, GoodAmount, GoodOutputBody, GoodOutput, GoodTransferableOutput, GoodIndices, GoodKey, keyBytes, GoodInput, inputKey, GoodRecipients, GoodOperationOwners, GoodTerms, GoodOperation, GoodInitialState}
 
 -- ---- strings
@@ -107,7 +107,7 @@ unfolding amount number
 amount-good n = (λ h. record { positive = ltb-true 0 n (h .1); width = h .0 }, λ g. (g .width, lt-ltb 0 n (g .positive)))
 
 pub outputBody-good : (k : OutputType) (b : OutputBody k) → outputBody k .Good b ↔ GoodOutputBody k b
-unfolding andThen number
+unfolding andThen number transferBody
 outputBody-good secpMint o = owners-good o
 outputBody-good secpTransfer (n, o) = (
   λ h. record { amount-good = amount-good n .0 (h .0); owners-good = owners-good o .0 (h .1) },
@@ -246,7 +246,7 @@ pairs-good l = counted-good (above key) GoodPairs chain (number 4) l
         (Iff·and Iff·rfl (adjacent-map (λ (id, index). keyBytes id index) (λ a b. below a b ≡ true) l))
 
 pub operation-good : (v : Operation) → operation .Good v ↔ GoodOperation v
-unfolding operation blob number
+unfolding operation action blob number
 operation-good v = (
   λ h.
       let (count, (each, sorted)) = pairs-good (v .outputs) .0 (h .1 .0) in
@@ -284,13 +284,13 @@ fxCode-listed nftFx = inr (inl refl)
 -- an initial state is read in view of the bytes of the one before
 pub initialState-good : (prev : List ℕ) (v : InitialState)
     → initialState prev .Good v ↔ (GoodInitialState v × (below (take 4 prev) (digits 4 (fxCode (v .fx))) ≡ true))
-unfolding initialStateAfter fxId number
+unfolding initialStateAfter fxId number stateOutputs
 initialState-good prev v = (
   λ h.
       let (count, (each, sorted)) = list .0 (h .1) in
       (record { count = count; outputs = each; order = sorted }, h .0 .1),
   λ g. (
-    (tag-good fxCode fx fx-code (number 4) (secpFx ∷ nftFx ∷ []) unknownType (v .fx) (fxCode-fits (v .fx)) .1 (fxCode-listed (v .fx)), g .1),
+    (tag-good fxCode fxOf fxOf-code (number 4) (secpFx ∷ nftFx ∷ []) unknownType (v .fx) (fxCode-fits (v .fx)) .1 (fxCode-listed (v .fx)), g .1),
     list .1 (g .0 .count, (g .0 .outputs, g .0 .order)),
   ),
 )
@@ -312,5 +312,5 @@ initialState-good prev v = (
 
 -- what an initial state begins with
 pub initialState-front : (prev : List ℕ) (v : InitialState) → (t : List ℕ) × (initialState prev .write v ≡ digits 4 (fxCode (v .fx)) ++ t)
-unfolding initialStateAfter fxId number
+unfolding initialStateAfter fxId number stateOutputs
 initialState-front prev v = (counted (number 4) (notBelow (output (fxOutputs (v .fx)))) .write (v .outputs), refl)

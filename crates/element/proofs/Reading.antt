@@ -20,7 +20,8 @@ use Rattle.wire.specs.Bytes.{Bytes, digits, length-digits, below, pick, part}
 use Rattle.wire.specs.Format.{Format, Result, took, refused, onResult, read, Stands, stands-part, run-alike-read}
 use Rattle.wire.specs.Numbers.{by, notPrintable}
 use Rattle.wire.specs.Fields.{blob, number}
-use Rattle.wire.specs.Series.{items, listRun, left, increasing}
+use Rattle.wire.specs.Sequence.{guard}
+use Rattle.wire.specs.Series.{items, listRun, left, increasing, series}
 use Rattle.wire.specs.Order.{keyBelow}
 use Rattle.wire.specs.Answer.{ended, valued, wholeAt}
 use Rattle.wire.proofs.Bytes.{Slice, slice-bytes, found, below-digits, key-below}
@@ -28,7 +29,7 @@ use Rattle.wire.proofs.Reading as W
 use Rattle.element.specs.Strings.{isPrintable, unprintable, string}
 use Rattle.element.specs.Owners.{Owners, owners, ownersFields}
 use Rattle.element.specs.Outputs.{transferBody, OutputType, Output, output, TransferableOutput, transferableOutput, outputFields}
-use Rattle.element.specs.Inputs.{key, spend}
+use Rattle.element.specs.Inputs.{key, Input, spend, inputAfter, input}
 use Rattle.element.specs.Operations.{OperationType, mintNft, transferNft, OperationOwners, terms, termsFields, recipients, action, Operation, operation, Fx, fxCode, fxOf, stateOutputs}
 use Rattle.element.specs.Answer.{stringWhole, stringAt, ownersWhole, ownersAt, transferWhole, transferBodyAt, outputWhole, outputAt, transferableWhole, transferableAt, spendWhole, spendAt, termsWhole, termsAt, operationWhole, operationAt}
 use Rattle.element.specs.declared.StringRead.{StringRead}
@@ -323,11 +324,91 @@ module _ {R : Type 0} (s : List ℕ) (at : ℕ) (z : R) (stop : Refusal → R) (
 
 -- ---- lists of no order: what is left does not hang on the element before
 
-pub unordered-again : {A R : Type 0} (F : Format A) (s : List ℕ) (n at : ℕ) (stop : Refusal → R) (go : List A → ℕ → R) (p q : List ℕ)
+unordered-again : {A R : Type 0} (F : Format A) (s : List ℕ) (n at : ℕ) (stop : Refusal → R) (go : List A → ℕ → R) (p q : List ℕ)
     → items (λ prev. F) (left (λ prev. F)) p n .run s at stop go ≡ items (λ prev. F) (left (λ prev. F)) q n .run s at stop go
 unfolding items listRun
 unordered-again F s zero at stop go p q = refl
 unordered-again F s (suc n) at stop go p q = refl
+
+module _ {R : Type 0} (s : List ℕ) (n at : ℕ) (stop : Refusal → R) (p q : List ℕ) where
+  pub owners-again : (go : List Owners → ℕ → R)
+      → items (λ prev. owners) (left (λ prev. owners)) p n .run s at stop go ≡ items (λ prev. owners) (left (λ prev. owners)) q n .run s at stop go
+  owners-again go = unordered-again owners s n at stop go p q
+
+  pub operations-again : (go : List Operation → ℕ → R)
+      → items (λ prev. operation) (left (λ prev. operation)) p n .run s at stop go ≡ items (λ prev. operation) (left (λ prev. operation)) q n .run s at stop go
+  operations-again go = unordered-again operation s n at stop go p q
+
+-- ---- keys, an identifier and an index, compared with the one before
+
+key-test : (any : Bool) (prev id : List ℕ) (last index : ℕ) (t : Bool) → t ≡ pick any (keyBelow prev last id index) true → length prev ≡ 32 → length id ≡ 32
+    → last < 256 ^ 4 → index < 256 ^ 4 → below (pick any (prev ++ number 4 .write last) []) (id ++ number 4 .write index) ≡ t
+unfolding number
+key-test any prev id last index t e hp hi hl hx =
+    let (f, g) = on-any any t (keyBelow prev last id index) e in
+    first-below any (prev ++ digits 4 last) (id ++ digits 4 index) t (λ i. f i ∙ sym (key-below prev id last index (hp ∙ sym hi) hl hx)) g
+    (omega (arith, length-append id (digits 4 index)))
+
+-- an identifier handed over whole is what stands there
+module _ (s : List ℕ) (at n : ℕ) (id w : List ℕ) (x : Part) (h : Stands s at w n) (ha : id ≡ wholeAt 32 s at) (p : x ≡ ended (blob 32) s at) (q : x ≡ P.Next n) where
+  id-is : id ≡ w
+  id-is = W.whole-next 32 s at id x n ha p q ∙ sym (stands-part s at w n h)
+
+  module _ {R : Type 0} (any : Bool) (prev : List ℕ) (last index : ℕ) (t : Bool) (z X Y : R) (e : t ≡ pick any (keyBelow prev last id index) true) (hp : length prev ≡ 32) (hl : last < 256 ^ 4) where
+    id-test : index < 256 ^ 4 → below (pick any (prev ++ number 4 .write last) []) (w ++ number 4 .write index) ≡ t
+    id-test hx = rw (← id-is) (key-test any prev id last index t e hp (ap length ha ∙ W.whole-length 32 s at) hl hx)
+
+    pub if-key-follows : index < 256 ^ 4 → t ≡ true → z ≡ X → z ≡ pick (below (pick any (prev ++ number 4 .write last) []) (w ++ number 4 .write index)) X Y
+    if-key-follows hx i j = rw (id-test hx, i) j
+
+    pub if-key-not : index < 256 ^ 4 → t ≡ false → z ≡ Y → z ≡ pick (below (pick any (prev ++ number 4 .write last) []) (w ++ number 4 .write index)) X Y
+    if-key-not hx i j = rw (id-test hx, i) j
+
+  pub key-again : {A R : Type 0} (E : List ℕ → Format A) (step : List ℕ → A → List ℕ) (u : List ℕ) (m k : ℕ) (stop : Refusal → R) (go : List A → ℕ → R)
+      → items E step (id ++ u) m .run s k stop go ≡ items E step (w ++ u) m .run s k stop go
+  key-again E step u m k stop go = rw id-is
+
+pub id-length : (k : ℕ) (s : List ℕ) (at : ℕ) (a : List ℕ) → a ≡ wholeAt k s at → length a ≡ k
+id-length k s at a h = ap length h ∙ W.whole-length k s at
+
+-- ---- lists whose elements look at the first k bytes of the one before: code keeps just these
+
+module _ {A : Type 0} (G : List ℕ → Format A) (k : ℕ) (viewed : A → List ℕ) (front : (b : List ℕ) (a : A) → G b .Good a → take k (G b .write a) ≡ viewed a) where
+  pub items-viewed : {R : Type 0} (s : List ℕ) → Bytes s → (n : ℕ) (prev : List ℕ) (at : ℕ) (stop : Refusal → R) (go : List A → ℕ → R)
+      → items G (λ b a. viewed a) (take k prev) n .run s at stop go ≡ items (λ p. G (take k p)) (left (λ p. G (take k p))) prev n .run s at stop go
+  unfolding items listRun
+  items-viewed s bs zero prev at stop go = refl
+  items-viewed s bs (suc n) prev at stop go =
+      run-alike-read (G (take k prev)) s at stop _ _ (λ a m q.
+      ap (λ (b : List ℕ). listRun G (λ b a. viewed a) n b s m stop (λ l j. go (a ∷ l) j)) (sym (front (take k prev) a (G (take k prev) .sound s at a m bs q .0)))
+      ∙ items-viewed s bs n (G (take k prev) .write a) m stop (λ l j. go (a ∷ l) j))
+
+abbrev pub inputKey : Input → List ℕ
+inputKey i = key .write (i .txid, i .index)
+
+input-front : (b : List ℕ) (i : Input) → inputAfter b .Good i → take 36 (inputAfter b .write i) ≡ inputKey i
+unfolding inputAfter guard
+input-front b i g = take-at (inputKey i) (spend .write (i .asset, (tt, (i .amount, i .indices)))) 36 (key-wide (i .txid, i .index) (g .0 .0))
+
+-- the inputs that are left, by the key of the one before
+abbrev pub inputsAfter : List ℕ → ℕ → Format (List Input)
+inputsAfter before n = items inputAfter (λ b i. inputKey i) before n
+
+pub inputs-are : (s : List ℕ) → Slice s → (n at : ℕ) → ended (inputsAfter [] n) s at ≡ ended (series input n) s at
+inputs-are s b n at = items-viewed inputAfter 36 inputKey input-front s (slice-bytes s b) n [] at P.Refused (λ l k. P.Next k)
+
+module _ {R : Type 0} (index : ℕ) (s : List ℕ) (at : ℕ) (z : R) (stop : Refusal → R) (go : List ℕ × (Unit {0} × (ℕ × List ℕ)) → ℕ → R) (x : InputRead) (p : x ≡ spendAt index s at) where
+  pub on-spend : (f : InputFields) (n : ℕ) → x ≡ I.Whole f n → ((v : List ℕ × (Unit {0} × (ℕ × List ℕ))) → z ≡ go v n) → z ≡ spend .run s at stop go
+  on-spend f n q e =
+      let (v, m, t, i) = answer-took spend s at I.Refused (spendWhole index) x p (I.Whole f n) q (λ e i. let z : _≡_ {A = ℕ} 0 1 = cc in omega arith) in
+      let em : m ≡ n = cc in
+      e v ∙ sym (W.run-took spend s at stop go v n (t ∙ ap (took v) em))
+
+  pub on-spend-refused : (e : Refusal) → x ≡ I.Refused e → z ≡ stop e → z ≡ spend .run s at stop go
+  on-spend-refused e q r =
+      let (d, t, w) = answer-refused spend s at I.Refused (spendWhole index) x p (I.Refused e) q (λ v m i. let z : _≡_ {A = ℕ} 0 1 = cc in omega arith) in
+      let i : d ≡ e = cc in
+      r ∙ ap stop (sym i) ∙ sym (W.run-refused spend s at stop go d t)
 
 -- ---- rulesets: a chain up to a refusal, and one that went through to its end
 

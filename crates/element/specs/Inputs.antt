@@ -6,7 +6,7 @@ use lib.ListN.{length, take}
 use Rattle.wire.specs.Numbers.{unknownType}
 use Rattle.wire.specs.Format.{Format}
 use Rattle.wire.specs.Fields.{number, blob, constant}
-use Rattle.wire.specs.Sequence.{andThen, guard, named}
+use Rattle.wire.specs.Sequence.{andThen, named}
 use Rattle.wire.specs.Series.{above, counted}
 use Rattle.element.specs.Outputs.{amount}
 use Rattle.element.specs.declared.InputFields.{InputFields}
@@ -38,7 +38,7 @@ spend = andThen (blob 32) (λ asset. andThen (constant 4 5 unknownType) (λ type
 
 -- an input whose key is above the key bytes `before`
 unfoldable pub inputAfter : List ℕ → Format Input
-unfolding named andThen guard key spend
+unfolding named andThen
 inputAfter before =
     named (andThen (above key before) (λ k. spend))
     (λ ((txid, index), (asset, (type, (n, list)))). record { txid = txid; index = index; asset = asset; amount = n; indices = list })

@@ -8,7 +8,7 @@ use Rattle.wire.specs.Bytes.{pick}
 use Rattle.wire.specs.Numbers.{unknownType}
 use Rattle.wire.specs.Format.{Format}
 use Rattle.wire.specs.Fields.{number, blob}
-use Rattle.wire.specs.Sequence.{andThen, guard, named, tag}
+use Rattle.wire.specs.Sequence.{andThen, named, tag}
 use Rattle.wire.specs.Series.{above, notBelow, counted}
 use Rattle.element.specs.Strings.{payload}
 use Rattle.element.specs.Owners.{Owners, owners, ownersFields}
@@ -109,7 +109,7 @@ stateOutputs k = counted (number 4) (notBelow (output (fxOutputs k)))
 
 -- an initial state whose FxID is above the bytes `before`
 unfoldable pub initialStateAfter : List ℕ → Format InitialState
-unfolding named andThen guard fxId
+unfolding named andThen
 initialStateAfter before =
     named (andThen (above fxId before) stateOutputs)
     (λ (k, list). record { fx = k; outputs = list })
