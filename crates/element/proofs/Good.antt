@@ -11,7 +11,7 @@ use borrow.Author.Tests.{ltb-true, lt-ltb, leb-true, le-leb, eqb-true, eq-eqb}
 use Rattle.wire.specs.Bytes.{Bytes, digits, length-digits, below, pick}
 use Rattle.wire.specs.Numbers.{unknownType}
 use Rattle.wire.specs.Fields.{Sized, number, blob}
-use Rattle.wire.specs.Sequence.{andThen, tag}
+use Rattle.wire.specs.Sequence.{guard, andThen, tag}
 use Rattle.wire.specs.Series.{left, Chain, above, notBelow, series, counted}
 use Rattle.wire.specs.Orders.{All, OneOf, Increasing, Nondecreasing, Ascending}
 use Rattle.wire.proofs.Bytes.{key-below}
@@ -177,7 +177,7 @@ key-order a b i j g h = rw (key-below a b i j (omega arith) (g .index-width) (h 
 
 -- an input is read in view of the bytes of the one before
 pub input-good : (prev : List ℕ) (i : Input) → input prev .Good i ↔ (GoodInput i × (below (take 36 prev) (inputKey i) ≡ true))
-unfolding inputAfter key blob number
+unfolding inputAfter key blob number guard spend
 input-good prev i = (
   λ h. (
     record {
@@ -196,7 +196,7 @@ input-good prev i = (
 
 -- what an input begins with
 pub input-front : (prev : List ℕ) (i : Input) → (t : List ℕ) × (input prev .write i ≡ inputKey i ++ t)
-unfolding inputAfter key blob number
+unfolding inputAfter key blob number guard spend
 input-front prev i = (spend .write (i .asset, (tt, (i .amount, i .indices))), refl)
 
 -- ---- operations
@@ -284,7 +284,7 @@ fxCode-listed nftFx = inr (inl refl)
 -- an initial state is read in view of the bytes of the one before
 pub initialState-good : (prev : List ℕ) (v : InitialState)
     → initialState prev .Good v ↔ (GoodInitialState v × (below (take 4 prev) (digits 4 (fxCode (v .fx))) ≡ true))
-unfolding initialStateAfter fxId number stateOutputs
+unfolding initialStateAfter fxId number stateOutputs guard
 initialState-good prev v = (
   λ h.
       let (count, (each, sorted)) = list .0 (h .1) in
@@ -312,5 +312,5 @@ initialState-good prev v = (
 
 -- what an initial state begins with
 pub initialState-front : (prev : List ℕ) (v : InitialState) → (t : List ℕ) × (initialState prev .write v ≡ digits 4 (fxCode (v .fx)) ++ t)
-unfolding initialStateAfter fxId number stateOutputs
+unfolding initialStateAfter fxId number stateOutputs guard
 initialState-front prev v = (counted (number 4) (notBelow (output (fxOutputs (v .fx)))) .write (v .outputs), refl)

@@ -1,7 +1,7 @@
 -- How the readers of this crate meet their formats: what each answer says of the reading that its function ensures, and the turns of the lists.
 -- Assumes nothing.
 use Prim.Native.Nat.{ℕ, zero, suc, _+_, _-_, _*_, _^_, _≤_, _<_}
-use mathlib.Core.Path.{_≡_, refl, sym, ap, _∙_}
+use mathlib.Core.Path.{_≡_, refl, sym, ap, ap₂, _∙_}
 use mathlib.Core.Bool.{Bool, true, false}
 use mathlib.Core.List.{List, [], _∷_, _++_}
 use native.Mathlib.Omega.{arith}
@@ -17,11 +17,11 @@ use Rattle.wire.specs.declared.Part.the-variants as P
 use Rattle.wire.specs.declared.Number.{Number}
 use Rattle.wire.specs.declared.Number.the-variants as N
 use Rattle.wire.specs.Bytes.{Bytes, digits, length-digits, below, pick, part}
-use Rattle.wire.specs.Format.{Format, Result, took, refused, onResult, read, Stands, stands-part, run-alike-read}
-use Rattle.wire.specs.Numbers.{by, notPrintable}
-use Rattle.wire.specs.Fields.{blob, number}
+use Rattle.wire.specs.Format.{Format, Result, took, refused, onResult, read, Stands, stands-part, run-alike, run-alike-read}
+use Rattle.wire.specs.Numbers.{by, cutAt, notPrintable, unknownType}
+use Rattle.wire.specs.Fields.{blob, number, length-number}
 use Rattle.wire.specs.Sequence.{guard}
-use Rattle.wire.specs.Series.{items, listRun, left, increasing, series}
+use Rattle.wire.specs.Series.{items, listRun, left, increasing, nondecreasing, unordered, series, items-sized}
 use Rattle.wire.specs.Order.{keyBelow}
 use Rattle.wire.specs.Answer.{ended, valued, wholeAt}
 use Rattle.wire.proofs.Bytes.{Slice, slice-bytes, found, below-digits, key-below}
@@ -30,8 +30,8 @@ use Rattle.element.specs.Strings.{isPrintable, unprintable, string}
 use Rattle.element.specs.Owners.{Owners, owners, ownersFields}
 use Rattle.element.specs.Outputs.{transferBody, OutputType, Output, output, TransferableOutput, transferableOutput, outputFields}
 use Rattle.element.specs.Inputs.{key, Input, spend, inputAfter, input}
-use Rattle.element.specs.Operations.{OperationType, mintNft, transferNft, OperationOwners, terms, termsFields, recipients, action, Operation, operation, Fx, fxCode, fxOf, stateOutputs}
-use Rattle.element.specs.Answer.{stringWhole, stringAt, ownersWhole, ownersAt, transferWhole, transferBodyAt, outputWhole, outputAt, transferableWhole, transferableAt, spendWhole, spendAt, termsWhole, termsAt, operationWhole, operationAt}
+use Rattle.element.specs.Operations.{OperationType, mintNft, transferNft, OperationOwners, terms, termsFields, recipients, action, Operation, operation, Fx, secpFx, nftFx, fxCode, fxOf, fxOutputs, fxId, stateOutputs, InitialState, initialStateAfter, initialState}
+use Rattle.element.specs.Answer.{stringWhole, stringAt, ownersWhole, ownersAt, transferWhole, transferBodyAt, outputWhole, outputAt, transferableWhole, transferableAt, spendWhole, spendAt, termsWhole, termsAt, actionWhole, actionAt, operationWhole, operationAt}
 use Rattle.element.specs.declared.StringRead.{StringRead}
 use Rattle.element.specs.declared.StringRead.the-variants as S
 use Rattle.element.specs.declared.OwnersFields.{OwnersFields}
@@ -47,6 +47,7 @@ use Rattle.element.specs.declared.InputRead.the-variants as I
 use Rattle.element.specs.declared.TermsFields.{TermsFields}
 use Rattle.element.specs.declared.TermsRead.{TermsRead}
 use Rattle.element.specs.declared.TermsRead.the-variants as T
+use Rattle.element.specs.declared.Recipients.the-variants as Q
 use Rattle.element.specs.declared.OperationFields.{OperationFields}
 use Rattle.element.specs.declared.OperationRead.{OperationRead}
 use Rattle.element.specs.declared.OperationRead.the-variants as Y
@@ -192,7 +193,7 @@ key-wide v h = omega (arith, h .0 .0, length-append (v .0) (digits 4 (v .1)), le
 
 module _ {R : Type 0} (c : ℕ) (s : List ℕ) (at : ℕ) (z : R) (stop : Refusal → R) (x : Part) where
   pub on-keys : (go : List (List ℕ × ℕ) → ℕ → R) (n : ℕ) → x ≡ ended (increasing key c) s at → x ≡ P.Next n → Slice s
-      → ((l : List (List ℕ × ℕ)) → c ≡ length l → at ≡ n - 36 * length l → z ≡ go l n) → z ≡ increasing key c .run s at stop go
+      → ((l : List (List ℕ × ℕ)) → c ≡ length l → n ≡ at + 36 * length l → z ≡ go l n) → z ≡ increasing key c .run s at stop go
   on-keys go n p q b e =
       let (l, h, i, t) = W.wide-list key 36 key-wide c s at n b x p q in
       e l h i ∙ sym (W.run-took (increasing key c) s at stop go l n t)
@@ -410,8 +411,205 @@ module _ {R : Type 0} (index : ℕ) (s : List ℕ) (at : ℕ) (z : R) (stop : Re
       let i : d ≡ e = cc in
       r ∙ ap stop (sym i) ∙ sym (W.run-refused spend s at stop go d t)
 
+-- ---- places: how far a field that was read goes
+
+pub value-next : (k : ℕ) (s : List ℕ) (at : ℕ) (x : Number) (v n : ℕ) → x ≡ valued (number k) s at → x ≡ N.Value v n → Slice s → n ≡ at + k
+value-next k s at x v n p q b =
+    let t = W.number-value-inv (read (number k) s at) v n (sym (number k .same s at N.Refused N.Value) ∙ found p q) in
+    number k .sound s at v n (slice-bytes s b) t .1 .ends ∙ ap (λ j. at + j) (length-number k v)
+
+pub part-next : (k : ℕ) (s : List ℕ) (at : ℕ) (x : Part) (n : ℕ) → x ≡ ended (blob k) s at → x ≡ P.Next n → Slice s → n ≡ at + k
+unfolding blob
+part-next k s at x n p q b =
+    let (v, t) = W.next-took (blob k) s at x n p q in
+    let (g, h) = blob k .sound s at v n (slice-bytes s b) t in
+    h .ends ∙ ap (λ j. at + j) (g .0)
+
+pub string-next : (most : ℕ) (s : List ℕ) (at : ℕ) (x : StringRead) (f c n : ℕ) → x ≡ stringAt most s at → x ≡ S.Whole f c n → Slice s → f ≡ at + 4
+unfolding string blob
+string-next most s at x f c n p q b =
+    let (v, m, t, w) = answer-took (string 4 most) s at S.Refused stringWhole x p (S.Whole f c n) q (λ e i. let z : _≡_ {A = ℕ} 0 1 = cc in omega arith) in
+    let em : m ≡ n = cc in
+    let ef : f ≡ m - length v = cc in
+    let (g, h) = string 4 most .sound s at v m (slice-bytes s b) t in
+    omega (arith, h .ends, length-append (number 4 .write (length v)) v, length-number 4 (length v))
+
+-- the reading goes on with that
+module _ {R : Type 0} (s : List ℕ) (at : ℕ) (z : R) (stop : Refusal → R) (b : Slice s) where
+  pub on-value-next : (k : ℕ) (go : ℕ → ℕ → R) (x : Number) (v n : ℕ) → x ≡ valued (number k) s at → x ≡ N.Value v n → (n ≡ at + k → z ≡ go v n) → z ≡ number k .run s at stop go
+  on-value-next k go x v n p q e = W.on-value k s at z stop go x v n p q (e (value-next k s at x v n p q b))
+
+  pub on-part-next : (k : ℕ) (go : List ℕ → ℕ → R) (x : Part) (n : ℕ) → x ≡ ended (blob k) s at → x ≡ P.Next n → (n ≡ at + k → z ≡ go (part at n s) n) → z ≡ blob k .run s at stop go
+  on-part-next k go x n p q e = W.on-part k s at z stop go x n p q (e (part-next k s at x n p q b))
+
+  pub on-string-next : (most : ℕ) (go : List ℕ → ℕ → R) (x : StringRead) (f c n : ℕ) → x ≡ stringAt most s at → x ≡ S.Whole f c n
+      → ((v : List ℕ) → f ≡ at + 4 → f ≡ n - length v → c ≡ length v → z ≡ go v n) → z ≡ string 4 most .run s at stop go
+  on-string-next most go x f c n p q e = on-string most s at z stop go x p f c n q (λ v h i. e v (string-next most s at x f c n p q b) h i)
+
+pub nft-transfer-made : (at g p f c d k : ℕ) (w u : OwnersFields) (n : ℕ) → g ≡ at + 4 → p ≡ g + 4 → f ≡ p + 4 → c ≡ d → w ≡ u
+    → O.Whole (F.NftTransfer k f c w) n ≡ O.Whole (F.NftTransfer k (at + 12) d u) n
+nft-transfer-made at g p f c d k w u n hg hp hf e i = let j : f ≡ at + 12 = omega arith in rw (j, e, i)
+
+pub terms-made : (at i c d g p q l m n : ℕ) → i ≡ at + 4 → c ≡ d → p ≡ q → l ≡ m
+    → T.Whole record { «indices_at» = i; «indices_count» = c; group = g; «payload_at» = p; «payload_length» = l } n
+    ≡ T.Whole record { «indices_at» = at + 4; «indices_count» = d; group = g; «payload_at» = q; «payload_length» = m } n
+terms-made at i c d g p q l m n e f h k = rw (e, f, h, k)
+
+-- ---- operations
+
+abbrev Terms : Type 0
+Terms = List ℕ × (ℕ × List ℕ)
+
+module _ {R : Type 0} (s : List ℕ) (at : ℕ) (z : R) (stop : Refusal → R) (go : Terms → ℕ → R) (x : TermsRead) (p : x ≡ termsAt s at) where
+  pub on-terms : (w : TermsFields) (n : ℕ) → x ≡ T.Whole w n → Slice s → ((v : Terms) → w ≡ termsFields at n v → n ≡ at + length (terms .write v) → z ≡ go v n)
+      → z ≡ terms .run s at stop go
+  on-terms w n q b e =
+      let (v, m, t, i) = answer-took terms s at T.Refused (termsWhole at) x p (T.Whole w n) q (λ e i. let z : _≡_ {A = ℕ} 0 1 = cc in omega arith) in
+      let em : m ≡ n = cc in
+      let ew : w ≡ termsFields at m v = cc in
+      let u = t ∙ ap (took v) em in
+      e v (ew ∙ ap (λ k. termsFields at k v) em) (terms .sound s at v n (slice-bytes s b) u .1 .ends) ∙ sym (W.run-took terms s at stop go v n u)
+
+  pub on-terms-refused : (e : Refusal) → x ≡ T.Refused e → z ≡ stop e → z ≡ terms .run s at stop go
+  on-terms-refused e q r =
+      let (d, t, w) = answer-refused terms s at T.Refused (termsWhole at) x p (T.Refused e) q (λ v m i. let z : _≡_ {A = ℕ} 0 1 = cc in omega arith) in
+      let i : d ≡ e = cc in
+      r ∙ ap stop (sym i) ∙ sym (W.run-refused terms s at stop go d t)
+
+-- so many owners, of no order
+pub on-owners-list : {R : Type 0} (c : ℕ) (s : List ℕ) (at : ℕ) (z : R) (stop : Refusal → R) (go : List Owners → ℕ → R) (x : Part) (n : ℕ)
+    → x ≡ ended (unordered owners c) s at → x ≡ P.Next n → Slice s → ((l : List Owners) → c ≡ length l → z ≡ go l n) → z ≡ unordered owners c .run s at stop go
+on-owners-list c s at z stop go x n p q b e =
+    let (l, t) = W.next-took (unordered owners c) s at x n p q in
+    e l (sym (items-sized (λ prev. owners) (left (λ prev. owners)) [] c l (unordered owners c .sound s at l n (slice-bytes s b) t .0)))
+    ∙ sym (W.run-took (unordered owners c) s at stop go l n t)
+
+module _ (place count at i o : ℕ) (v : Terms) (w : TermsFields) (n : ℕ) (hi : i ≡ at + 4) (hw : w ≡ termsFields i o v) (ho : o ≡ i + length (terms .write v)) where
+  same-end : o ≡ at + 4 + length (terms .write v)
+  same-end = ho ∙ ap (λ j. j + length (terms .write v)) hi
+
+  same-terms : w ≡ termsFields (at + 4) (at + 4 + length (terms .write v)) v
+  same-terms = hw ∙ ap₂ (λ j k. termsFields j k v) hi same-end
+
+  pub mint-action-made : (first c d : ℕ) → first ≡ o + 4 → c ≡ d
+      → Y.Whole record { «outputs_at» = place; «outputs_count» = count; terms = w; recipients = Q.Mint first c } n
+      ≡ Y.Whole record { «outputs_at» = place; «outputs_count» = count; terms = termsFields (at + 4) (at + 4 + length (terms .write v)) v; recipients = Q.Mint (at + 4 + length (terms .write v) + 4) d } n
+  mint-action-made first c d e f = rw (same-terms, e, same-end, f)
+
+  pub transfer-action-made : (u y : OwnersFields) → u ≡ y
+      → Y.Whole record { «outputs_at» = place; «outputs_count» = count; terms = w; recipients = Q.Transfer u } n
+      ≡ Y.Whole record { «outputs_at» = place; «outputs_count» = count; terms = termsFields (at + 4) (at + 4 + length (terms .write v)) v; recipients = Q.Transfer y } n
+  transfer-action-made u y e = rw (same-terms, e)
+
+-- what follows an operation's pairs, seen from the operation's start (its asset id is none of its fields)
+action-whole : (place count at t q : ℕ) (l : List (List ℕ × ℕ)) → q ≡ at + 32 → place ≡ q + 4 → count ≡ length l → t ≡ place + 36 * length l
+    → (v : (k : OperationType) × (Terms × OperationOwners k)) (n : ℕ)
+    → actionWhole place count t v n ≡ operationWhole at record { asset = []; outputs = l; terms = v .1 .0; owners = (v .0, v .1 .1) } n
+action-whole place count at t q l hq hp hc ht v n =
+    let ep : place ≡ at + 36 = omega arith in
+    let et : t + 4 ≡ at + 36 + 36 * length l + 4 = omega arith in
+    rw (et, ep, hc)
+
+module _ (s : List ℕ) (place count at t q : ℕ) (l : List (List ℕ × ℕ)) (x : OperationRead) where
+  pub on-action : x ≡ actionAt place count s t → q ≡ at + 32 → place ≡ q + 4 → count ≡ length l → t ≡ place + 36 * length l
+      → x ≡ action .run s t Y.Refused (λ v n. operationWhole at record { asset = []; outputs = l; terms = v .1 .0; owners = (v .0, v .1 .1) } n)
+  on-action p hq hp hc ht = p ∙ run-alike action s t Y.Refused _ _ (action-whole place count at t q l hq hp hc ht)
+
+module _ {R : Type 0} (s : List ℕ) (at : ℕ) (z : R) (stop : Refusal → R) (go : Operation → ℕ → R) (x : OperationRead) (p : x ≡ operationAt s at) where
+  pub on-operation : (f : OperationFields) (n : ℕ) → x ≡ Y.Whole f n → ((v : Operation) → z ≡ go v n) → z ≡ operation .run s at stop go
+  on-operation f n q e =
+      let (v, m, t, i) = answer-took operation s at Y.Refused (operationWhole at) x p (Y.Whole f n) q (λ e i. let z : _≡_ {A = ℕ} 0 1 = cc in omega arith) in
+      let em : m ≡ n = cc in
+      e v ∙ sym (W.run-took operation s at stop go v n (t ∙ ap (took v) em))
+
+  pub on-operation-refused : (e : Refusal) → x ≡ Y.Refused e → z ≡ stop e → z ≡ operation .run s at stop go
+  on-operation-refused e q r =
+      let (d, t, w) = answer-refused operation s at Y.Refused (operationWhole at) x p (Y.Refused e) q (λ v m i. let z : _≡_ {A = ℕ} 0 1 = cc in omega arith) in
+      let i : d ≡ e = cc in
+      r ∙ ap stop (sym i) ∙ sym (W.run-refused operation s at stop go d t)
+
+pub ruleset acting = (on-value-next, W.on-short, W.if-eq, W.if-ne, on-terms, on-terms-refused, W.on-list-refused, on-owners-refused)
+
+pub ruleset acted = (on-value-next, W.if-eq, W.if-ne, on-terms, on-owners-list, on-owners, mint-action-made, transfer-action-made)
+
+-- ---- initial states
+
+-- which outputs an FxID allows, where the code has compared it with 0
+module _ (fx c : ℕ) (s : List ℕ) (at : ℕ) (z : Part) where
+  pub on-secp : fx ≡ 0 → z ≡ ended (nondecreasing (output (fxOutputs secpFx)) c) s at → z ≡ ended (nondecreasing (output (fxOutputs (fxOf fx))) c) s at
+  on-secp h e = rw h e
+
+  pub on-nft : (fx ≡ 0 → ⊥) → z ≡ ended (nondecreasing (output (fxOutputs nftFx)) c) s at → z ≡ ended (nondecreasing (output (fxOutputs (fxOf fx))) c) s at
+  on-nft h e = rw (ne-eqb fx 0 h) e
+
+fxOf-write : (n : ℕ) → n ≤ 1 → fxId .write (fxOf n) ≡ number 4 .write n
+unfolding fxId
+fxOf-write zero h = refl
+fxOf-write (suc zero) h = refl
+fxOf-write (suc (suc n)) h = absurd (omega arith)
+
+fx-run : {R : Type 0} (s : List ℕ) (at : ℕ) (stop : Refusal → R) (go : Fx → ℕ → R)
+    → fxId .run s at stop go ≡ number 4 .run s at stop (λ n m. pick (leb n 1) (go (fxOf n) m) (stop (by unknownType at)))
+unfolding fxId
+fx-run s at stop go = run-alike (number 4) s at stop _ _ each
+  where
+    each : (n m : ℕ) → pick (eqb n 0) (go secpFx m) (pick (eqb n 1) (go nftFx m) (stop (by unknownType at))) ≡ pick (leb n 1) (go (fxOf n) m) (stop (by unknownType at))
+    each zero m = refl
+    each (suc zero) m = refl
+    each (suc (suc n)) m = rw (ne-eqb (suc (suc n)) 0 (λ e. omega arith), ne-eqb (suc (suc n)) 1 (λ e. omega arith), lt-leb (suc (suc n)) 1 (omega arith))
+
+module _ {R : Type 0} (s : List ℕ) (at : ℕ) (z : R) (stop : Refusal → R) (go : Fx → ℕ → R) (x : Number) (p : x ≡ valued (number 4) s at) where
+  pub on-fx : (v n : ℕ) → x ≡ N.Value v n → v ≤ 1 → z ≡ go (fxOf v) n → z ≡ fxId .run s at stop go
+  on-fx v n q h e = W.on-value 4 s at z stop _ x v n p q (rw (le-leb v 1 h) e) ∙ sym (fx-run s at stop go)
+
+  pub on-fx-unknown : (v n : ℕ) → x ≡ N.Value v n → 1 < v → z ≡ stop (by unknownType at) → z ≡ fxId .run s at stop go
+  on-fx-unknown v n q h e = W.on-value 4 s at z stop _ x v n p q (rw (lt-leb v 1 h) e) ∙ sym (fx-run s at stop go)
+
+  pub on-fx-short : (e : Refusal) → x ≡ N.Refused e → (f : Refusal) → f ≡ cutAt 4 s at → z ≡ stop f → z ≡ fxId .run s at stop go
+  on-fx-short e q f g r = W.on-short 4 s at z stop _ x e p q f g r ∙ sym (fx-run s at stop go)
+
+module _ (fx : ℕ) (small : fx ≤ 1) where
+  module _ {R : Type 0} (any : Bool) (last : ℕ) (t : Bool) (z X Y : R) (e : t ≡ pick any (ltb last fx) true) (hl : last ≤ 1) where
+    fx-test : below (pick any (number 4 .write last) []) (fxId .write (fxOf fx)) ≡ t
+    unfolding number
+    fx-test = rw (fxOf-write fx small) (number-test any last fx t t t t e (omega arith) (omega arith))
+
+    pub if-fx-follows : t ≡ true → z ≡ X → z ≡ pick (below (pick any (number 4 .write last) []) (fxId .write (fxOf fx))) X Y
+    if-fx-follows i j = rw (fx-test, i) j
+
+    pub if-fx-not : t ≡ false → z ≡ Y → z ≡ pick (below (pick any (number 4 .write last) []) (fxId .write (fxOf fx))) X Y
+    if-fx-not i j = rw (fx-test, i) j
+
+  pub fx-again : {A R : Type 0} (E : List ℕ → Format A) (step : List ℕ → A → List ℕ) (s : List ℕ) (m k : ℕ) (stop : Refusal → R) (go : List A → ℕ → R)
+      → items E step (number 4 .write fx) m .run s k stop go ≡ items E step (fxId .write (fxOf fx)) m .run s k stop go
+  fx-again E step s m k stop go = rw (fxOf-write fx small)
+
+abbrev pub stateKey : InitialState → List ℕ
+stateKey v = fxId .write (v .fx)
+
+state-front : (b : List ℕ) (v : InitialState) → initialStateAfter b .Good v → take 4 (initialStateAfter b .write v) ≡ stateKey v
+unfolding initialStateAfter guard fxId
+state-front b v g = take-at (stateKey v) (stateOutputs (v .fx) .write (v .outputs)) 4 (length-number 4 (fxCode (v .fx)))
+
+-- the initial states that are left, by the FxID of the one before
+abbrev pub statesAfter : List ℕ → ℕ → Format (List InitialState)
+statesAfter before n = items initialStateAfter (λ b v. stateKey v) before n
+
+pub states-are : (s : List ℕ) → Slice s → (n at : ℕ) → ended (statesAfter [] n) s at ≡ ended (series initialState n) s at
+states-are s b n at = items-viewed initialStateAfter 4 stateKey state-front s (slice-bytes s b) n [] at P.Refused (λ l k. P.Next k)
+
+module _ {R : Type 0} (k : Fx) (s : List ℕ) (at : ℕ) (z : R) (stop : Refusal → R) (go : List Output → ℕ → R) (x : Part) where
+  pub on-state-outputs : (n : ℕ) → x ≡ ended (stateOutputs k) s at → x ≡ P.Next n → ((v : List Output) → z ≡ go v n) → z ≡ stateOutputs k .run s at stop go
+  on-state-outputs n p q e = W.ends (stateOutputs k) R s at z stop go x n p q e
+
+  pub on-state-outputs-refused : (e : Refusal) → x ≡ ended (stateOutputs k) s at → x ≡ P.Refused e → z ≡ stop e → z ≡ stateOutputs k .run s at stop go
+  on-state-outputs-refused e p q r = W.stops (stateOutputs k) R s at z stop go x e p q r
+
 -- ---- rulesets: a chain up to a refusal, and one that went through to its end
 
 pub ruleset reading = (W.on-value, W.on-short, W.on-part, W.on-cut, W.on-part-refused, W.on-list, W.on-list-refused, W.tests, on-owners-refused, on-string-refused, on-transfer-refused)
 
 pub ruleset wholly = (W.on-value, W.on-part, W.on-parts, W.on-numbers, W.tests, string-made, on-string, on-owners, on-transfer, owners-made, input-made, mint-made, transfer-made, nft-mint-made, output-made)
+
+-- the same, where places are counted from the start
+pub ruleset placed = (on-value-next, on-part-next, W.on-numbers, W.if-eq, W.if-ne, on-string-next, on-owners, nft-transfer-made, terms-made)

@@ -144,12 +144,12 @@ module _ {A : Type 0} (F : Format A) (k : ℕ) (wide : (a : A) → F .Good a →
       rw (length-append (F .write a) (listWrite (above F) (left (above F)) (F .write a) l), wide a (h .0 .0), wide-chain (F .write a) l (h .1), mul-suc) (add-comm k (k * length l))
 
   pub wide-list : (c : ℕ) (s : List ℕ) (at n : ℕ) → Slice s → (x : Part) → x ≡ ended (increasing F c) s at → x ≡ P.Next n
-      → (l : List A) × (c ≡ length l) × (at ≡ n - k * length l) × (read (increasing F c) s at ≡ took l n)
+      → (l : List A) × (c ≡ length l) × (n ≡ at + k * length l) × (read (increasing F c) s at ≡ took l n)
   unfolding items
   wide-list c s at n b x p q =
       let (l, t) = next-took (increasing F c) s at x n p q in
       let (g, h) = increasing F c .sound s at l n (slice-bytes s b) t in
-      (l, sym (g .0), omega (arith, h .ends, wide-chain [] l (g .1)), t)
+      (l, sym (g .0), h .ends ∙ ap (λ j. at + j) (wide-chain [] l (g .1)), t)
 
 blob-wide : (k : ℕ) (b : List ℕ) → blob k .Good b → length (blob k .write b) ≡ k
 unfolding blob
@@ -160,13 +160,13 @@ module _ {R : Type 0} (k c : ℕ) (s : List ℕ) (at : ℕ) (z : R) (stop : Refu
       → ((l : List (List ℕ)) → c ≡ length l → at ≡ n - k * length l → z ≡ go l n) → z ≡ increasing (blob k) c .run s at stop go
   on-parts go n p q b e =
       let (l, h, i, t) = wide-list (blob k) k (blob-wide k) c s at n b x p q in
-      e l h i ∙ sym (run-took (increasing (blob k) c) s at stop go l n t)
+      e l h (omega arith) ∙ sym (run-took (increasing (blob k) c) s at stop go l n t)
 
   pub on-numbers : (go : List ℕ → ℕ → R) (n : ℕ) → x ≡ ended (increasing (number k) c) s at → x ≡ P.Next n → Slice s
       → ((l : List ℕ) → c ≡ length l → at ≡ n - k * length l → z ≡ go l n) → z ≡ increasing (number k) c .run s at stop go
   on-numbers go n p q b e =
       let (l, h, i, t) = wide-list (number k) k (λ v h. length-number k v) c s at n b x p q in
-      e l h i ∙ sym (run-took (increasing (number k) c) s at stop go l n t)
+      e l h (omega arith) ∙ sym (run-took (increasing (number k) c) s at stop go l n t)
 
 -- a part: its bytes are those of s
 part-took : (k : ℕ) (s : List ℕ) (at : ℕ) (x : Part) (n : ℕ) → x ≡ ended (blob k) s at → x ≡ P.Next n → read (blob k) s at ≡ took (part at n s) n

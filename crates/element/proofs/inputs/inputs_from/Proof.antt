@@ -49,6 +49,6 @@ inputs-from-spec =
     (λ c. search needs)  -- enum-known-next
     (λ c. search needs)  -- sub-left
     (λ c. search needs)  -- loop-less
-    (λ c. search (list-on, on-part-there, on-value, value-small, if-key-follows, on-spend, key-again, id-length) depth 10)  -- loop-again
+    (λ c. (search id-length, search value-small, search (list-on, on-part-there, on-value, value-small, if-key-follows, on-spend, key-again) depth 10))  -- loop-again
     (λ c. search (list-on, on-part-there, on-cut, on-value, on-short, value-small, if-key-not) depth 10)  -- returns-4
     (λ c. search list-end))  -- returns-5
