@@ -6,12 +6,13 @@ use lib.ListN.{length, take, drop}
 use Rattle.wire.specs.Bytes.{value, digits, below}
 use Rattle.wire.specs.Format.{verdict, Result, took, refused}
 use Rattle.wire.specs.Fields.{number, blobRun, constant}
+use Rattle.wire.specs.Sequence.{guard}
 use Rattle.wire.specs.Series.{items, listRun, listWrite, counted}
 use Rattle.element.specs.Strings.{string, text, printable, unprintable, denomination}
 use Rattle.element.specs.Owners.{owners}
-use Rattle.element.specs.Outputs.{amount, output, transferableOutput}
+use Rattle.element.specs.Outputs.{amount, transferBody, output, transferableOutput}
 use Rattle.element.specs.Inputs.{key, indices, spend, inputAfter}
-use Rattle.element.specs.Operations.{terms, operation, fxId, initialStateAfter}
+use Rattle.element.specs.Operations.{terms, action, operation, fxId, stateOutputs, initialStateAfter}
 use Rattle.transaction.specs.Slots.{signatureWidth}
 use Rattle.transaction.specs.Credentials.{credentials}
 use Rattle.transaction.specs.Entries.{rows, entriesFrom, credentialEntries}
@@ -132,5 +133,5 @@ table =
     ∷ []
 
 pub proved-cases : AllHold table
-unfolding Any.check unsigned head wants credentials signatureWidth outputs inputs operations states owners amount output transferableOutput key indices spend inputAfter terms operation fxId initialStateAfter string text printable unprintable denomination constant counted number blobRun items listRun listWrite value digits below rows entriesFrom credentialEntries form wanted asked planEntries listOf entries
+unfolding Any.check unsigned head wants credentials signatureWidth outputs inputs operations states owners amount transferBody output transferableOutput key indices spend inputAfter terms action operation fxId stateOutputs initialStateAfter guard string text printable unprintable denomination constant counted number blobRun items listRun listWrite value digits below rows entriesFrom credentialEntries form wanted asked planEntries listOf entries
 proved-cases = (refl, (refl, (refl, (refl, (refl, (refl, (refl, (refl, (refl, (refl, (refl, (refl, (refl, (refl, (refl, tt)))))))))))))))
