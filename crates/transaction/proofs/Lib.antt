@@ -1,5 +1,5 @@
 -- What is proved of a signed transaction
-pub mod Credentials
+pub mod CredentialLaws
 pub mod Signed
 pub mod Codec
 pub mod Good
