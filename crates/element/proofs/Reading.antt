@@ -121,21 +121,21 @@ module _ {R : Type 0} (any : Bool) (prev v : ℕ) (t : Bool) (z X Y : R) (e : t 
 
 -- ---- what an answer says of the reading, for any answer with a case for what is wholly read and one for a refusal
 
-took-of : {A T : Type 0} (o : Result A) (stop : Refusal → T) (whole : A → ℕ → T) (y : T) → onResult o stop whole ≡ y → ((e : Refusal) → stop e ≡ y → ⊥)
+pub took-of : {A T : Type 0} (o : Result A) (stop : Refusal → T) (whole : A → ℕ → T) (y : T) → onResult o stop whole ≡ y → ((e : Refusal) → stop e ≡ y → ⊥)
     → (v : A) × (m : ℕ) × (o ≡ took v m) × (whole v m ≡ y)
 took-of (took v m) stop whole y q n = (v, m, refl, q)
 took-of (refused e) stop whole y q n = absurd (n e q)
 
-refused-of : {A T : Type 0} (o : Result A) (stop : Refusal → T) (whole : A → ℕ → T) (y : T) → onResult o stop whole ≡ y → ((v : A) (m : ℕ) → whole v m ≡ y → ⊥)
+pub refused-of : {A T : Type 0} (o : Result A) (stop : Refusal → T) (whole : A → ℕ → T) (y : T) → onResult o stop whole ≡ y → ((v : A) (m : ℕ) → whole v m ≡ y → ⊥)
     → (e : Refusal) × (o ≡ refused e) × (stop e ≡ y)
 refused-of (took v m) stop whole y q n = absurd (n v m q)
 refused-of (refused e) stop whole y q n = (e, refl, q)
 
 module _ {A T : Type 0} (F : Format A) (s : List ℕ) (at : ℕ) (stop : Refusal → T) (whole : A → ℕ → T) (x : T) (p : x ≡ F .run s at stop whole) (y : T) (q : x ≡ y) where
-  answer-took : ((e : Refusal) → stop e ≡ y → ⊥) → (v : A) × (m : ℕ) × (read F s at ≡ took v m) × (whole v m ≡ y)
+  pub answer-took : ((e : Refusal) → stop e ≡ y → ⊥) → (v : A) × (m : ℕ) × (read F s at ≡ took v m) × (whole v m ≡ y)
   answer-took = took-of (read F s at) stop whole y (sym (F .same s at stop whole) ∙ found p q)
 
-  answer-refused : ((v : A) (m : ℕ) → whole v m ≡ y → ⊥) → (e : Refusal) × (read F s at ≡ refused e) × (stop e ≡ y)
+  pub answer-refused : ((v : A) (m : ℕ) → whole v m ≡ y → ⊥) → (e : Refusal) × (read F s at ≡ refused e) × (stop e ≡ y)
   answer-refused = refused-of (read F s at) stop whole y (sym (F .same s at stop whole) ∙ found p q)
 
 -- ---- strings: a body that is wholly there

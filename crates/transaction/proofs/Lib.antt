@@ -1,5 +1,6 @@
 -- What is proved of a signed transaction
 pub mod CredentialLaws
+pub mod Reading
 pub mod Signed
 pub mod Codec
 pub mod Good
