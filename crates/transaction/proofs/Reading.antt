@@ -24,7 +24,11 @@ use Rattle.wire.specs.Answer.{ended, valued}
 use Rattle.wire.proofs.Bytes.{Slice, slice-bytes, found}
 use Rattle.wire.proofs.Reading as W
 use Rattle.element.specs.Strings.{string, text, denomination}
-use Rattle.element.specs.Answer.{stringWhole, stringAt}
+use Rattle.element.specs.Operations.{Operation, operation, operationFields}
+use Rattle.element.specs.Answer.{stringWhole, stringAt, operationWhole, operationAt}
+use Rattle.element.specs.declared.OperationFields.{OperationFields}
+use Rattle.element.specs.declared.OperationRead.{OperationRead}
+use Rattle.element.specs.declared.OperationRead.the-variants as Y
 use Rattle.element.specs.declared.StringRead.{StringRead}
 use Rattle.element.specs.declared.StringRead.the-variants as S
 use Rattle.element.proofs.Reading.{answer-took, answer-refused, on-value-next, on-part-next, on-string-refused}
@@ -33,7 +37,7 @@ use Rattle.transaction.specs.Credentials.{signatures, credentialPieces, 
 use Rattle.transaction.specs.Plan.{Value, form, atLeast}
 use Rattle.transaction.specs.Family.{Head, head, Unsigned, unsigned}
 use Rattle.transaction.specs.Avm.{kindCode, kindOf, kindOf-code, ownPlan, plan, avm}
-use Rattle.transaction.specs.Answer.{memoMost, headWhole, headAt, listWhole, ownFirst, ownCount, ownWhole, ownAt, layoutFrom, layout, bodyAt}
+use Rattle.transaction.specs.Answer.{memoMost, headWhole, headAt, listWhole, operationsAt, ownFirst, ownCount, ownWhole, ownAt, layoutFrom, layout, bodyAt, besideInputs, besideOperations, besideOwn, onPart}
 use Rattle.transaction.specs.declared.Kind.{Kind}
 use Rattle.transaction.specs.declared.Kind.the-variants as K
 use Rattle.transaction.specs.declared.HeadRead.{HeadRead}
@@ -156,6 +160,14 @@ chain-made at l f c e n x hl hf hc = let i : f ≡ at + x + 4 = omega arith in r
 pub by-kind : (k j : Kind) (s : List ℕ) (at : ℕ) (z : ListRead) → k ≡ j → z ≡ ownAt j s at → z ≡ ownAt k s at
 by-kind k j s at z h e = rw h e
 
+pub own-base : (k : Kind) (s : List ℕ) (at : ℕ) → k ≡ K.Base → L.Whole at 0 at ≡ ownAt k s at
+unfolding form
+own-base k s at h = rw h
+
+pub own-operations : (k : Kind) (s : List ℕ) (at : ℕ) (z : ListRead) → k ≡ K.Operation → z ≡ operationsAt s at → z ≡ ownAt k s at
+unfolding form
+own-operations k s at z h e = rw h e
+
 pub ruleset owning = (on-text, on-text-refused, on-denomination, on-denomination-refused, on-chain, W.on-cut, on-list, on-list-refused, asset-made, chain-made, list-made)
 
 module _ {R : Type 0} (k : Kind) (s : List ℕ) (at : ℕ) (z : R) (stop : Refusal → R) (go : Value (ownPlan k) → ℕ → R) (x : ListRead) (p : x ≡ ownAt k s at) where
@@ -205,3 +217,97 @@ pub on-body : (k : Kind) (h : Head Kind) (s : List ℕ) (n : ℕ) (z : UnsignedR
 on-body k h s n z e hk hn =
     let m : n ≡ length (head (avm memoMost) .write h) = omega arith in
     e ∙ rw hk (ap (λ (i : ℕ). form (plan memoMost (h .kind)) .run s n U.Refused (λ v c. U.Whole (layoutFrom (h .kind) i v) c)) m)
+
+-- ---- signatures, and a credential
+
+module _ (s : List ℕ) (at : ℕ) where
+  pub signatures-on : (n : ℕ) (z y : Part) → ended (pieces (signatures n [])) s at ≡ y → 0 < n
+      → z ≡ blob 65 .run s at P.Refused (λ b m. ended (pieces (signatures (n - 1) [])) s m) → z ≡ y
+  unfolding pieces signatures signatureWidth
+  signatures-on zero z y i h e = absurd (not-suc-le-zero h)
+  signatures-on (suc n) z y i h e = (rw (sub-one (suc n)) at e) ∙ i
+
+  pub signatures-end : (n : ℕ) (z y : Part) → ended (pieces (signatures n [])) s at ≡ y → n ≤ 0 → z ≡ P.Next at → z ≡ y
+  unfolding pieces signatures
+  signatures-end zero z y i h e = e ∙ i
+  signatures-end (suc n) z y i h e = absurd (not-suc-le-zero h)
+
+module _ {R : Type 0} (c : ℕ) (s : List ℕ) (at : ℕ) (z : R) (stop : Refusal → R) (go : List (List ℕ) → ℕ → R) (x : Part) (p : x ≡ ended (pieces (signatures c [])) s at) where
+  pub on-signatures : (n : ℕ) → x ≡ P.Next n → ((l : List (List ℕ)) → z ≡ go l n) → z ≡ pieces (signatures c []) .run s at stop go
+  on-signatures n q e = W.ends (pieces (signatures c [])) R s at z stop go x n p q e
+
+  pub on-signatures-refused : (e : Refusal) → x ≡ P.Refused e → z ≡ stop e → z ≡ pieces (signatures c []) .run s at stop go
+  on-signatures-refused e q r = W.stops (pieces (signatures c [])) R s at z stop go x e p q r
+
+pub ruleset piecewise = (W.on-value, W.on-short, W.if-eq, W.if-ne, on-signatures, on-signatures-refused)
+
+module _ {R : Type 0} (t c d : ℕ) (s : List ℕ) (at : ℕ) (z : R) (stop : Refusal → R) (go : List (List ℕ) → ℕ → R) (x : Part) (p : x ≡ ended (pieces (credentialPieces t c [])) s at) (h : c ≡ d) where
+  pub on-credential : (n : ℕ) → x ≡ P.Next n → ((v : List (List ℕ)) → z ≡ go v n) → z ≡ pieces (credentialPieces t d []) .run s at stop go
+  on-credential n q e = rw (← h) (W.ends (pieces (credentialPieces t c [])) R s at z stop go x n p q e)
+
+  pub on-credential-refused : (e : Refusal) → x ≡ P.Refused e → z ≡ stop e → z ≡ pieces (credentialPieces t d []) .run s at stop go
+  on-credential-refused e q r = rw (← h) (W.stops (pieces (credentialPieces t c [])) R s at z stop go x e p q r)
+
+-- ---- credentials beside the elements that want them
+
+module _ (s : List ℕ) (q at : ℕ) where
+  pub inputs-on : (n : ℕ) (z y : Part) → besideInputs n s q at ≡ y → 0 < n
+      → z ≡ blob 80 .run s q P.Refused (λ front i. number 4 .run s i P.Refused (λ c first. blob (4 * c) .run s first P.Refused (λ list next. pieces (credentialPieces 9 c []) .run s at P.Refused (λ l m. besideInputs (n - 1) s next m))))
+      → z ≡ y
+  unfolding besideInputs
+  inputs-on zero z y i h e = absurd (not-suc-le-zero h)
+  inputs-on (suc n) z y i h e = (rw (sub-one (suc n)) at e) ∙ i
+
+  pub inputs-end : (n : ℕ) (z y : Part) → besideInputs n s q at ≡ y → n ≤ 0 → z ≡ P.Next at → z ≡ y
+  unfolding besideInputs
+  inputs-end zero z y i h e = e ∙ i
+  inputs-end (suc n) z y i h e = absurd (not-suc-le-zero h)
+
+  pub operations-on : (n : ℕ) (z y : Part) → besideOperations n s q at ≡ y → 0 < n
+      → z ≡ operation .run s q P.Refused (λ v next. pieces (credentialPieces 14 (length (v .terms .0)) []) .run s at P.Refused (λ l m. besideOperations (n - 1) s next m))
+      → z ≡ y
+  unfolding besideOperations
+  operations-on zero z y i h e = absurd (not-suc-le-zero h)
+  operations-on (suc n) z y i h e = (rw (sub-one (suc n)) at e) ∙ i
+
+  pub operations-end : (n : ℕ) (z y : Part) → besideOperations n s q at ≡ y → n ≤ 0 → z ≡ P.Next at → z ≡ y
+  unfolding besideOperations
+  operations-end zero z y i h e = e ∙ i
+  operations-end (suc n) z y i h e = absurd (not-suc-le-zero h)
+
+-- an operation's index count
+module _ {R : Type 0} (s : List ℕ) (at : ℕ) (z : R) (stop : Refusal → R) (go : Operation → ℕ → R) (x : OperationRead) (p : x ≡ operationAt s at) where
+  pub on-operation-count : (f : OperationFields) (n : ℕ) → x ≡ Y.Whole f n → ((v : Operation) → f .terms .«indices_count» ≡ length (v .terms .0) → z ≡ go v n) → z ≡ operation .run s at stop go
+  on-operation-count f n q e =
+      let (v, m, t, i) = answer-took operation s at Y.Refused (operationWhole at) x p (Y.Whole f n) q (λ e i. let z : _≡_ {A = ℕ} 0 1 = cc in omega arith) in
+      let em : m ≡ n = cc in
+      let ef : f ≡ operationFields at m v = cc in
+      e v (ap (λ (g : OperationFields). g .terms .«indices_count») ef) ∙ sym (W.run-took operation s at stop go v n (t ∙ ap (took v) em))
+
+pub same : {A : Type 0} (a : A) → a ≡ a
+same a = refl
+
+pub own-none : (k : Kind) (n : ℕ) (s : List ℕ) (q at : ℕ) (j : Kind) → k ≡ j → besideOwn j n s q at ≡ besideOwn k n s q at
+own-none k n s q at j h = rw h
+
+pub by-kind-beside : (k j : Kind) (n : ℕ) (s : List ℕ) (q at : ℕ) (z : Part) → k ≡ j → z ≡ besideOwn j n s q at → z ≡ besideOwn k n s q at
+by-kind-beside k j n s q at z h e = rw h e
+
+-- ---- all of them: the count that is compared, and what follows
+
+module _ {R : Type 0} (n a w v : ℕ) (z x y : R) (h : v ≡ w) where
+  pub if-wanted : v ≤ n → n - v ≡ a → z ≡ x → z ≡ pick (eqb n (a + w)) x y
+  if-wanted k e i = rw (eq-eqb n (a + w) (omega arith)) i
+
+  pub if-fewer : n < v → z ≡ y → z ≡ pick (eqb n (a + w)) x y
+  if-fewer k i = rw (ne-eqb n (a + w) (λ e. omega arith)) i
+
+  pub if-other : v ≤ n → (n - v ≡ a → ⊥) → z ≡ y → z ≡ pick (eqb n (a + w)) x y
+  if-other k e i = rw (ne-eqb n (a + w) (λ j. e (omega arith))) i
+
+module _ (x z : Part) (go : ℕ → Part) where
+  pub on-part-next′ : (y : Part) (n : ℕ) → y ≡ x → y ≡ P.Next n → z ≡ go n → z ≡ onPart x go
+  on-part-next′ y n p q e = rw (sym p ∙ q) e
+
+  pub on-part-refused′ : (y : Part) (e : Refusal) → y ≡ x → y ≡ P.Refused e → z ≡ P.Refused e → z ≡ onPart x go
+  on-part-refused′ y e p q r = rw (sym p ∙ q) r

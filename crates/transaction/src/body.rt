@@ -191,10 +191,7 @@ pub fn own_at(s: &[u8], at: usize, kind: Kind) -> ListRead
     match kind {
         Kind::Base => ListRead::Whole(at, 0, at),
         Kind::CreateAsset => asset_at(s, at),
-        Kind::Operation => match operations_at(s, at) {
-            ListRead::Refused(refusal) => ListRead::Refused(refusal),
-            ListRead::Whole(first, count, next) => ListRead::Whole(first, count, next),
-        },
+        Kind::Operation => operations_at(s, at),
         Kind::Import => import_at(s, at),
         Kind::Export => export_at(s, at),
     }

@@ -146,24 +146,27 @@ pub fn own_wants(kind: Kind, count: u64) -> u64
 pub fn credentials_at(s: &[u8], at: usize, layout: Layout) -> Part
     ensures { λ r. ⌜ r ≡ credentialsBeside layout (now (s .entry)) at ⌝ }
 {
+    let kind = layout.kind;
+    let inputs = layout.inputs_count;
+    let own = layout.own_count;
     let Number::Value(count, first) = wire::u32_at(s, at) else {
         return Part::Refused(wire::cut(s, at, 4));
     };
-    let wanted = own_wants(layout.kind, layout.own_count);
+    let wanted = own_wants(kind, own);
     if count < wanted {
         return Part::Refused(Refusal {
             number: wire::numbers::WRONG_COUNT,
             place: at,
         });
     }
-    if count - wanted != layout.inputs_count {
+    if count - wanted != inputs {
         return Part::Refused(Refusal {
             number: wire::numbers::WRONG_COUNT,
             place: at,
         });
     }
-    match beside_inputs(s, layout.inputs_count, layout.inputs_at, first) {
+    match beside_inputs(s, inputs, layout.inputs_at, first) {
         Part::Refused(refusal) => Part::Refused(refusal),
-        Part::Next(m) => beside_own(s, layout.kind, layout.own_count, layout.own_at, m),
+        Part::Next(m) => beside_own(s, kind, own, layout.own_at, m),
     }
 }

@@ -1,56 +1,21 @@
+-- `transaction::credentials::signatures_at` meets its contract. The invariant: the reading of what is left, from here, is the whole reading.
+-- Assumes nothing.
 use borrow.Author.Needs.{needs}
+use mathlib.Core.Path.{_≡_, refl}
+use mathlib.Core.List.{[]}
+use Rattle.wire.specs.Answer.{ended}
+use Rattle.wire.proofs.Reading.{on-part, on-cut}
+use Rattle.transaction.specs.Credentials.{signatures, pieces}
+use Rattle.transaction.proofs.Reading.{signatures-on, signatures-end}
 use Rattle.transaction.proofs.credentials.signatures_at.Statement.{statement}
 use Rattle.transaction.proofs.credentials.signatures_at.Tie as tie
-use Rattle.transaction.proofs.credentials.signatures_at.Reads as reads
-use Rattle.transaction.proofs.credentials.signatures_at.Lts as lts
-use Rattle.wire.proofs.cut.Reads as cut-reads
-use Rattle.wire.proofs.part_at.Reads as part-at-reads
 
 abbrev Inv-loop : tie.InvT-loop
-Inv-loop s start count left₀ at₀ left at = ?
+Inv-loop s start count left₀ at₀ left at =
+    ended (pieces (signatures left [])) s at ≡ ended (pieces (signatures count [])) s start
 
 abbrev μ-loop : tie.MeasureT-loop
-μ-loop s start count left₀ at₀ left at = ?
-
--- src/credentials.rt:20:5
-loop-holds : tie.Need-loop-holds Inv-loop μ-loop
-loop-holds c = search needs
-
--- src/credentials.rt:21:32
-part-at-requires : tie.Need-part-at-requires Inv-loop μ-loop
-part-at-requires c κs = search needs
-
--- src/credentials.rt:21:24
-enum-known-next : tie.Need-enum-known-next Inv-loop μ-loop
-enum-known-next c = search needs
-
--- src/credentials.rt:22:34
-enum-told : tie.Need-enum-told Inv-loop μ-loop
-enum-told c = search needs
-
--- src/credentials.rt:22:34
-cut-requires : tie.Need-cut-requires Inv-loop μ-loop
-cut-requires c κs = search needs
-
--- src/credentials.rt:22:13
-returns : tie.Need-returns Inv-loop μ-loop
-returns c = search needs
-
--- src/credentials.rt:25:9
-sub-left : tie.Need-sub-left Inv-loop μ-loop
-sub-left c = search needs
-
--- src/credentials.rt:20:5
-loop-less : tie.Need-loop-less Inv-loop μ-loop
-loop-less c = search needs
-
--- src/credentials.rt:20:5
-loop-again : tie.Need-loop-again Inv-loop μ-loop
-loop-again c = search needs
-
--- src/credentials.rt:15:1
-returns-2 : tie.Need-returns-2 Inv-loop μ-loop
-returns-2 c = search needs
+μ-loop s start count left₀ at₀ left at = left
 
 pub signatures-at-spec : {M : Type 1} → statement M
 signatures-at-spec =
@@ -58,13 +23,13 @@ signatures-at-spec =
     (tie.spec
     Inv-loop
     μ-loop
-    loop-holds
-    part-at-requires
-    enum-known-next
-    enum-told
-    cut-requires
-    returns
-    sub-left
-    loop-less
-    loop-again
-    returns-2)
+    (λ c. refl)  -- loop-holds
+    (λ c κs. search needs)  -- part-at-requires
+    (λ c. search needs)  -- enum-known-next
+    (λ c. search needs)  -- enum-told
+    (λ c κs. search needs)  -- cut-requires
+    (λ c. search (signatures-on, on-part, on-cut) depth 8)  -- returns
+    (λ c. search needs)  -- sub-left
+    (λ c. search needs)  -- loop-less
+    (λ c. search (signatures-on, on-part) depth 8)  -- loop-again
+    (λ c. search signatures-end))  -- returns-2
