@@ -1,6 +1,8 @@
 -- What is proved of a signed transaction
 pub mod CredentialLaws
 pub mod Reading
+pub mod Beside
+pub mod Checking
 pub mod Signed
 pub mod Codec
 pub mod Good

@@ -121,7 +121,7 @@ module _ {A R : Type 0} (least : ℕ) (E : List ℕ → Format A) (s : List ℕ)
 
 -- ---- fields, and how far their writing goes
 
-written-next : {A : Type 0} (F : Format A) (s : List ℕ) (at : ℕ) (v : A) (n : ℕ) → Slice s → read F s at ≡ took v n → n ≡ at + length (F .write v)
+pub written-next : {A : Type 0} (F : Format A) (s : List ℕ) (at : ℕ) (v : A) (n : ℕ) → Slice s → read F s at ≡ took v n → n ≡ at + length (F .write v)
 written-next F s at v n b t = F .sound s at v n (slice-bytes s b) t .1 .ends
 
 module _ {R : Type 0} (s : List ℕ) (at : ℕ) (z : R) (stop : Refusal → R) (x : Part) (b : Slice s) where
