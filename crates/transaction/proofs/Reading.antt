@@ -171,13 +171,15 @@ own-operations k s at z h e = rw h e
 pub ruleset owning = (on-text, on-text-refused, on-denomination, on-denomination-refused, on-chain, W.on-cut, on-list, on-list-refused, asset-made, chain-made, list-made)
 
 module _ {R : Type 0} (k : Kind) (s : List ℕ) (at : ℕ) (z : R) (stop : Refusal → R) (go : Value (ownPlan k) → ℕ → R) (x : ListRead) (p : x ≡ ownAt k s at) where
-  pub on-own : (f c n : ℕ) → x ≡ L.Whole f c n → ((v : Value (ownPlan k)) → f ≡ ownFirst k at v → c ≡ ownCount k v → z ≡ go v n) → z ≡ form (ownPlan k) .run s at stop go
-  on-own f c n q e =
+  pub on-own : (f c n : ℕ) → x ≡ L.Whole f c n → Slice s → ((v : Value (ownPlan k)) → f ≡ ownFirst k at v → c ≡ ownCount k v → n ≡ at + length (form (ownPlan k) .write v) → z ≡ go v n)
+      → z ≡ form (ownPlan k) .run s at stop go
+  on-own f c n q b e =
       let (v, m, t, i) = answer-took (form (ownPlan k)) s at L.Refused (ownWhole k at) x p (L.Whole f c n) q (λ e i. let z : _≡_ {A = ℕ} 0 1 = cc in omega arith) in
       let em : m ≡ n = cc in
       let ef : f ≡ ownFirst k at v = cc in
       let ec : c ≡ ownCount k v = cc in
-      e v ef ec ∙ sym (W.run-took (form (ownPlan k)) s at stop go v n (t ∙ ap (took v) em))
+      let u = t ∙ ap (took v) em in
+      e v ef ec (written-next (form (ownPlan k)) s at v n b u) ∙ sym (W.run-took (form (ownPlan k)) s at stop go v n u)
 
   pub on-own-refused : (e : Refusal) → x ≡ L.Refused e → z ≡ stop e → z ≡ form (ownPlan k) .run s at stop go
   on-own-refused e q r =
@@ -187,13 +189,24 @@ module _ {R : Type 0} (k : Kind) (s : List ℕ) (at : ℕ) (z : R) (stop : Refus
 
 -- ---- the body: outputs, inputs, memo, own part
 
-pub layout-made : (k : Kind) (v : Value (ownPlan k)) (at i m o f w a b c d g n x y u : ℕ) → i ≡ at + x → a ≡ b → f ≡ i + 4 → c ≡ d → m ≡ i + y → o ≡ m + u → w ≡ ownFirst k o v → g ≡ ownCount k v
-    → U.Whole record { kind = k; «outputs_count» = a; «inputs_at» = f; «inputs_count» = c; «own_at» = w; «own_count» = g } n
-    ≡ U.Whole record { kind = k; «outputs_count» = b; «inputs_at» = at + x + 4; «inputs_count» = d; «own_at» = ownFirst k (at + x + y + u) v; «own_count» = ownCount k v } n
-layout-made k v at i m o f w a b c d g n x y u hi ha hf hc hm ho hw hg =
+pub layout-made : (k : Kind) (v : Value (ownPlan k)) (at i m o f w a b c d g p n x y u : ℕ) → i ≡ at + x → a ≡ b → f ≡ i + 4 → c ≡ d → m ≡ i + y → o ≡ m + u → w ≡ ownFirst k o v → g ≡ ownCount k v
+    → p ≡ o + length (form (ownPlan k) .write v)
+    → U.Whole record { kind = k; «outputs_count» = a; «inputs_at» = f; «inputs_count» = c; «own_at» = w; «own_count» = g; «credentials_at» = p } n
+    ≡ U.Whole
+    record {
+      kind = k;
+      «outputs_count» = b;
+      «inputs_at» = at + x + 4;
+      «inputs_count» = d;
+      «own_at» = ownFirst k (at + x + y + u) v;
+      «own_count» = ownCount k v;
+      «credentials_at» = at + x + y + u + length (form (ownPlan k) .write v);
+    }
+    n
+layout-made k v at i m o f w a b c d g p n x y u hi ha hf hc hm ho hw hg hp =
     let ef : f ≡ at + x + 4 = omega arith in
     let eo : o ≡ at + x + y + u = omega arith in
-    rw (ha, ef, hc, hw, eo, hg)
+    rw (ha, ef, hc, hw, hg, hp, eo)
 
 pub ruleset bodily = (on-list, on-list-refused, on-memo, on-string-refused, on-own, on-own-refused, layout-made)
 

@@ -94,6 +94,7 @@ layoutFrom k at (outs, (ins, (note, own))) =
       «inputs_count» = length ins;
       «own_at» = ownFirst k o own;
       «own_count» = ownCount k own;
+      «credentials_at» = o + length (form (ownPlan k) .write own);
     }
 
 abbrev pub layout : Unsigned (avm memoMost) → Layout

@@ -213,7 +213,7 @@ pub fn body_at(s: &[u8], at: usize, kind: Kind) -> UnsignedRead
                 StringRead::Refused(refusal) => UnsignedRead::Refused(refusal),
                 StringRead::Whole(_, _, o) => match own_at(s, o, kind) {
                     ListRead::Refused(refusal) => UnsignedRead::Refused(refusal),
-                    ListRead::Whole(own_at, own_count, next) => UnsignedRead::Whole(
+                    ListRead::Whole(own_at, own_count, credentials_at) => UnsignedRead::Whole(
                         Layout {
                             kind,
                             outputs_count,
@@ -221,8 +221,9 @@ pub fn body_at(s: &[u8], at: usize, kind: Kind) -> UnsignedRead
                             inputs_count,
                             own_at,
                             own_count,
+                            credentials_at,
                         },
-                        next,
+                        credentials_at,
                     ),
                 },
             },

@@ -59,7 +59,8 @@ pub enum ListRead {
     Refused(Refusal),
 }
 
-// Where the lists of a transaction stand: the inputs, and the list of the type's own part, if it has one. The outputs stand from place 46 on.
+// Where the lists of a transaction stand: the inputs, the list of the type's own part, if it has one, and the credentials' count. The outputs
+// stand from place 46 on.
 pub struct Layout {
     pub kind: Kind,
     pub outputs_count: u64,
@@ -67,6 +68,7 @@ pub struct Layout {
     pub inputs_count: u64,
     pub own_at: usize,
     pub own_count: u64,
+    pub credentials_at: usize,
 }
 
 // An unsigned part that is wholly there, and the place behind it.
