@@ -1,4 +1,5 @@
 // The entries of an accepted transaction, in byte order: walked one by one, put into a lent table, and read as typed fields.
+pub mod rows;
 pub mod walk;
 
 // Which list a cursor is in: outputs, inputs, that of the type's own part, credentials.
@@ -29,4 +30,15 @@ pub enum Step {
     Found(Row, Cursor),
     Moved(Cursor),
     Done,
+}
+
+// How many entries there are, if not more than asked for.
+pub enum Count {
+    Rows(usize),
+    TooMany,
+}
+
+pub enum Nth {
+    Entry(Row),
+    Missing,
 }
