@@ -26,7 +26,7 @@ use Rattle.wire.specs.Order.{keyBelow}
 use Rattle.wire.specs.Answer.{ended, valued, wholeAt}
 use Rattle.wire.proofs.Bytes.{Slice, slice-bytes, found, below-digits, key-below}
 use Rattle.wire.proofs.Reading as W
-use Rattle.element.specs.Strings.{isPrintable, unprintable, string}
+use Rattle.element.specs.Strings.{unprintable, unprintable-le, string}
 use Rattle.element.specs.Owners.{Owners, owners, ownersFields}
 use Rattle.element.specs.Outputs.{transferBody, OutputType, Output, output, TransferableOutput, transferableOutput, outputFields}
 use Rattle.element.specs.Inputs.{key, Input, spend, inputAfter, input}
@@ -233,15 +233,6 @@ module _ (s : List ℕ) (i y : ℕ) (w : unprintableFrom s i ≡ y) where
   unprintable-end h = sym (add-zero i) ∙ rw (drop-of-length-le s h) at w
 
 pub ruleset characters = (unprintable-low, unprintable-high, unprintable-on, unprintable-end)
-
-pub unprintable-le : (s : List ℕ) → unprintable s ≤ length s
-unfolding unprintable
-unprintable-le [] = omega arith
-unprintable-le (x ∷ s) = go (isPrintable x) (unprintable-le s)
-  where
-    go : (t : Bool) → unprintable s ≤ length s → pick t (suc (unprintable s)) 0 ≤ suc (length s)
-    go true h = omega arith
-    go false h = omega arith
 
 -- the characters of a body that is wholly there, where the code has looked at them: u is the index of the first that is not printable
 module _ (k : ℕ) (s : List ℕ) (at : ℕ) (z X : Part) (x : Part) (n : ℕ) (b : List ℕ) (u : ℕ)

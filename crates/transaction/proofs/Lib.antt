@@ -5,4 +5,5 @@ pub mod Beside
 pub mod Checking
 pub mod Signed
 pub mod Codec
+pub mod Verdicts
 pub mod Good
