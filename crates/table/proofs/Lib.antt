@@ -2,3 +2,4 @@ pub mod Walking
 pub mod Rest
 pub mod Counting
 pub mod Entries
+pub mod Inside

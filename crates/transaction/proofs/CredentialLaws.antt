@@ -3,7 +3,7 @@ use mathlib.Core.Path.{_≡_, refl, sym, ap, _∙_, subst}
 use mathlib.Core.Logic.{inl, inr}
 use mathlib.Core.List.{List, [], _∷_, _++_, append-assoc, map}
 use Prim.Native.Nat.{ℕ, zero, suc, _+_, _-_, _*_, _^_, _≤_, _<_}
-use native.Mathlib.Nat.{le-of-suc-le-suc, not-suc-le-zero}
+use native.Mathlib.Nat.{le-of-suc-le-suc, not-suc-le-zero, add-mul}
 use native.Mathlib.Decide.{decLe}
 use native.Mathlib.Omega.{arith}
 use lib.Dec.{eqb}
@@ -134,10 +134,14 @@ unfolding signatures size signatureWidth
 size-signatures zero ps = omega arith
 size-signatures (suc n) ps = omega (arith, size-signatures n ps)
 
-size-each : (ws : List Want) → size (each ws) ≡ 8 * length ws + total ws * signatureWidth
+pub size-each : (ws : List Want) → size (each ws) ≡ 8 * length ws + total ws * signatureWidth
 unfolding each size total signatureWidth
 size-each [] = refl
 size-each (w ∷ ws) = omega (arith, size-signatures (w .signatures) (each ws), size-each ws)
+
+pub total-cons : (w : Want) (ws : List Want) → total (w ∷ ws) * signatureWidth ≡ w .signatures * signatureWidth + total ws * signatureWidth
+unfolding total
+total-cons w ws = add-mul (w .signatures) (total ws) signatureWidth
 
 pub size-layout : (ws : List Want) → size (layout ws) ≡ 4 + 8 * length ws + total ws * signatureWidth
 unfolding layout size
@@ -222,3 +226,7 @@ blank-good ws h = blanks-good (layout ws) (fitting-layout ws (omega (arith, leng
 pub same-length : (ws : List Want) (l : List (List ℕ)) → credentials ws .Good l → length (credentials ws .write l) ≡ length (credentials ws .write (blanks (layout ws)))
 unfolding credentials
 same-length ws l g = length-pieces (layout ws) l g ∙ sym (length-blanks (layout ws))
+
+pub length-credentials : (ws : List Want) (l : List (List ℕ)) → credentials ws .Good l → length (credentials ws .write l) ≡ 4 + size (each ws)
+unfolding credentials layout size
+length-credentials ws l g = length-pieces (layout ws) l g
