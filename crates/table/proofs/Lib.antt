@@ -3,3 +3,4 @@ pub mod Rest
 pub mod Counting
 pub mod Entries
 pub mod Inside
+pub mod Tabling

@@ -1,3 +1,4 @@
 -- Entries as code walks them
 pub mod Walk
 pub mod Rows
+pub mod Table

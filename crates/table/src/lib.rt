@@ -2,6 +2,8 @@
 pub mod rows;
 pub mod walk;
 
+use wire::Refusal;
+
 // Which list a cursor is in: outputs, inputs, that of the type's own part, credentials.
 pub enum Stage {
     Outputs,
@@ -41,4 +43,10 @@ pub enum Count {
 pub enum Nth {
     Entry(Row),
     Missing,
+}
+
+// How many rows were written.
+pub enum Tabled {
+    Listed(usize),
+    Refused(Refusal),
 }

@@ -1,15 +1,19 @@
-// The rows of the table: counted, written, and found by their number.
+// The rows of the table: counted, written, and found by their number; and the check with a lent table.
 ghost use mathlib.Core.Path.{_≡_};
 ghost use Prim.Native.Nat.{_+_, _-_, _*_, _≤_};
 ghost use lib.ListN.{length};
 ghost use Rattle.table.specs.Walk.{start, rest};
+ghost use Rattle.table.specs.Table.{filled, tabled};
 ghost use Rattle.table.specs.Rows.{putRow, putRows, counted, nth};
 use crate::Count;
 use crate::Nth;
 use crate::Row;
 use crate::Step;
+use crate::Tabled;
 use crate::walk;
+use transaction::Checked;
 use transaction::Layout;
+use wire::Refusal;
 
 // How many entries there are, if at most so many.
 pub fn count(s: &[u8], layout: Layout, most: usize) -> Count
@@ -103,5 +107,24 @@ fn put_rows(s: &[u8], layout: Layout, table: &mut [u32])
                 cursor = next;
             }
         }
+    }
+}
+
+// Checks the bytes, and writes a row of three numbers for each entry.
+pub fn check_table(s: &[u8], table: &mut [u32]) -> Tabled
+    ensures { λ r. ⌜ filled r (now (table .exit)) ≡ tabled (now (s .entry)) (now (table .entry)) ⌝ }
+{
+    match transaction::check::check(s) {
+        Checked::Refused(refusal) => Tabled::Refused(refusal),
+        Checked::Accepted(layout) => match count(s, layout, table.len() / 3) {
+            Count::TooMany => Tabled::Refused(Refusal {
+                number: wire::numbers::NO_ROOM,
+                place: 0,
+            }),
+            Count::Rows(n) => {
+                put_rows(s, layout, table);
+                Tabled::Listed(n)
+            }
+        },
     }
 }

@@ -1,0 +1,30 @@
+-- The check with a lent table (document 01, "Entries and table"). Assumes nothing.
+use Prim.Native.Nat.{ℕ}
+use mathlib.Core.List.{List, _++_}
+use lib.ListN.{length, drop}
+use lib.Dec.{leb}
+use Rattle.wire.specs.Bytes.{pick}
+use Rattle.wire.specs.Numbers.{refusal, noRoom}
+use Rattle.wire.specs.Format.{onResult}
+use Rattle.transaction.specs.Entries.{EntryAt, rows}
+use Rattle.transaction.specs.Family.{check, entries}
+use Rattle.transaction.specs.Avm.{avm}
+use Rattle.transaction.specs.Answer.{memoMost}
+use Rattle.table.specs.declared.Tabled.{Tabled}
+use Rattle.table.specs.declared.Tabled.the-variants as T
+
+-- an answer, and what the table holds then
+pub record Filled : Type 0 where
+  pub answer : Tabled
+  pub table : List ℕ
+
+abbrev pub filled : Tabled → List ℕ → Filled
+filled a t = record { answer = a; table = t }
+
+-- the rows stand at the front where there is room for all; else nothing changes
+abbrev pub listed : List EntryAt → List ℕ → Filled
+listed es t = pick (leb (length (rows es)) (length t)) (filled (T.Listed (length es)) (rows es ++ drop (length (rows es)) t)) (filled (T.Refused (refusal noRoom 0)) t)
+
+-- room is judged after all rules
+abbrev pub tabled : List ℕ → List ℕ → Filled
+tabled s t = onResult (check (avm memoMost) s) (λ e. filled (T.Refused e) t) (λ v n. listed (entries (avm memoMost) v) t)
