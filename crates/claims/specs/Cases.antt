@@ -6,7 +6,7 @@ use lib.ListN.{length, take, drop}
 use Rattle.wire.specs.Bytes.{value, digits, below}
 use Rattle.wire.specs.Format.{verdict, Result, took, refused}
 use Rattle.wire.specs.Fields.{number, blobRun, constant}
-use Rattle.wire.specs.Sequence.{guard}
+use Rattle.wire.specs.Sequence.{guard, tag}
 use Rattle.wire.specs.Series.{items, listRun, listWrite, counted}
 use Rattle.element.specs.Strings.{string, text, printable, unprintable, denomination}
 use Rattle.element.specs.Owners.{owners}
@@ -16,10 +16,10 @@ use Rattle.element.specs.Operations.{terms, action, operation, fxId, stateOutpu
 use Rattle.transaction.specs.Slots.{signatureWidth}
 use Rattle.transaction.specs.Credentials.{credentials}
 use Rattle.transaction.specs.Entries.{rows, entriesFrom, credentialEntries}
-use Rattle.transaction.specs.Plan.{form, wanted, asked, planEntries, listOf}
+use Rattle.transaction.specs.Plan.{atLeast, form, wanted, asked, planEntries}
 use Rattle.transaction.specs.Signed as Any
 use Rattle.transaction.specs.Family.{Signed, head, unsigned, wants, check, entries}
-use Rattle.transaction.specs.Avm.{avm, outputs, inputs, operations, states}
+use Rattle.transaction.specs.Avm.{avm}
 
 -- ---- the signed example of the AVM transaction format's page, byte by byte
 
@@ -133,5 +133,5 @@ table =
     ∷ []
 
 pub proved-cases : AllHold table
-unfolding Any.check unsigned head wants credentials signatureWidth outputs inputs operations states owners amount transferBody output transferableOutput key indices spend inputAfter terms action operation fxId stateOutputs initialStateAfter guard string text printable unprintable denomination constant counted number blobRun items listRun listWrite value digits below rows entriesFrom credentialEntries form wanted asked planEntries listOf entries
+unfolding Any.check unsigned head wants credentials signatureWidth owners amount transferBody output transferableOutput key indices spend inputAfter terms action operation fxId stateOutputs initialStateAfter guard string text printable unprintable denomination constant tag counted number blobRun items listRun listWrite value digits below rows entriesFrom credentialEntries form wanted asked planEntries atLeast entries
 proved-cases = (refl, (refl, (refl, (refl, (refl, (refl, (refl, (refl, (refl, (refl, (refl, (refl, (refl, (refl, (refl, tt)))))))))))))))

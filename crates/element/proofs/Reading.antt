@@ -26,7 +26,7 @@ use Rattle.wire.specs.Order.{keyBelow}
 use Rattle.wire.specs.Answer.{ended, valued, wholeAt}
 use Rattle.wire.proofs.Bytes.{Slice, slice-bytes, found, below-digits, key-below}
 use Rattle.wire.proofs.Reading as W
-use Rattle.element.specs.Strings.{isPrintable, unprintable, string}
+use Rattle.element.specs.Strings.{unprintable, unprintable-le, string}
 use Rattle.element.specs.Owners.{Owners, owners, ownersFields}
 use Rattle.element.specs.Outputs.{transferBody, OutputType, Output, output, TransferableOutput, transferableOutput, outputFields}
 use Rattle.element.specs.Inputs.{key, Input, spend, inputAfter, input}
@@ -121,21 +121,21 @@ module _ {R : Type 0} (any : Bool) (prev v : ℕ) (t : Bool) (z X Y : R) (e : t 
 
 -- ---- what an answer says of the reading, for any answer with a case for what is wholly read and one for a refusal
 
-took-of : {A T : Type 0} (o : Result A) (stop : Refusal → T) (whole : A → ℕ → T) (y : T) → onResult o stop whole ≡ y → ((e : Refusal) → stop e ≡ y → ⊥)
+pub took-of : {A T : Type 0} (o : Result A) (stop : Refusal → T) (whole : A → ℕ → T) (y : T) → onResult o stop whole ≡ y → ((e : Refusal) → stop e ≡ y → ⊥)
     → (v : A) × (m : ℕ) × (o ≡ took v m) × (whole v m ≡ y)
 took-of (took v m) stop whole y q n = (v, m, refl, q)
 took-of (refused e) stop whole y q n = absurd (n e q)
 
-refused-of : {A T : Type 0} (o : Result A) (stop : Refusal → T) (whole : A → ℕ → T) (y : T) → onResult o stop whole ≡ y → ((v : A) (m : ℕ) → whole v m ≡ y → ⊥)
+pub refused-of : {A T : Type 0} (o : Result A) (stop : Refusal → T) (whole : A → ℕ → T) (y : T) → onResult o stop whole ≡ y → ((v : A) (m : ℕ) → whole v m ≡ y → ⊥)
     → (e : Refusal) × (o ≡ refused e) × (stop e ≡ y)
 refused-of (took v m) stop whole y q n = absurd (n v m q)
 refused-of (refused e) stop whole y q n = (e, refl, q)
 
 module _ {A T : Type 0} (F : Format A) (s : List ℕ) (at : ℕ) (stop : Refusal → T) (whole : A → ℕ → T) (x : T) (p : x ≡ F .run s at stop whole) (y : T) (q : x ≡ y) where
-  answer-took : ((e : Refusal) → stop e ≡ y → ⊥) → (v : A) × (m : ℕ) × (read F s at ≡ took v m) × (whole v m ≡ y)
+  pub answer-took : ((e : Refusal) → stop e ≡ y → ⊥) → (v : A) × (m : ℕ) × (read F s at ≡ took v m) × (whole v m ≡ y)
   answer-took = took-of (read F s at) stop whole y (sym (F .same s at stop whole) ∙ found p q)
 
-  answer-refused : ((v : A) (m : ℕ) → whole v m ≡ y → ⊥) → (e : Refusal) × (read F s at ≡ refused e) × (stop e ≡ y)
+  pub answer-refused : ((v : A) (m : ℕ) → whole v m ≡ y → ⊥) → (e : Refusal) × (read F s at ≡ refused e) × (stop e ≡ y)
   answer-refused = refused-of (read F s at) stop whole y (sym (F .same s at stop whole) ∙ found p q)
 
 -- ---- strings: a body that is wholly there
@@ -233,15 +233,6 @@ module _ (s : List ℕ) (i y : ℕ) (w : unprintableFrom s i ≡ y) where
   unprintable-end h = sym (add-zero i) ∙ rw (drop-of-length-le s h) at w
 
 pub ruleset characters = (unprintable-low, unprintable-high, unprintable-on, unprintable-end)
-
-pub unprintable-le : (s : List ℕ) → unprintable s ≤ length s
-unfolding unprintable
-unprintable-le [] = omega arith
-unprintable-le (x ∷ s) = go (isPrintable x) (unprintable-le s)
-  where
-    go : (t : Bool) → unprintable s ≤ length s → pick t (suc (unprintable s)) 0 ≤ suc (length s)
-    go true h = omega arith
-    go false h = omega arith
 
 -- the characters of a body that is wholly there, where the code has looked at them: u is the index of the first that is not printable
 module _ (k : ℕ) (s : List ℕ) (at : ℕ) (z X : Part) (x : Part) (n : ℕ) (b : List ℕ) (u : ℕ)

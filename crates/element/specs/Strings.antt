@@ -1,7 +1,8 @@
 -- Strings: a length and so many bytes. The length is judged when it is read, characters when the whole string is there. Assumes nothing.
 use mathlib.Core.Path.{refl, ap}
-use Prim.Native.Nat.{ℕ, suc, _+_}
-use mathlib.Core.Bool.{Bool, _&&_}
+use Prim.Native.Nat.{ℕ, suc, _+_, _≤_}
+use native.Mathlib.Omega.{arith}
+use mathlib.Core.Bool.{Bool, true, false, _&&_}
 use mathlib.Core.List.{List, [], _∷_}
 use lib.ListN.{length}
 use lib.Dec.{leb, ltb, eqb}
@@ -38,9 +39,22 @@ unfoldable pub unprintable : List ℕ → ℕ
 unprintable [] = 0
 unprintable (x ∷ xs) = pick (isPrintable x) (suc (unprintable xs)) 0
 
+pub unprintable-le : (s : List ℕ) → unprintable s ≤ length s
+unfolding unprintable
+unprintable-le [] = omega arith
+unprintable-le (x ∷ s) = go (isPrintable x) (unprintable-le s)
+  where
+    go : (t : Bool) → unprintable s ≤ length s → pick t (suc (unprintable s)) 0 ≤ suc (length s)
+    go true h = omega arith
+    go false h = omega arith
+
+pub unprintable-within : (n at : ℕ) (b : List ℕ) → at + unprintable b ≤ at + length (blob n .write b)
+unfolding blob
+unprintable-within n at b = omega (arith, unprintable-le b)
+
 unfoldable pub printable : ℕ → Format (List ℕ)
 unfolding guardAt
-printable n = guardAt (blob n) (λ b. eqb (unprintable b) (length b)) notPrintable (λ at b. at + unprintable b)
+printable n = guardAt (blob n) (λ b. eqb (unprintable b) (length b)) notPrintable (λ at b. at + unprintable b) (λ at b h. unprintable-within n at b)
 
 unfoldable pub text : ℕ → Format (List ℕ)
 unfolding named andThen guard guardAt printable

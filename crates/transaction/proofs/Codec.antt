@@ -5,7 +5,7 @@ use mathlib.Core.List.{List}
 use lib.ListN.{length}
 use Rattle.wire.specs.Bytes.{Bytes}
 use Rattle.wire.specs.Format.{took, refused, local, write-inj}
-use Rattle.wire.specs.Whole.{whole-sound, whole-complete, whole-ruled}
+use Rattle.wire.specs.Whole.{whole-sound, whole-complete, whole-ruled, whole-placed}
 use Rattle.transaction.specs.Signed.{mostBytes, taken}
 use Rattle.transaction.specs.Signed as Any
 use Rattle.transaction.specs.Family.{Family, unsigned, Signed, signed, check}
@@ -37,5 +37,6 @@ module _ (F : Family) where
         read-after-write = after-write;
         one-reading = λ s u v a b. write-inj (signed F) u v (a .good) (b .good) (a .written ∙ sym (b .written));
         refused-by = whole-ruled (signed F) mostBytes;
+        refused-at = whole-placed (signed F) mostBytes;
         unsigned-local = local (unsigned F);
       }

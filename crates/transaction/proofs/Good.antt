@@ -24,14 +24,14 @@ use Rattle.element.proofs.Good.{string-good, text-good, denomination-good, tran
 use Rattle.transaction.specs.Slots.{signatureWidth}
 use Rattle.transaction.specs.Credentials.{credentialCode, Want, Piece, signatures, each, pieces, credentials, total}
 use Rattle.transaction.specs.Entries.{EntryAt, importedEntry, exportedEntry, outputEntry, inputEntry}
-use Rattle.transaction.specs.Plan.{Elements, listOf, Value, form, asked, wanted}
+use Rattle.transaction.specs.Plan.{Elements, atLeast, listOf, Value, form, asked, wanted}
 use Rattle.transaction.specs.Family.{Head, head, unsigned, wants, Signed, signed}
 use Rattle.transaction.specs.Signed as Any
 use Rattle.transaction.specs.Avm.{asksNothing, outputs, inputs, operations, states, kindCode, kindOf, kindOf-code, ownPlan, avm}
 use Rattle.transaction.specs.Transaction.{Own, plain, createAsset, operate, importFrom, exportTo, Transaction, inputWant, operationWant, ownWants, credentialsOf, GoodOutputs, GoodInputs, GoodOperations, GoodStates, GoodOwn, GoodTransaction, ownOf, reading, kindOwn, ownValue, valueOf, AcceptedExactly}
 use Rattle.transaction.specs.declared.Kind.{Kind}
 use Rattle.transaction.specs.declared.Kind.the-variants as K
-use Rattle.transaction.proofs.Credentials.{credentialCode-fits}
+use Rattle.transaction.proofs.CredentialLaws.{credentialCode-fits}
 use Rattle.transaction.proofs.Codec.{codec}
 
 -- ---- a transaction and a value of the format are the same thing
@@ -109,7 +109,7 @@ credentials-good ws l = (
 -- a list of at least so many elements
 list-good : (E : Elements) (P : List (E .Element) → Type 0) → ((l : List (E .Element)) → Chain (E .element) (left (E .element)) [] l ↔ P l)
     → (l : List (E .Element)) → listOf E .Good l ↔ ((E .least ≤ length l) × (length l < 256 ^ 4) × P l)
-unfolding listOf number
+unfolding atLeast number
 list-good E P good l =
     let on = counted-good (E .element) P good (guard (number 4) (λ n. leb (E .least) n) emptyList) l in (
       λ h.
@@ -160,7 +160,6 @@ module _ (least : ℕ) (entry : ℕ → ℕ → Input → List EntryAt) where
           (Iff·and Iff·rfl (adjacent-map inputKey (λ a b. below a b ≡ true) l))
 
 pub operations-good : (l : List Operation) → unfold operations in (listOf operations .Good l ↔ GoodOperations l)
-unfolding operations
 operations-good l =
     let on = list-good operations (All GoodOperation) (unordered-good operation GoodOperation operation-good []) l in (
       λ h.
@@ -170,7 +169,6 @@ operations-good l =
     )
 
 pub states-good : (l : List InitialState) → unfold states in (listOf states .Good l ↔ GoodStates l)
-unfolding states
 states-good l =
     let on = list-good states Sorted chain l in (
       λ h.
@@ -302,7 +300,7 @@ head-good most h = (
 )
 
 pub transaction-good : (most : ℕ) (v : Signed (avm most)) → signed (avm most) .Good v ↔ GoodTransaction most (reading most v)
-unfolding Any.signed unsigned reading
+unfolding Any.signed unsigned form reading
 transaction-good most ((h, (outs, (ins, (memo, own)))), signatures) = (
   λ g.
       let (network, chain) = head-good most h .0 (g .0 .0) in

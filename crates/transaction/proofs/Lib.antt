@@ -1,5 +1,9 @@
 -- What is proved of a signed transaction
-pub mod Credentials
+pub mod CredentialLaws
+pub mod Reading
+pub mod Beside
+pub mod Checking
 pub mod Signed
 pub mod Codec
+pub mod Verdicts
 pub mod Good

@@ -13,7 +13,7 @@ use Rattle.wire.specs.Whole.{whole-sound, whole-complete}
 use Rattle.transaction.specs.Slots.{slotAt, Spaced}
 use Rattle.transaction.specs.Credentials.{Want, layout, pieces, credentials, places, size, blanks, total}
 use Rattle.transaction.specs.Signed.{mostBytes, taken, endOf, slotsOf, signed, check, accepted, credentialsAt, slotsAt, assemble, Parts}
-use Rattle.transaction.proofs.Credentials.{length-pieces, spaced-places, slot-is, count-layout, blanks-good, fitting-layout}
+use Rattle.transaction.proofs.CredentialLaws.{length-pieces, spaced-places, slot-is, count-layout, blanks-good, fitting-layout}
 
 pub taken-inv : {A : Type 0} (o : Result A) → taken o ≡ true → (v : A) × (n : ℕ) × (o ≡ took v n)
 taken-inv (took v n) h = (v, n, refl)

@@ -7,7 +7,7 @@ use lib.ListN.{length, length-append}
 use lib.Dec.{eqb}
 use Rattle.wire.specs.Bytes.{pick}
 use Rattle.wire.specs.Fields.{number, length-number, blob}
-use Rattle.wire.specs.Sequence.{andThen, guard, named, tag}
+use Rattle.wire.specs.Sequence.{guard}
 use Rattle.wire.specs.Series.{notBelow}
 use Rattle.element.specs.Strings.{memo, name, symbol, denomination}
 use Rattle.element.specs.Outputs.{TransferableOutput, transferableOutput}
@@ -24,62 +24,78 @@ use Rattle.transaction.specs.declared.Segment.the-variants as S
 abbrev pub asksNothing : {A : Type 0} → A → List Want
 asksNothing a = []
 
--- what has bytes in front has bytes
-pub longer : (a b : List ℕ) (n : ℕ) → length a ≡ suc n → 0 < length (a ++ b)
+-- ---- no element is of no bytes: each has a field of some width in front
+
+longer : (a b : List ℕ) (n : ℕ) → length a ≡ suc n → 0 < length (a ++ b)
 longer a b n h = omega (arith, length-append a b)
 
-pub longer-front : (a b c : List ℕ) (n : ℕ) → length a ≡ suc n → 0 < length ((a ++ b) ++ c)
-longer-front a b c n h = omega (arith, length-append a b, length-append (a ++ b) c)
+pub output-solid : (prev : List ℕ) (v : TransferableOutput) → notBelow transferableOutput prev .Good v → 0 < length (notBelow transferableOutput prev .write v)
+unfolding guard transferableOutput blob
+output-solid prev v h = longer (v .asset) _ 31 (h .0 .0 .0)
+
+pub input-solid : (prev : List ℕ) (v : Input) → input prev .Good v → 0 < length (input prev .write v)
+unfolding inputAfter guard key blob
+input-solid prev v h = longer (v .txid ++ number 4 .write (v .index)) _ 35 (omega (arith, h .0 .0 .0 .0, length-append (v .txid) (number 4 .write (v .index)), length-number 4 (v .index)))
+
+pub operation-solid : (prev : List ℕ) (v : Operation) → operation .Good v → 0 < length (operation .write v)
+unfolding operation blob
+operation-solid prev v h = longer (v .asset) _ 31 (h .0 .0)
+
+pub state-solid : (prev : List ℕ) (v : InitialState) → initialState prev .Good v → 0 < length (initialState prev .write v)
+unfolding initialStateAfter guard fxId
+state-solid prev v h = longer (number 4 .write (fxCode (v .fx))) _ 3 (length-number 4 (fxCode (v .fx)))
 
 -- ---- lists
 
 -- outputs do not decrease
-unfoldable pub outputs : ℕ → (ℕ → ℕ → TransferableOutput → List EntryAt) → Elements
-unfolding guard transferableOutput named andThen blob
+abbrev pub outputs : ℕ → (ℕ → ℕ → TransferableOutput → List EntryAt) → Elements
 outputs least entry =
     record {
       Element = TransferableOutput;
       element = notBelow transferableOutput;
-      solid = λ prev v h. longer (v .asset) _ 31 (h .0 .0 .0);
+      solid = output-solid;
       least = least;
       asks = asksNothing;
       entries = entry;
     }
 
 -- each input asks for a credential of as many signatures as it has indices
-unfoldable pub inputs : ℕ → (ℕ → ℕ → Input → List EntryAt) → Elements
-unfolding inputAfter named andThen guard key blob
+abbrev pub inputAsks : Input → List Want
+inputAsks v = record { type = secpCredential; signatures = length (v .indices) } ∷ []
+
+abbrev pub inputs : ℕ → (ℕ → ℕ → Input → List EntryAt) → Elements
 inputs least entry =
     record {
       Element = Input;
       element = input;
-      solid = λ prev v h. longer-front (v .txid) _ _ 31 (h .0 .0 .0 .0);
+      solid = input-solid;
       least = least;
-      asks = λ v. record { type = secpCredential; signatures = length (v .indices) } ∷ [];
+      asks = inputAsks;
       entries = entry;
     }
 
 -- operations carry no order; each asks for a credential of as many signatures as it has indices
-unfoldable pub operations : Elements
-unfolding operation named andThen blob
+abbrev pub operationAsks : Operation → List Want
+operationAsks v = record { type = nftCredential; signatures = length (v .terms .0) } ∷ []
+
+abbrev pub operations : Elements
 operations =
     record {
       Element = Operation;
       element = λ prev. operation;
-      solid = λ prev v h. longer (v .asset) _ 31 (h .0 .0);
+      solid = operation-solid;
       least = 1;
-      asks = λ v. record { type = nftCredential; signatures = length (v .terms .0) } ∷ [];
+      asks = operationAsks;
       entries = operationEntry;
     }
 
 -- FxIDs strictly increase
-unfoldable pub states : Elements
-unfolding initialStateAfter fxId tag named andThen guard
+abbrev pub states : Elements
 states =
     record {
       Element = InitialState;
       element = initialState;
-      solid = λ prev v h. longer (number 4 .write (fxCode (v .fx))) _ 3 (length-number 4 (fxCode (v .fx)));
+      solid = state-solid;
       least = 1;
       asks = asksNothing;
       entries = stateEntries;

@@ -28,5 +28,7 @@ pub record Codec (F : Family) : Type 0 where
   pub one-reading : (s : List ℕ) (u v : Signed F) → Writing F s u → Writing F s v → u ≡ v
   -- a refusal's number is of the table, 1 to 13
   pub refused-by : (s : List ℕ) (e : Refusal) → check F s ≡ refused e → (1 ≤ e .number) × (e .number ≤ 13)
+  -- a refusal's place is inside the bytes, or at their end
+  pub refused-at : (s : List ℕ) (e : Refusal) → Bytes s → check F s ≡ refused e → e .place ≤ length s
   -- the unsigned part is read the same from any bytes that start the same
   pub unsigned-local : (s t : List ℕ) (u : Unsigned F) (n : ℕ) → Bytes s → read (unsigned F) s 0 ≡ took u n → take n t ≡ take n s → read (unsigned F) t 0 ≡ took u n

@@ -33,9 +33,12 @@ unfoldable pub signatures : ℕ → List Piece → List Piece
 signatures zero ps = ps
 signatures (suc n) ps = signature ∷ signatures n ps
 
--- one credential, and then ps: its type, its count, its signatures
+-- one credential of type t and n signatures, and then ps: its type, its count, its signatures
+abbrev pub credentialPieces : ℕ → ℕ → List Piece → List Piece
+credentialPieces t n ps = due unknownType t ∷ due wrongCount n ∷ signatures n ps
+
 abbrev pub credential : Want → List Piece → List Piece
-credential w ps = due unknownType (credentialCode (w .type)) ∷ due wrongCount (w .signatures) ∷ signatures (w .signatures) ps
+credential w ps = credentialPieces (credentialCode (w .type)) (w .signatures) ps
 
 unfoldable pub each : List Want → List Piece
 unfolding signatures

@@ -30,7 +30,7 @@ pub record Head (K : Type 0) : Type 0 where
 
 module _ (F : Family) where
   unfoldable pub head : Format (Head (F .Kind))
-  unfolding named andThen constant tag
+  unfolding named andThen
   head =
       named
       (andThen (constant 2 0 wrongCodec) (λ codec.
@@ -46,7 +46,7 @@ module _ (F : Family) where
   Unsigned = (h : Head (F .Kind)) × Value (F .plan (h .kind))
 
   unfoldable pub unsigned : Format Unsigned
-  unfolding andThen head form
+  unfolding andThen
   unsigned = andThen head (λ h. form (F .plan (h .kind)))
 
   unfoldable pub wants : Unsigned → List Want

@@ -7,4 +7,5 @@ pub mod Plan
 pub mod Family
 pub mod Avm
 pub mod Codec
+pub mod Answer
 pub mod Transaction

@@ -35,9 +35,13 @@ pub data Plan : Type 1 where
   field : Segment → Field → Plan → Plan
   many : Segment → Elements → Plan → Plan
 
-unfoldable pub listOf : (E : Elements) → Format (List (E .Element))
+-- a count of at least `least`, and as many elements
+unfoldable pub atLeast : {A : Type 0} → ℕ → (List ℕ → Format A) → Format (List A)
 unfolding counted guard
-listOf E = counted (guard (number 4) (λ n. leb (E .least) n) emptyList) (E .element)
+atLeast least E = counted (guard (number 4) (λ n. leb least n) emptyList) E
+
+abbrev pub listOf : (E : Elements) → Format (List (E .Element))
+listOf E = atLeast (E .least) (E .element)
 
 abbrev pub Value : Plan → Type 0
 Value shut = Unit {0}
@@ -46,7 +50,7 @@ Value (field l F q) = F .Content × Value q
 Value (many l E q) = List (E .Element) × Value q
 
 unfoldable pub form : (p : Plan) → Format (Value p)
-unfolding andThen only listOf
+unfolding andThen only
 form shut = only tt
 form end = only tt
 form (field l F q) = andThen (F .content) (λ v. form q)

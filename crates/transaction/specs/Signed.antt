@@ -29,7 +29,7 @@ slotsOf wants (refused e) = []
 
 module _ {U : Type 0} (body : Format U) (wants : U → List Want) where
   unfoldable pub signed : Format (U × List (List ℕ))
-  unfolding andThen credentials
+  unfolding andThen
   signed = andThen body (λ u. credentials (wants u))
 
   -- the check: at most 65,536 bytes, one signed transaction, and nothing behind

@@ -134,7 +134,6 @@ pub record GoodTransaction (most : ℕ) (t : Transaction) : Type 0 where
 -- ---- the transaction that a value of the signed format is, and the value that a transaction is; each undoes the other (proofs/Good)
 
 unfoldable pub ownOf : (k : Kind) → Value (ownPlan k) → Own
-unfolding outputs inputs operations states
 ownOf K.Base v = plain
 ownOf K.CreateAsset (name, (symbol, (denomination, (list, v)))) = createAsset name symbol denomination list
 ownOf K.Operation (list, v) = operate list
@@ -142,7 +141,7 @@ ownOf K.Import (chain, (list, v)) = importFrom chain list
 ownOf K.Export (chain, (list, v)) = exportTo chain list
 
 unfoldable pub reading : (most : ℕ) → Signed (avm most) → Transaction
-unfolding outputs inputs ownOf
+unfolding ownOf
 reading most ((h, (outs, (ins, (memo, own)))), signatures) =
     record {
       base = record { network = h .network; chain = h .chain; outputs = outs; inputs = ins; memo = memo };
@@ -158,7 +157,6 @@ kindOwn (importFrom chain inputs) = K.Import
 kindOwn (exportTo chain outputs) = K.Export
 
 unfoldable pub ownValue : (o : Own) → Value (ownPlan (kindOwn o))
-unfolding outputs inputs operations states
 ownValue plain = tt
 ownValue (createAsset name symbol denomination list) = (name, (symbol, (denomination, (list, tt))))
 ownValue (operate list) = (list, tt)
@@ -166,7 +164,7 @@ ownValue (importFrom chain list) = (chain, (list, tt))
 ownValue (exportTo chain list) = (chain, (list, tt))
 
 unfoldable pub valueOf : (most : ℕ) → Transaction → Signed (avm most)
-unfolding outputs inputs ownValue
+unfolding ownValue
 valueOf most t =
     let b = t .base in (
       (

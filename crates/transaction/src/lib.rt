@@ -1,8 +1,12 @@
 // A signed AVM transaction: its check, its table of entries, and each entry's typed fields.
-ghost use mathlib.Core.Path.{_≡_};
+pub mod body;
+pub mod check;
+pub mod credentials;
+
 use element::InputFields;
 use element::OperationFields;
 use element::OutputFields;
+use wire::Refusal;
 
 // The types of a transaction: 0 to 4.
 pub enum Kind {
@@ -41,4 +45,39 @@ pub enum Entry {
     ExportedOutput(OutputFields),
     InitialStateOutput(OutputFields),
     Credential(CredentialFields),
+}
+
+// Codec, type, network and chain id that are wholly there: the type, and the place behind them.
+pub enum HeadRead {
+    Whole(Kind, usize),
+    Refused(Refusal),
+}
+
+// A list that is wholly there: its first element's place, how many it has, and the place behind them.
+pub enum ListRead {
+    Whole(usize, u64, usize),
+    Refused(Refusal),
+}
+
+// Where the lists of a transaction stand: the inputs, the list of the type's own part, if it has one, and the credentials' count. The outputs
+// stand from place 46 on.
+pub struct Layout {
+    pub kind: Kind,
+    pub outputs_count: u64,
+    pub inputs_at: usize,
+    pub inputs_count: u64,
+    pub own_at: usize,
+    pub own_count: u64,
+    pub credentials_at: usize,
+}
+
+// An unsigned part that is wholly there, and the place behind it.
+pub enum UnsignedRead {
+    Whole(Layout, usize),
+    Refused(Refusal),
+}
+
+pub enum Checked {
+    Accepted(Layout),
+    Refused(Refusal),
 }

@@ -137,7 +137,7 @@ module _ {A S R : Type 0} (E : S → Format A) (step : S → A → S) (st : S) (
 
 -- A list of elements of one width that was read: how many they are, and where they begin
 module _ {A : Type 0} (F : Format A) (k : ℕ) (wide : (a : A) → F .Good a → length (F .write a) ≡ k) where
-  wide-chain : (prev : List ℕ) (l : List A) → Chain (above F) (left (above F)) prev l → length (listWrite (above F) (left (above F)) prev l) ≡ k * length l
+  pub wide-chain : (prev : List ℕ) (l : List A) → Chain (above F) (left (above F)) prev l → length (listWrite (above F) (left (above F)) prev l) ≡ k * length l
   unfolding listWrite guard
   wide-chain prev [] h = rw mul-zero
   wide-chain prev (a ∷ l) h =

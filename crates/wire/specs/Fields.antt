@@ -12,7 +12,7 @@ use borrow.Author.Tests.{leb-true, le-leb, eqb-true}
 use Rattle.wire.specs.declared.Refusal.{Refusal}
 use Rattle.wire.specs.Bytes.{Bytes, bytes-take, bytes-drop, value, digits, value-lt, length-digits, bytes-digits, value-digits, digits-value, pick}
 use Rattle.wire.specs.Numbers.{Rule, Ruled, cutShort, cutAt}
-use Rattle.wire.specs.Format.{Format, took, refused, Stands, onResult, moved, pick-inv, pick-same, pick-ruled, refused-number, took-refused}
+use Rattle.wire.specs.Format.{Format, took, refused, Stands, onResult, moved, pick-inv, pick-same, pick-ruled, pick-placed, refused-number, took-refused}
 use Rattle.wire.specs.Sequence.{«as», guard, named}
 
 -- ---- n bytes
@@ -60,6 +60,10 @@ module _ (n : ℕ) where
   unfolding blobRun
   blob-ruled s at e = pick-ruled (leb n (length s - at)) cutShort at (take n (drop at s)) (at + n) e
 
+  pub blob-placed : (s : List ℕ) (at : ℕ) (e : Refusal) → Bytes s → at ≤ length s → blobRun s at refused took ≡ refused e → e .place ≤ length s
+  unfolding blobRun
+  blob-placed s at e bs h = pick-placed (length s) (leb n (length s - at)) (cutAt n s at) (take n (drop at s)) (at + n) e h
+
   unfoldable pub blob : Format (List ℕ)
   blob =
       record {
@@ -72,6 +76,7 @@ module _ (n : ℕ) where
         bytes = λ v h. h .1;
         stable = blob-stable;
         ruled = blob-ruled;
+        placed = blob-placed;
       }
 
 pub blob-sized : (n : ℕ) (b : List ℕ) → blob n .Good b → length b ≡ n

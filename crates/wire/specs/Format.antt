@@ -4,7 +4,7 @@
 -- A reading goes on: `F .run s at stop go` is `go v next` where a value v stands in s from `at` up to `next`, and `stop e` where it is refused
 -- by e. So one field behind another is one reading inside another: the chain of let .. else that the code is.
 -- Assumes nothing.
-use mathlib.Core.Path.{_≡_, refl, sym, ap, _∙_, subst₂}
+use mathlib.Core.Path.{_≡_, refl, sym, ap, _∙_, subst, subst₂}
 use Prim.Native.Nat.{ℕ, _+_, _-_, _≤_}
 use native.Mathlib.Omega.{arith}
 use native.Mathlib.Decide.{decLe}
@@ -51,6 +51,8 @@ pub record Format (A : Type 0) : Type 1 where
       → run (s ++ t) at refused took ≡ refused e
   -- a refusal's number is that of a rule
   pub ruled : (s : List ℕ) (at : ℕ) (e : Refusal) → run s at refused took ≡ refused e → Ruled (e .number)
+  -- a refusal's place is inside the bytes, or at their end
+  pub placed : (s : List ℕ) (at : ℕ) (e : Refusal) → Bytes s → at ≤ length s → run s at refused took ≡ refused e → e .place ≤ length s
 
 -- the reading by itself
 abbrev pub read : {A : Type 0} → Format A → List ℕ → ℕ → Result A
@@ -129,6 +131,13 @@ pub pick-ruled : {A : Type 0} (t : Bool) (r : Rule) (p : ℕ) (v : A) (n : ℕ) 
 pick-ruled true r p v n e q = took-refused v n e q
 pick-ruled false r p v n e q = (r, refused-number (by r p) e q)
 
+pub refused-placed : {A : Type 0} (b : ℕ) (d e : Refusal) → d .place ≤ b → _≡_ {A = Result A} (refused d) (refused e) → e .place ≤ b
+refused-placed b d e h q = let z : d ≡ e = cc in subst (λ (r : Refusal). r .place ≤ b) z h
+
+pub pick-placed : {A : Type 0} (b : ℕ) (t : Bool) (d : Refusal) (v : A) (n : ℕ) (e : Refusal) → d .place ≤ b → pick t (took v n) (refused d) ≡ refused e → e .place ≤ b
+pick-placed b true d v n e h q = took-refused v n e q
+pick-placed {A} b false d v n e h q = refused-placed {A = A} b d e h q
+
 -- ---- where a writing stands
 
 pub stands-append : (s : List ℕ) (at : ℕ) (a : List ℕ) (m : ℕ) (b : List ℕ) (n : ℕ) → Stands s at a m → Stands s m b n → Stands s at (a ++ b) n
@@ -196,6 +205,21 @@ result-ruled (refused d) k e f g q = let z : d ≡ e = cc in f e (ap refused z)
 pub run-ruled : {A B : Type 0} (F : Format A) (s : List ℕ) (at : ℕ) (k : A → ℕ → Result B) (e : Refusal)
     → ((a : A) (m : ℕ) → k a m ≡ refused e → Ruled (e .number)) → F .run s at refused k ≡ refused e → Ruled (e .number)
 run-ruled F s at k e g q = result-ruled (read F s at) k e (F .ruled s at) g (sym (F .same s at refused k) ∙ q)
+
+-- ---- the place of a refusal
+
+pub result-placed : {A B : Type 0} (b : ℕ) (o : Result A) (k : A → ℕ → Result B) (e : Refusal) → ((d : Refusal) → o ≡ refused d → d .place ≤ b)
+    → ((a : A) (m : ℕ) → o ≡ took a m → k a m ≡ refused e → e .place ≤ b) → onResult o refused k ≡ refused e → e .place ≤ b
+result-placed b (took a m) k e f g q = g a m refl q
+result-placed b (refused d) k e f g q = let z : d ≡ e = cc in f e (ap refused z)
+
+-- what goes on is told what was read, and that it ends inside
+pub run-placed : {A B : Type 0} (F : Format A) (s : List ℕ) (at : ℕ) (k : A → ℕ → Result B) (e : Refusal) → Bytes s → at ≤ length s
+    → ((a : A) (m : ℕ) → F .Good a → Stands s at (F .write a) m → m ≤ length s → k a m ≡ refused e → e .place ≤ length s)
+    → F .run s at refused k ≡ refused e → e .place ≤ length s
+run-placed F s at k e bs h g q =
+    result-placed (length s) (read F s at) k e (λ d. F .placed s at d bs h)
+    (λ a m r. let (ga, sa) = F .sound s at a m bs r in g a m ga sa (stands-inside s at (F .write a) m sa h)) (sym (F .same s at refused k) ∙ q)
 
 -- ---- one reading
 

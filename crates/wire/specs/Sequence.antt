@@ -1,7 +1,7 @@
 -- Combinators: one format behind another, a rule on a value, the same bytes as another type, no bytes, a number that stands for a kind.
 -- Assumes nothing.
 use mathlib.Core.Path.{_≡_, refl, sym, ap, ap₂, _∙_, subst}
-use Prim.Native.Nat.{ℕ, _+_}
+use Prim.Native.Nat.{ℕ, _+_, _≤_}
 use native.Mathlib.Omega.{arith}
 use native.Mathlib.Nat.{add-assoc, add-zero}
 use mathlib.Core.Bool.{Bool, true, false}
@@ -12,7 +12,7 @@ use borrow.Author.Tests.{eqb-true}
 use Rattle.wire.specs.declared.Refusal.{Refusal}
 use Rattle.wire.specs.Bytes.{Bytes, bytes-append, drop-step, pick}
 use Rattle.wire.specs.Numbers.{Rule, by}
-use Rattle.wire.specs.Format.{Format, took, refused, Stands, onResult, moved, run-inv, run-same, run-stable, run-ruled, pick-inv, pick-same, pick-ruled, stands-append, took-refused}
+use Rattle.wire.specs.Format.{Format, took, refused, Stands, onResult, moved, run-inv, run-same, run-stable, run-ruled, run-placed, pick-inv, pick-same, pick-ruled, pick-placed, stands-append, took-refused}
 
 -- ---- a format behind another, which may depend on the first one's value
 
@@ -57,6 +57,7 @@ module _ {A : Type 0} {B : A → Type 0} (F : Format A) (G : (a : A) → Format 
         bytes = λ v h. bytes-append (F .write (v .0)) (G (v .0) .write (v .1)) (F .bytes (v .0) (h .0)) (G (v .0) .bytes (v .1) (h .1));
         stable = λ s t at e bs ne. run-stable F s t at _ _ e bs ne (λ a m r. run-stable (G a) s t m _ _ e bs ne (λ b n r q. q));
         ruled = λ s at e. run-ruled F s at _ e (λ a m. run-ruled (G a) s m _ e (λ b n q. took-refused (a, b) n e q));
+        placed = λ s at e bs h. run-placed F s at _ e bs h (λ a m ga sa i. run-placed (G a) s m _ e bs i (λ b n gb sb j q. took-refused (a, b) n e q));
       }
 
 -- ---- a rule on the value, judged when it is wholly read; a value that breaks it is refused at a place that its start and itself tell
@@ -79,24 +80,27 @@ module _ {A : Type 0} (F : Format A) (ok : A → Bool) (x : Rule) (place : ℕ �
       → drop at s ≡ F .write v ++ t → guardRun s at stop go ≡ go v (at + length (F .write v))
   guard-complete s at v t stop go h e = F .complete s at v t stop _ (h .0) e ∙ rw (h .1)
 
-  unfoldable pub guardAt : Format A
-  guardAt =
-      record {
-        run = guardRun;
-        write = F .write;
-        Good = Kept;
-        same = λ s at stop go. run-same F s at _ _ stop go (λ a m. pick-same (ok a) (by x (place at a)) a m stop go);
-        sound = guard-sound;
-        complete = guard-complete;
-        bytes = λ v h. F .bytes v (h .0);
-        stable = λ s t at e bs ne. run-stable F s t at _ _ e bs ne (λ a m r q. q);
-        ruled = λ s at e. run-ruled F s at _ e (λ a m. pick-ruled (ok a) x (place at a) a m e);
-      }
+  -- the place is inside the value, or at its end
+  module _ (within : (at : ℕ) (a : A) → F .Good a → place at a ≤ at + length (F .write a)) where
+    unfoldable pub guardAt : Format A
+    guardAt =
+        record {
+          run = guardRun;
+          write = F .write;
+          Good = Kept;
+          same = λ s at stop go. run-same F s at _ _ stop go (λ a m. pick-same (ok a) (by x (place at a)) a m stop go);
+          sound = guard-sound;
+          complete = guard-complete;
+          bytes = λ v h. F .bytes v (h .0);
+          stable = λ s t at e bs ne. run-stable F s t at _ _ e bs ne (λ a m r q. q);
+          ruled = λ s at e. run-ruled F s at _ e (λ a m. pick-ruled (ok a) x (place at a) a m e);
+          placed = λ s at e bs h. run-placed F s at _ e bs h (λ a m ga sa i. pick-placed (length s) (ok a) (by x (place at a)) a m e (omega (arith, within at a ga)));
+        }
 
 -- the usual place: where the value starts
 unfoldable pub guard : {A : Type 0} → Format A → (A → Bool) → Rule → Format A
 unfolding guardAt
-guard F ok x = guardAt F ok x (λ at a. at)
+guard F ok x = guardAt F ok x (λ at a. at) (λ at a h. omega arith)
 
 -- ---- the same bytes, as another type: `Fit` says which of its values the format has
 
@@ -136,6 +140,7 @@ module _ {A B : Type 0} (F : Format A) (Fit : B → Type 0) (i : Same (F .Good) 
         bytes = λ v h. F .bytes (i .from v) (i .has v h);
         stable = λ s t at e bs ne. run-stable F s t at _ _ e bs ne (λ a m r q. q);
         ruled = λ s at e. run-ruled F s at _ e (λ a m q. took-refused (i .to a) m e q);
+        placed = λ s at e bs h. run-placed F s at _ e bs h (λ a m ga sa j q. took-refused (i .to a) m e q);
       }
 
 -- a record type, or another that has a way back
@@ -171,6 +176,7 @@ module _ {A : Type 0} (a : A) where
         bytes = λ v h. tt;
         stable = λ s t at e bs ne q. q;
         ruled = λ s at e q. took-refused a at e q;
+        placed = λ s at e bs h q. took-refused a at e q;
       }
 
 -- ---- a number that stands for one of the kinds listed; any other is refused by x, at its start
@@ -240,4 +246,6 @@ module _ {K : Type 0} (code : K → ℕ) where
             stable = λ s t at e bs ne. run-stable N s t at _ _ e bs ne (λ n m r q. q);
             ruled = λ s at e. run-ruled N s at _ e (λ n m q.
                 pick-ruled (listed ks n) x at (kind n) m e (sym (find-is ks n (λ k. took k m) (refused (by x at))) ∙ q));
+            placed = λ s at e bs h. run-placed N s at _ e bs h (λ n m gn sn i q.
+                pick-placed (length s) (listed ks n) (by x at) (kind n) m e h (sym (find-is ks n (λ k. took k m) (refused (by x at))) ∙ q));
           }

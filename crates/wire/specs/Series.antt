@@ -1,6 +1,6 @@
 -- Lists: so many elements, each read in view of the bytes of the one before; the two orders; a count in front. Assumes nothing.
 use mathlib.Core.Path.{_≡_, refl, sym, ap, _∙_}
-use Prim.Native.Nat.{ℕ, zero, suc, _+_}
+use Prim.Native.Nat.{ℕ, zero, suc, _+_, _≤_}
 use native.Mathlib.Omega.{arith}
 use native.Mathlib.Nat.{add-assoc, add-zero}
 use mathlib.Core.Bool.{not}
@@ -9,7 +9,7 @@ use lib.ListN.{length, drop, length-append}
 use Rattle.wire.specs.declared.Refusal.{Refusal}
 use Rattle.wire.specs.Bytes.{Bytes, bytes-append, drop-step, below}
 use Rattle.wire.specs.Numbers.{Ruled, outOfOrder}
-use Rattle.wire.specs.Format.{Format, Result, took, refused, Stands, onResult, moved, result-inv, result-same, result-stable, result-ruled, run-inv, run-same, run-stable, run-ruled, stands-append, stands-behind, took-refused}
+use Rattle.wire.specs.Format.{Format, Result, took, refused, Stands, onResult, moved, result-inv, result-same, result-stable, result-ruled, result-placed, run-inv, run-same, run-stable, run-ruled, run-placed, stands-append, stands-behind, took-refused}
 use Rattle.wire.specs.Sequence.{andThen, guard, named}
 
 -- ---- n elements; an element's format may depend on a state that the elements before it have left
@@ -106,6 +106,16 @@ module _ {A S : Type 0} (P : S → Format A) (step : S → A → S) where
       (sym (list-same n (step st a) s m refused (λ l k. took (a ∷ l) k)) ∙ q))
       q
 
+  pub list-placed : (n : ℕ) (st : S) (s : List ℕ) (at : ℕ) (e : Refusal) → Bytes s → at ≤ length s → listRun n st s at refused took ≡ refused e → e .place ≤ length s
+  unfolding listRun
+  list-placed zero st s at e bs h q = took-refused [] at e q
+  list-placed (suc n) st s at e bs h q =
+      run-placed (P st) s at _ e bs h
+      (λ a m ga sa i q.
+      result-placed (length s) (listRun n (step st a) s m refused took) (λ l k. took (a ∷ l) k) e (λ d. list-placed n (step st a) s m d bs i)
+      (λ l k r q. took-refused (a ∷ l) k e q) (sym (list-same n (step st a) s m refused (λ l k. took (a ∷ l) k)) ∙ q))
+      q
+
   unfoldable pub items : S → ℕ → Format (List A)
   items st n =
       record {
@@ -118,6 +128,7 @@ module _ {A S : Type 0} (P : S → Format A) (step : S → A → S) where
         bytes = λ v h. list-bytes st v (h .1);
         stable = list-stable n st;
         ruled = list-ruled n st;
+        placed = list-placed n st;
       }
 
 -- a list has as many elements as it was asked for

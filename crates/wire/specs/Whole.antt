@@ -12,7 +12,7 @@ use borrow.Author.Tests.{leb-true, le-leb, eqb-true, eqb-false, eq-eqb, ne-eqb}
 use Rattle.wire.specs.declared.Refusal.{Refusal}
 use Rattle.wire.specs.Bytes.{Bytes, pick}
 use Rattle.wire.specs.Numbers.{refusal, tooLong, bytesAfterEnd, ruled-range}
-use Rattle.wire.specs.Format.{Format, Result, took, refused, onResult, read, moved, run-inv, run-same, run-stable, pick-inv, pick-same, stands-inside, refused-number, took-refused}
+use Rattle.wire.specs.Format.{Format, Result, took, refused, onResult, read, moved, run-inv, run-same, run-stable, run-placed, pick-inv, pick-same, pick-placed, stands-inside, refused-number, refused-placed, took-refused}
 
 module _ {A : Type 0} (F : Format A) (most : ℕ) where
   abbrev pub whole : {R : Type 0} → List ℕ → (Refusal → R) → (A → ℕ → R) → R
@@ -87,3 +87,12 @@ module _ {A : Type 0} (F : Format A) (most : ℕ) where
           → (1 ≤ e .number) × (e .number ≤ 13)
       fits true q = inside (read F s 0) refl (sym (F .same s 0 refused _) ∙ q)
       fits false q = let z = refused-number {A = A} (refusal tooLong 0) e q in (omega arith, omega arith)
+
+  -- refused at a place inside the bytes, or at their end
+  pub whole-placed : (s : List ℕ) (e : Refusal) → Bytes s → whole s refused took ≡ refused e → e .place ≤ length s
+  whole-placed s e bs = fits (leb (length s) most)
+    where
+      fits : (b : Bool) → pick b (F .run s 0 refused (λ v n. pick (eqb n (length s)) (took v n) (refused (refusal bytesAfterEnd n)))) (refused (refusal tooLong 0)) ≡ refused e
+          → e .place ≤ length s
+      fits true = run-placed F s 0 _ e bs (omega arith) (λ v n g h i. pick-placed (length s) (eqb n (length s)) (refusal bytesAfterEnd n) v n e i)
+      fits false = refused-placed {A = A} (length s) (refusal tooLong 0) e (omega arith)

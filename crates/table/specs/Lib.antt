@@ -1,0 +1,3 @@
+-- Entries as code walks them
+pub mod Walk
+pub mod Rows

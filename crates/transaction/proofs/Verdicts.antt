@@ -1,0 +1,56 @@
+-- What a caller of the check knows by its answer: the number, the place and the verdict. Assumes nothing.
+use Prim.Native.Nat.{ℕ, _≤_}
+use mathlib.Core.Path.{_≡_, refl, ap, _∙_}
+use mathlib.Core.Bool.{Bool, true, false}
+use mathlib.Core.List.{List}
+use native.Mathlib.Omega.{arith}
+use lib.ListN.{length}
+use lib.Dec.{leb}
+use borrow.Author.Tests.{leb-true}
+use Rattle.wire.specs.declared.Refusal.{Refusal}
+use Rattle.wire.specs.Bytes.{Bytes}
+use Rattle.wire.specs.Numbers.{refusal, tooLong}
+use Rattle.wire.specs.Format.{Result, took, refused, onResult, verdict, refused-placed}
+use Rattle.transaction.specs.Signed as Any
+use Rattle.transaction.specs.Family.{Signed, check}
+use Rattle.transaction.specs.Codec.{Codec}
+use Rattle.transaction.specs.Avm.{avm}
+use Rattle.transaction.specs.Answer.{memoMost, layout, checked}
+use Rattle.transaction.specs.declared.Layout.{Layout}
+use Rattle.transaction.specs.declared.Checked.the-variants as C
+use Rattle.transaction.proofs.Codec.{codec}
+
+module _ {A : Type 0} (w : A → Layout) where
+  refused-inv : (o : Result A) (e : Refusal) → C.Refused e ≡ onResult o C.Refused (λ v n. C.Accepted (w v)) → o ≡ refused e
+  refused-inv (took v n) e q = let z : _≡_ {A = ℕ} 0 1 = cc in absurd (omega arith)
+  refused-inv (refused d) e q = let z : d ≡ e = cc in ap refused z
+
+  accepted-inv : (o : Result A) (l : Layout) → C.Accepted l ≡ onResult o C.Refused (λ v n. C.Accepted (w v)) → (v : A) × (n : ℕ) × (o ≡ took v n)
+  accepted-inv (took v n) l q = (v, n, refl)
+  accepted-inv (refused d) l q = let z : _≡_ {A = ℕ} 0 1 = cc in absurd (omega arith)
+
+refused-check : (s : List ℕ) (e : Refusal) → C.Refused e ≡ checked s → check (avm memoMost) s ≡ refused e
+refused-check s e = refused-inv (λ v. layout (v .0)) (check (avm memoMost) s) e
+
+-- the number is of the table, 1 to 13
+pub checked-number : (s : List ℕ) (e : Refusal) → C.Refused e ≡ checked s → (1 ≤ e .number) × (e .number ≤ 13)
+checked-number s e q = codec (avm memoMost) .refused-by s e (refused-check s e q)
+
+-- the place is inside the bytes or at their end, and rule 1, of bytes too many, is placed at 0
+pub checked-place : (s : List ℕ) (e : Refusal) → Bytes s → C.Refused e ≡ checked s → e .place ≤ 65536
+unfolding Any.check
+checked-place s e bs q = fits (leb (length s) 65536) refl (refused-check s e q)
+  where
+    fits : (b : Bool) → leb (length s) 65536 ≡ b → check (avm memoMost) s ≡ refused e → e .place ≤ 65536
+    fits true p r = omega (arith, leb-true (length s) 65536 p, codec (avm memoMost) .refused-at s e bs r)
+    fits false p r = refused-placed {A = Signed (avm memoMost)} 65536 (refusal tooLong 0) e (omega arith) (rw p at r)
+
+-- the verdict of a check that refuses, and of one that accepts
+pub checked-refused : (s : List ℕ) (e : Refusal) → C.Refused e ≡ checked s → verdict (check (avm memoMost) s) ≡ (e .number, e .place)
+checked-refused s e q = ap verdict (refused-check s e q)
+
+pub checked-accepted : (s : List ℕ) (w : Layout) → Bytes s → C.Accepted w ≡ checked s → (verdict (check (avm memoMost) s) ≡ (0, length s)) × (length s ≤ 65536)
+checked-accepted s w bs q =
+    let (v, n, t) = accepted-inv (λ v. layout (v .0)) (check (avm memoMost) s) w q in
+    let (g, m) = codec (avm memoMost) .write-after-read s v n bs t in
+    (ap verdict t ∙ ap (λ (k : ℕ). (0, k)) m, g .short)
