@@ -1,2 +1,4 @@
 pub mod Walking
 pub mod Rest
+pub mod Counting
+pub mod Entries

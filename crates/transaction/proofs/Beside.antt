@@ -96,7 +96,7 @@ module _ {R : Type 0} (prev s : List ℕ) (q : ℕ) (v : Input) (m : ℕ) (b : S
 
 -- ---- a list that was read
 
-at-least-inv : {A : Type 0} (least : ℕ) (E : List ℕ → Format A) (s : List ℕ) (i : ℕ) (l : List A) (m : ℕ) → Slice s → read (atLeast least E) s i ≡ took l m
+pub at-least-inv : {A : Type 0} (least : ℕ) (E : List ℕ → Format A) (s : List ℕ) (i : ℕ) (l : List A) (m : ℕ) → Slice s → read (atLeast least E) s i ≡ took l m
     → read (items E (left E) [] (length l)) s (i + 4) ≡ took l m
 unfolding atLeast
 at-least-inv least E s i l m b e =

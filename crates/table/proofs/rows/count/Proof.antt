@@ -1,68 +1,22 @@
+-- `table::rows::count` meets its contract. The invariant: the rows counted and those that are left are all.
+-- Assumes nothing.
 use borrow.Author.Needs.{needs}
+use Prim.Native.Nat.{_+_, _≤_}
+use mathlib.Core.Path.{_≡_, refl, ap}
+use lib.ListN.{length}
+use native.Mathlib.Omega.{arith}
+use Rattle.table.specs.Walk.{start, rest}
+use Rattle.table.proofs.Rest.{ahead, found-rest, moved-rest, done-rest, found-ahead, moved-ahead}
+use Rattle.table.proofs.Counting.{counted-all, counted-over}
 use Rattle.table.proofs.rows.count.Statement.{statement}
 use Rattle.table.proofs.rows.count.Tie as tie
-use Rattle.table.proofs.rows.count.Reads as reads
-use Rattle.table.proofs.rows.count.Lts as lts
-use Rattle.table.proofs.walk.first.Reads as first-reads
-use Rattle.table.proofs.walk.step.Reads as step-reads
 
 abbrev Inv-loop : tie.InvT-loop
-Inv-loop s layout most cursor₀ n₀ cursor n = ?
+Inv-loop s layout most cursor₀ n₀ cursor n =
+    (n ≤ most) × (n + length (rest layout s cursor) ≡ length (rest layout s (start layout)))
 
 abbrev μ-loop : tie.MeasureT-loop
-μ-loop s layout most cursor₀ n₀ cursor n = ?
-
--- src/rows.rt:18:9
-first-requires : tie.Need-first-requires Inv-loop μ-loop
-first-requires c κs = search needs
-
--- src/rows.rt:20:5
-loop-holds : tie.Need-loop-holds Inv-loop μ-loop
-loop-holds c = search needs
-
--- src/rows.rt:21:15
-step-requires : tie.Need-step-requires Inv-loop μ-loop
-step-requires c κs = search needs
-
--- src/rows.rt:23:17
-enum-told : tie.Need-enum-told Inv-loop μ-loop
-enum-told c = search needs
-
--- src/rows.rt:23:17
-returns : tie.Need-returns Inv-loop μ-loop
-returns c = search needs
-
--- src/rows.rt:25:25
-enum-known-next : tie.Need-enum-known-next Inv-loop μ-loop
-enum-known-next c = search needs
-
--- src/rows.rt:20:5
-loop-less : tie.Need-loop-less Inv-loop μ-loop
-loop-less c = search needs
-
--- src/rows.rt:20:5
-loop-again : tie.Need-loop-again Inv-loop μ-loop
-loop-again c = search needs
-
--- src/rows.rt:28:28
-enum-known-next-2 : tie.Need-enum-known-next-2 Inv-loop μ-loop
-enum-known-next-2 c = search needs
-
--- src/rows.rt:30:21
-returns-2 : tie.Need-returns-2 Inv-loop μ-loop
-returns-2 c = search needs
-
--- src/rows.rt:32:17
-add-n : tie.Need-add-n Inv-loop μ-loop
-add-n c = search needs
-
--- src/rows.rt:20:5
-loop-less-2 : tie.Need-loop-less-2 Inv-loop μ-loop
-loop-less-2 c = search needs
-
--- src/rows.rt:20:5
-loop-again-2 : tie.Need-loop-again-2 Inv-loop μ-loop
-loop-again-2 c = search needs
+μ-loop s layout most cursor₀ n₀ cursor n = ahead layout s cursor
 
 pub count-spec : {M : Type 1} → statement M
 count-spec =
@@ -70,16 +24,16 @@ count-spec =
     (tie.spec
     Inv-loop
     μ-loop
-    first-requires
-    loop-holds
-    step-requires
-    enum-told
-    returns
-    enum-known-next
-    loop-less
-    loop-again
-    enum-known-next-2
-    returns-2
-    add-n
-    loop-less-2
-    loop-again-2)
+    (λ c κs. search needs)  -- first-requires
+    (λ c. (search needs, omega (arith, ap (λ d. length (rest (c .before .before .args .layout) (c .before .before .args .s .now) d)) (c .first .ensures))))  -- loop-holds
+    (λ c κs. search needs)  -- step-requires
+    (λ c. search needs)  -- enum-told
+    (λ c. counted-all (c .before .before .before .before .before .before .args .most) (c .before .before .before .loop .n) (rest (c .before .before .before .before .before .before .args .layout) (c .before .before .before .before .before .before .args .s .now) (start (c .before .before .before .before .before .before .args .layout))) (omega arith) (omega (arith, ap length (done-rest (c .before .before .before .before .before .before .args .layout) (c .before .before .before .before .before .before .args .s .now) (c .before .before .before .loop .cursor) _ (c .before .before .step .ensures) (c .enum-told .given .1)))))  -- returns
+    (λ c. search needs)  -- enum-known-next
+    (λ c. moved-ahead (c .before .before .before .before .before .before .before .args .layout) (c .before .before .before .before .before .before .before .args .s .now) (c .before .before .before .before .loop .cursor) _ (c .before .before .before .step .ensures) _ (c .before .next .given .1))  -- loop-less
+    (λ c. (search needs, omega (arith, ap length (moved-rest (c .before .before .before .before .before .before .before .args .layout) (c .before .before .before .before .before .before .before .args .s .now) (c .before .before .before .before .loop .cursor) _ (c .before .before .before .step .ensures) _ (c .before .next .given .1)))))  -- loop-again
+    (λ c. search needs)  -- enum-known-next-2
+    (λ c. counted-over (c .before .before .before .before .before .before .before .before .args .most) (rest (c .before .before .before .before .before .before .before .before .args .layout) (c .before .before .before .before .before .before .before .before .args .s .now) (start (c .before .before .before .before .before .before .before .before .args .layout))) (omega (arith, ap length (found-rest (c .before .before .before .before .before .before .before .before .args .layout) (c .before .before .before .before .before .before .before .before .args .s .now) (c .before .before .before .before .before .loop .cursor) _ (c .before .before .before .before .step .ensures) _ _ (c .before .before .next2 .given .1)))))  -- returns-2
+    (λ c. search needs)  -- add-n
+    (λ c. found-ahead (c .before .before .before .before .before .before .before .before .args .layout) (c .before .before .before .before .before .before .before .before .args .s .now) (c .before .before .before .before .before .loop .cursor) _ (c .before .before .before .before .step .ensures) _ _ (c .before .before .next2 .given .1))  -- loop-less-2
+    (λ c. (omega arith, omega (arith, ap length (found-rest (c .before .before .before .before .before .before .before .before .args .layout) (c .before .before .before .before .before .before .before .before .args .s .now) (c .before .before .before .before .before .loop .cursor) _ (c .before .before .before .before .step .ensures) _ _ (c .before .before .next2 .given .1))))))  -- loop-again-2

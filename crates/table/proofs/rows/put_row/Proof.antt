@@ -1,81 +1,31 @@
+-- `table::rows::put_row` meets its contract.
+-- Assumes nothing.
 use borrow.Author.Needs.{needs}
+use Prim.Native.Nat.{_*_}
+use mathlib.Core.Path.{_≡_, ap, _∙_}
+use native.Mathlib.Omega.{arith}
+use lib.ListN.{length-set}
+use Rattle.table.specs.Rows.{putRow}
+use Rattle.table.proofs.Counting.{three-stored}
 use Rattle.table.proofs.rows.put_row.Statement.{statement}
 use Rattle.table.proofs.rows.put_row.Tie as tie
-use Rattle.table.proofs.rows.put_row.Reads as reads
-use Rattle.table.proofs.rows.put_row.Lts as lts
-use Rattle.table.proofs.rows.span.Reads as span-reads
-
--- src/rows.rt:79:14
-mul-at : tie.Need-mul-at
-mul-at c = search needs
-
--- src/rows.rt:80:5
-mul-table : tie.Need-mul-table
-mul-table c = search needs
-
--- src/rows.rt:80:5
-slice-write-table : tie.Need-slice-write-table
-slice-write-table c = search needs
-
--- src/rows.rt:81:21
-cast-table : tie.Need-cast-table
-cast-table c = search needs
-
--- src/rows.rt:81:11
-add-table : tie.Need-add-table
-add-table c = search needs
-
--- src/rows.rt:81:5
-mul-table-2 : tie.Need-mul-table-2
-mul-table-2 c = search needs
-
--- src/rows.rt:81:5
-slice-write-table-2 : tie.Need-slice-write-table-2
-slice-write-table-2 c = ?
-
--- src/rows.rt:82:22
-span-requires : tie.Need-span-requires
-span-requires c κs = search needs
-
--- src/rows.rt:82:21
-cast-table-2 : tie.Need-cast-table-2
-cast-table-2 c = search needs
-
--- src/rows.rt:82:11
-add-table-2 : tie.Need-add-table-2
-add-table-2 c = search needs
-
--- src/rows.rt:82:5
-mul-table-3 : tie.Need-mul-table-3
-mul-table-3 c = search needs
-
--- src/rows.rt:82:5
-slice-write-table-3 : tie.Need-slice-write-table-3
-slice-write-table-3 c = ?
-
--- src/rows.rt:75:1
-same-length : tie.Need-same-length
-same-length c = search needs
-
--- src/rows.rt:75:1
-returns : tie.Need-returns
-returns c = ?
 
 pub put-row-spec : {M : Type 1} → statement M
+unfolding putRow
 put-row-spec =
     tie.close
     (tie.spec
-    mul-at
-    mul-table
-    slice-write-table
-    cast-table
-    add-table
-    mul-table-2
-    slice-write-table-2
-    span-requires
-    cast-table-2
-    add-table-2
-    mul-table-3
-    slice-write-table-3
-    same-length
-    returns)
+    (λ c. search needs)  -- mul-at
+    (λ c. search needs)  -- mul-table
+    (λ c. search needs)  -- slice-write-table
+    (λ c. search needs)  -- cast-table
+    (λ c. search needs)  -- add-table
+    (λ c. search needs)  -- mul-table-2
+    (λ c. simp length-set (omega arith))  -- slice-write-table-2
+    (λ c κs. search needs)  -- span-requires
+    (λ c. search needs)  -- cast-table-2
+    (λ c. search needs)  -- add-table-2
+    (λ c. search needs)  -- mul-table-3
+    (λ c. simp length-set (omega arith))  -- slice-write-table-3
+    (λ c. search needs)  -- same-length
+    (λ c. rw (c .span .ensures) (three-stored (c .before .before .before .args .table .now) (3 * (c .before .before .before .args .i)) _ _ _ (omega arith))))  -- returns

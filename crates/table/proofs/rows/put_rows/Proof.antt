@@ -1,73 +1,23 @@
+-- `table::rows::put_rows` meets its contract. The invariant: putting the rows that are left, from row i on, is putting them all.
+-- Assumes nothing.
 use borrow.Author.Needs.{needs}
+use Prim.Native.Nat.{_+_, _*_, _≤_}
+use mathlib.Core.Path.{_≡_, refl, ap}
+use lib.ListN.{length}
+use native.Mathlib.Omega.{arith}
+use Rattle.table.specs.Walk.{start, rest}
+use Rattle.table.specs.Rows.{putRow, putRows}
+use Rattle.table.proofs.Rest.{ahead, found-rest, moved-rest, found-ahead, moved-ahead}
+use Rattle.table.proofs.Counting.{put-done, put-moved, put-found, length-putRow}
 use Rattle.table.proofs.rows.put_rows.Statement.{statement}
 use Rattle.table.proofs.rows.put_rows.Tie as tie
-use Rattle.table.proofs.rows.put_rows.Reads as reads
-use Rattle.table.proofs.rows.put_rows.Lts as lts
-use Rattle.table.proofs.rows.put_row.Reads as put-row-reads
-use Rattle.table.proofs.walk.first.Reads as first-reads
-use Rattle.table.proofs.walk.step.Reads as step-reads
 
 abbrev Inv-loop : tie.InvT-loop
-Inv-loop s layout table₀ cursor₀ i₀ table cursor i = ?
+Inv-loop s layout table₀ cursor₀ i₀ table cursor i =
+    (length table ≡ length table₀) × (3 * (i + length (rest layout s cursor)) ≤ length table) × (putRows i (rest layout s cursor) table ≡ putRows 0 (rest layout s (start layout)) table₀)
 
 abbrev μ-loop : tie.MeasureT-loop
-μ-loop s layout table₀ cursor₀ i₀ table cursor i = ?
-
--- src/rows.rt:90:9
-first-requires : tie.Need-first-requires Inv-loop μ-loop
-first-requires c κs = search needs
-
--- src/rows.rt:92:5
-loop-holds : tie.Need-loop-holds Inv-loop μ-loop
-loop-holds c = search needs
-
--- src/rows.rt:93:15
-step-requires : tie.Need-step-requires Inv-loop μ-loop
-step-requires c κs = search needs
-
--- src/rows.rt:95:17
-enum-told : tie.Need-enum-told Inv-loop μ-loop
-enum-told c = search needs
-
--- src/rows.rt:95:17
-same-length : tie.Need-same-length Inv-loop μ-loop
-same-length c = search needs
-
--- src/rows.rt:95:17
-returns : tie.Need-returns Inv-loop μ-loop
-returns c = search needs
-
--- src/rows.rt:97:25
-enum-known-next : tie.Need-enum-known-next Inv-loop μ-loop
-enum-known-next c = search needs
-
--- src/rows.rt:92:5
-loop-less : tie.Need-loop-less Inv-loop μ-loop
-loop-less c = search needs
-
--- src/rows.rt:92:5
-loop-again : tie.Need-loop-again Inv-loop μ-loop
-loop-again c = search needs
-
--- src/rows.rt:100:25
-enum-known-row : tie.Need-enum-known-row Inv-loop μ-loop
-enum-known-row c = search needs
-
--- src/rows.rt:101:17
-put-row-requires : tie.Need-put-row-requires Inv-loop μ-loop
-put-row-requires c κs = search needs
-
--- src/rows.rt:102:17
-add-i : tie.Need-add-i Inv-loop μ-loop
-add-i c = search needs
-
--- src/rows.rt:92:5
-loop-less-2 : tie.Need-loop-less-2 Inv-loop μ-loop
-loop-less-2 c = search needs
-
--- src/rows.rt:92:5
-loop-again-2 : tie.Need-loop-again-2 Inv-loop μ-loop
-loop-again-2 c = search needs
+μ-loop s layout table₀ cursor₀ i₀ table cursor i = ahead layout s cursor
 
 pub put-rows-spec : {M : Type 1} → statement M
 put-rows-spec =
@@ -75,17 +25,17 @@ put-rows-spec =
     (tie.spec
     Inv-loop
     μ-loop
-    first-requires
-    loop-holds
-    step-requires
-    enum-told
-    same-length
-    returns
-    enum-known-next
-    loop-less
-    loop-again
-    enum-known-row
-    put-row-requires
-    add-i
-    loop-less-2
-    loop-again-2)
+    (λ c κs. search needs)  -- first-requires
+    (λ c. (refl, omega (arith, ap (λ d. length (rest (c .before .before .before .args .layout) (c .before .before .before .args .s .now) d)) (c .first .ensures)), ap (λ d. putRows 0 (rest (c .before .before .before .args .layout) (c .before .before .before .args .s .now) d) (c .before .before .before .args .table .now)) (c .first .ensures)))  -- loop-holds
+    (λ c κs. search needs)  -- step-requires
+    (λ c. search needs)  -- enum-told
+    (λ c. search needs)  -- same-length
+    (λ c. put-done (c .before .before .before .before .before .before .before .args .layout) (c .before .before .before .before .before .before .before .args .s .now) (c .before .before .before .loop .cursor) _ (c .before .before .step .ensures) _ _ _ (c .before .before .before .loop .inv .2) (c .enum-told .given .1))  -- returns
+    (λ c. search needs)  -- enum-known-next
+    (λ c. moved-ahead (c .before .before .before .before .before .before .before .before .args .layout) (c .before .before .before .before .before .before .before .before .args .s .now) (c .before .before .before .before .loop .cursor) _ (c .before .before .before .step .ensures) _ (c .before .next .given .1))  -- loop-less
+    (λ c. (omega arith, omega (arith, ap length (moved-rest (c .before .before .before .before .before .before .before .before .args .layout) (c .before .before .before .before .before .before .before .before .args .s .now) (c .before .before .before .before .loop .cursor) _ (c .before .before .before .step .ensures) _ (c .before .next .given .1))), put-moved (c .before .before .before .before .before .before .before .before .args .layout) (c .before .before .before .before .before .before .before .before .args .s .now) (c .before .before .before .before .loop .cursor) _ (c .before .before .before .step .ensures) _ _ _ (c .before .before .before .before .loop .inv .2) _ (c .before .next .given .1)))  -- loop-again
+    (λ c. search needs)  -- enum-known-row
+    (λ c κs. omega (arith, ap length (found-rest (c .before .before .before .before .before .before .before .before .before .args .layout) (c .before .before .before .before .before .before .before .before .before .args .s .now) (c .before .before .before .before .before .loop .cursor) _ (c .before .before .before .before .step .ensures) _ _ (c .before .before .row .given .1))))  -- put-row-requires
+    (λ c. search needs)  -- add-i
+    (λ c. found-ahead (c .before .before .before .before .before .before .before .before .before .before .before .before .args .layout) (c .before .before .before .before .before .before .before .before .before .before .before .before .args .s .now) (c .before .before .before .before .before .before .before .before .loop .cursor) _ (c .before .before .before .before .before .before .before .step .ensures) _ _ (c .before .before .before .before .before .row .given .1))  -- loop-less-2
+    (λ c. (omega (arith, ap length (found-rest (c .before .before .before .before .before .before .before .before .before .before .before .before .args .layout) (c .before .before .before .before .before .before .before .before .before .before .before .before .args .s .now) (c .before .before .before .before .before .before .before .before .loop .cursor) _ (c .before .before .before .before .before .before .before .step .ensures) _ _ (c .before .before .before .before .before .row .given .1)), ap length (c .before .before .put-row .ensures), length-putRow (c .before .before .before .before .before .before .before .before .loop .i) (c .before .before .before .before .before .row .given .0 .0) (c .before .before .before .before .before .before .before .before .loop .table) (omega (arith, ap length (found-rest (c .before .before .before .before .before .before .before .before .before .before .before .before .args .layout) (c .before .before .before .before .before .before .before .before .before .before .before .before .args .s .now) (c .before .before .before .before .before .before .before .before .loop .cursor) _ (c .before .before .before .before .before .before .before .step .ensures) _ _ (c .before .before .before .before .before .row .given .1))))), omega (arith, ap length (found-rest (c .before .before .before .before .before .before .before .before .before .before .before .before .args .layout) (c .before .before .before .before .before .before .before .before .before .before .before .before .args .s .now) (c .before .before .before .before .before .before .before .before .loop .cursor) _ (c .before .before .before .before .before .before .before .step .ensures) _ _ (c .before .before .before .before .before .row .given .1)), ap length (c .before .before .put-row .ensures), length-putRow (c .before .before .before .before .before .before .before .before .loop .i) (c .before .before .before .before .before .row .given .0 .0) (c .before .before .before .before .before .before .before .before .loop .table) (omega (arith, ap length (found-rest (c .before .before .before .before .before .before .before .before .before .before .before .before .args .layout) (c .before .before .before .before .before .before .before .before .before .before .before .before .args .s .now) (c .before .before .before .before .before .before .before .before .loop .cursor) _ (c .before .before .before .before .before .before .before .step .ensures) _ _ (c .before .before .before .before .before .row .given .1))))), put-found (c .before .before .before .before .before .before .before .before .before .before .before .before .args .layout) (c .before .before .before .before .before .before .before .before .before .before .before .before .args .s .now) (c .before .before .before .before .before .before .before .before .loop .cursor) _ (c .before .before .before .before .before .before .before .step .ensures) _ _ _ (c .before .before .before .before .before .before .before .before .loop .inv .2) _ _ _ (c .before .before .before .before .before .row .given .1) (c .before .before .put-row .ensures))))  -- loop-again-2
