@@ -1,4 +1,11 @@
--- How the readers of this crate meet their formats: what each answer says of the reading that its function ensures, and the turns of the lists.
+-- How the readers of this crate meet their formats. Each law of the form z ≡ (the reading) goes one step into a reading, where it is known what
+-- the code found, as the laws of wire's proofs/Reading do; the proofs of the functions walk by `search` over the rulesets.
+--   answers          what the answer of a reader says of its format's reading: said once, for any answer
+--   fields, order    numbers and parts that were read; what code compares, and what the format compares
+--   lists            what is left of a list, by what code keeps of the element before
+--   strings .. initial states    for each part of a transaction: the answer that its fields make (`..-made`), and how the reading of what holds
+--                    it goes on from its answer (`on-..`, `on-..-refused`)
+--   rulesets         a chain up to a refusal, and one that went through to its end
 -- Assumes nothing.
 use Prim.Native.Nat.{ℕ, zero, suc, _+_, _-_, _*_, _^_, _≤_, _<_}
 use mathlib.Core.Path.{_≡_, refl, sym, ap, ap₂, _∙_}
@@ -25,12 +32,13 @@ use Rattle.wire.specs.Series.{items, listRun, left, increasing, nondecreasing, 
 use Rattle.wire.specs.Order.{keyBelow}
 use Rattle.wire.specs.Answer.{ended, valued, wholeAt}
 use Rattle.wire.proofs.Bytes.{Slice, slice-bytes, found, below-digits, key-below}
+use Rattle.wire.proofs.Orders.{empty-below}
 use Rattle.wire.proofs.Reading as W
 use Rattle.element.specs.Strings.{unprintable, unprintable-le, string}
 use Rattle.element.specs.Owners.{Owners, owners, ownersFields}
-use Rattle.element.specs.Outputs.{transferBody, OutputType, Output, output, TransferableOutput, transferableOutput, outputFields}
+use Rattle.element.specs.Outputs.{transferBody, OutputType, Output, output, TransferableOutput, transferableOutput}
 use Rattle.element.specs.Inputs.{key, Input, spend, inputAfter, input}
-use Rattle.element.specs.Operations.{OperationType, mintNft, transferNft, OperationOwners, terms, termsFields, recipients, action, Operation, operation, Fx, secpFx, nftFx, fxCode, fxOf, fxOutputs, fxId, stateOutputs, InitialState, initialStateAfter, initialState}
+use Rattle.element.specs.Operations.{OperationType, OperationOwners, terms, termsFields, action, Operation, operation, Fx, secpFx, nftFx, fxCode, fxOf, fxOutputs, fxId, stateOutputs, InitialState, initialStateAfter, initialState}
 use Rattle.element.specs.Answer.{stringWhole, stringAt, ownersWhole, ownersAt, transferWhole, transferBodyAt, outputWhole, outputAt, transferableWhole, transferableAt, spendWhole, spendAt, termsWhole, termsAt, actionWhole, actionAt, operationWhole, operationAt}
 use Rattle.element.specs.declared.StringRead.{StringRead}
 use Rattle.element.specs.declared.StringRead.the-variants as S
@@ -52,74 +60,7 @@ use Rattle.element.specs.declared.OperationFields.{OperationFields}
 use Rattle.element.specs.declared.OperationRead.{OperationRead}
 use Rattle.element.specs.declared.OperationRead.the-variants as Y
 
--- ---- the order as code keeps it: the first of a list has none before it
-
-pub follows-any : (t : Bool) (x y : Bool) → t ≡ true → y ≡ x → y ≡ pick t x true
-follows-any t x y h e = rw h e
-
-pub follows-none : (t : Bool) (x : Bool) → t ≡ false → true ≡ pick t x true
-follows-none t x h = rw h
-
-pub ruleset follows = (follows-any, follows-none)
-
-below-none : (a : List ℕ) → 0 < length a → below [] a ≡ true
-unfolding below
-below-none [] h = absurd (omega arith)
-below-none (x ∷ a) h = refl
-
--- what is below where there is one before, and the first is above none
-first-below : (any : Bool) (p a : List ℕ) (t : Bool) → (any ≡ true → t ≡ below p a) → (any ≡ false → t ≡ true) → 0 < length a → below (pick any p []) a ≡ t
-first-below true p a t f g h = sym (f refl)
-first-below false p a t f g h = below-none a h ∙ sym (g refl)
-
-on-any : (any : Bool) (t x : Bool) → t ≡ pick any x true → (any ≡ true → t ≡ x) × (any ≡ false → t ≡ true)
-on-any true t x e = (λ h. e, λ h. let z : _≡_ {A = ℕ} 0 1 = cc in absurd (omega arith))
-on-any false t x e = (λ h. let z : _≡_ {A = ℕ} 0 1 = cc in absurd (omega arith), λ h. e)
-
--- a part handed over whole, compared with the one before: w is its writing
-module _ {R : Type 0} (k : ℕ) (s : List ℕ) (at n : ℕ) (any : Bool) (prev a w : List ℕ) (x : Part) (t : Bool) (z X Y : R)
-    (h : Stands s at w n) (ha : a ≡ wholeAt k s at) (p : x ≡ ended (blob k) s at) (q : x ≡ P.Next n) (e : t ≡ pick any (below prev a) true) where
-  part-test : ltb 0 k ≡ true → below (pick any prev []) w ≡ t
-  part-test j =
-      let j′ : 0 < k = ltb-true 0 k j in
-      let i : a ≡ w = W.whole-next k s at a x n ha p q ∙ sym (stands-part s at w n h) in
-      let (f, g) = on-any any t (below prev a) e in
-      let len : length a ≡ k = ap length ha ∙ W.whole-length k s at in
-      rw (← i) (first-below any prev a t f g (omega arith))
-
-  pub if-part-follows : t ≡ true → ltb 0 k ≡ true → z ≡ X → z ≡ pick (below (pick any prev []) w) X Y
-  if-part-follows i j e = rw (part-test j, i) e
-
-  pub if-part-not : t ≡ false → ltb 0 k ≡ true → z ≡ Y → z ≡ pick (below (pick any prev []) w) X Y
-  if-part-not i j e = rw (part-test j, i) e
-
--- what is kept of a part handed over whole is its writing
-module _ {A R : Type 0} (E : List ℕ → Format A) (step : List ℕ → A → List ℕ) (s : List ℕ) (n at : ℕ) (stop : Refusal → R) (go : List A → ℕ → R) where
-  pub part-again : (k p q : ℕ) (a w : List ℕ) (x : Part) → Stands s p w q → a ≡ wholeAt k s p → x ≡ ended (blob k) s p → x ≡ P.Next q
-      → items E step a n .run s at stop go ≡ items E step w n .run s at stop go
-  part-again k p q a w x h ha i j = rw (W.whole-next k s p a x q ha i j ∙ sym (stands-part s p w q h))
-
--- ---- a number compared with the one before
-
--- a number that was read has as many bytes
-pub value-small : (k : ℕ) (s : List ℕ) (at : ℕ) (x : Number) (v n : ℕ) → x ≡ valued (number k) s at → x ≡ N.Value v n → Slice s → v < 256 ^ k
-unfolding number
-value-small k s at x v n p q b =
-    number k .sound s at v n (slice-bytes s b) (W.number-value-inv (read (number k) s at) v n (sym (number k .same s at N.Refused N.Value) ∙ found p q)) .0
-
-module _ {R : Type 0} (any : Bool) (prev v : ℕ) (t : Bool) (z X Y : R) (e : t ≡ pick any (ltb prev v) true) (small : prev < 256 ^ 4) where
-  number-test : v < 256 ^ 4 → below (pick any (digits 4 prev) []) (digits 4 v) ≡ t
-  number-test h =
-      let (f, g) = on-any any t (ltb prev v) e in
-      first-below any (digits 4 prev) (digits 4 v) t (λ i. f i ∙ sym (below-digits 4 prev v small h)) g (omega (arith, length-digits 4 v))
-
-  pub if-number-follows : t ≡ true → v < 256 ^ 4 → z ≡ X → z ≡ pick (below (pick any (digits 4 prev) []) (digits 4 v)) X Y
-  if-number-follows h i j = rw (number-test i, h) j
-
-  pub if-number-not : t ≡ false → v < 256 ^ 4 → z ≡ Y → z ≡ pick (below (pick any (digits 4 prev) []) (digits 4 v)) X Y
-  if-number-not h i j = rw (number-test i, h) j
-
--- ---- what an answer says of the reading, for any answer with a case for what is wholly read and one for a refusal
+-- ---- answers: what an answer with a case for what is wholly read and one for a refusal says of the reading
 
 pub took-of : {A T : Type 0} (o : Result A) (stop : Refusal → T) (whole : A → ℕ → T) (y : T) → onResult o stop whole ≡ y → ((e : Refusal) → stop e ≡ y → ⊥)
     → (v : A) × (m : ℕ) × (o ≡ took v m) × (whole v m ≡ y)
@@ -138,74 +79,174 @@ module _ {A T : Type 0} (F : Format A) (s : List ℕ) (at : ℕ) (stop : Refusal
   pub answer-refused : ((v : A) (m : ℕ) → whole v m ≡ y → ⊥) → (e : Refusal) × (read F s at ≡ refused e) × (stop e ≡ y)
   answer-refused = refused-of (read F s at) stop whole y (sym (F .same s at stop whole) ∙ found p q)
 
--- ---- strings: a body that is wholly there
+-- The reading of F goes on, stop and go, from the answer x of a reader of F, whose two cases are `no` and `whole`: the laws `on-..` and
+-- `on-..-refused` below are these two, each for a format by name. That the cases are told apart, and what each shows, is by `cc` there
+module _ {A T R : Type 0} (F : Format A) (no : Refusal → T) (whole : A → ℕ → T) (s : List ℕ) (at : ℕ) (z : R) (stop : Refusal → R) (go : A → ℕ → R)
+    (x : T) (p : x ≡ F .run s at no whole) where
+  -- x is y, which is no refusal, and shows that the reading ended at n
+  pub on-whole : (y : T) (n : ℕ) → x ≡ y → ((e : Refusal) → no e ≡ y → _≡_ {A = ℕ} 0 1) → ((v : A) (m : ℕ) → whole v m ≡ y → m ≡ n)
+      → ((v : A) → whole v n ≡ y → read F s at ≡ took v n → z ≡ go v n) → z ≡ F .run s at stop go
+  on-whole y n q never ends e =
+      let (v, m, t, i) = answer-took F s at no whole x p y q (λ d j. let k : _≡_ {A = ℕ} 0 1 = never d j in omega arith) in
+      let em : m ≡ n = ends v m i in
+      let u : read F s at ≡ took v n = t ∙ ap (took v) em in
+      e v (ap (whole v) (sym em) ∙ i) u ∙ sym (W.run-took F s at stop go v n u)
 
+  -- its refusal is handed up
+  pub on-refused : (e : Refusal) → x ≡ no e → ((v : A) (m : ℕ) → whole v m ≡ no e → _≡_ {A = ℕ} 0 1) → ((d : Refusal) → no d ≡ no e → d ≡ e) → z ≡ stop e
+      → z ≡ F .run s at stop go
+  on-refused e q never same r =
+      let (d, t, i) = answer-refused F s at no whole x p (no e) q (λ v m j. let k : _≡_ {A = ℕ} 0 1 = never v m j in omega arith) in
+      r ∙ ap stop (sym (same d i)) ∙ sym (W.run-refused F s at stop go d t)
+
+-- ---- fields: how wide a number or a part is that was read, and where the reading goes on
+
+module _ (k : ℕ) (s : List ℕ) (at : ℕ) (x : Number) (v n : ℕ) (p : x ≡ valued (number k) s at) (q : x ≡ N.Value v n) (b : Slice s) where
+  value-read : number k .Good v × Stands s at (number k .write v) n
+  value-read = number k .sound s at v n (slice-bytes s b) (W.number-value-inv (read (number k) s at) v n (sym (number k .same s at N.Refused N.Value) ∙ found p q))
+
+  -- it has as many bytes
+  pub value-small : v < 256 ^ k
+  unfolding number
+  value-small = value-read .0
+
+  value-next : n ≡ at + k
+  value-next = value-read .1 .ends ∙ ap (λ j. at + j) (length-number k v)
+
+module _ (k : ℕ) (s : List ℕ) (at : ℕ) (x : Part) (n : ℕ) (p : x ≡ ended (blob k) s at) (q : x ≡ P.Next n) (b : Slice s) where
+  part-read : (length (part at n s) ≡ k) × (n ≡ at + k)
+  unfolding blob
+  part-read =
+      let (v, t) = W.next-took (blob k) s at x n p q in
+      let (g, h) = blob k .sound s at v n (slice-bytes s b) t in
+      (ap length (sym (W.blob-part k s at v n t)) ∙ g .0, h .ends ∙ ap (λ j. at + j) (g .0))
+
+module _ {R : Type 0} (s : List ℕ) (at : ℕ) (z : R) (stop : Refusal → R) (b : Slice s) where
+  pub on-value-next : (k : ℕ) (go : ℕ → ℕ → R) (x : Number) (v n : ℕ) → x ≡ valued (number k) s at → x ≡ N.Value v n → (n ≡ at + k → z ≡ go v n) → z ≡ number k .run s at stop go
+  on-value-next k go x v n p q e = W.on-value k s at z stop go x v n p q (e (value-next k s at x v n p q b))
+
+  pub on-part-next : (k : ℕ) (go : List ℕ → ℕ → R) (x : Part) (n : ℕ) → x ≡ ended (blob k) s at → x ≡ P.Next n → (n ≡ at + k → z ≡ go (part at n s) n) → z ≡ blob k .run s at stop go
+  on-part-next k go x n p q e = W.on-part k s at z stop go x n p q (e (part-read k s at x n p q b .1))
+
+-- ---- order: code keeps the element before, and whether there is any; the format, its bytes, [] before the first
+
+pub follows-any : (t : Bool) (x y : Bool) → t ≡ true → y ≡ x → y ≡ pick t x true
+follows-any t x y h e = rw h e
+
+pub follows-none : (t : Bool) (x : Bool) → t ≡ false → true ≡ pick t x true
+follows-none t x h = rw h
+
+pub ruleset follows = (follows-any, follows-none)
+
+-- the first is above none
+first-below : (any : Bool) (p a : List ℕ) (t : Bool) → t ≡ pick any (below p a) true → 0 < length a → below (pick any p []) a ≡ t
+first-below true p a t e h = sym e
+first-below false p a t e h = empty-below a h ∙ sym e
+
+-- bytes handed over whole are what stands there
+whole-is : (k : ℕ) (s : List ℕ) (at n : ℕ) (a w : List ℕ) (x : Part) → Stands s at w n → a ≡ wholeAt k s at → x ≡ ended (blob k) s at → x ≡ P.Next n → a ≡ w
+whole-is k s at n a w x h ha p q = W.whole-next k s at a x n ha p q ∙ sym (stands-part s at w n h)
+
+pub id-length : (k : ℕ) (s : List ℕ) (at : ℕ) (a : List ℕ) → a ≡ wholeAt k s at → length a ≡ k
+id-length k s at a h = ap length h ∙ W.whole-length k s at
+
+-- parts, as addresses are: w is the writing of the part a
+module _ {R : Type 0} (k : ℕ) (s : List ℕ) (at n : ℕ) (any : Bool) (prev a w : List ℕ) (x : Part) (t : Bool) (z X Y : R)
+    (h : Stands s at w n) (ha : a ≡ wholeAt k s at) (p : x ≡ ended (blob k) s at) (q : x ≡ P.Next n) (e : t ≡ pick any (below prev a) true) where
+  part-test : ltb 0 k ≡ true → below (pick any prev []) w ≡ t
+  part-test j = rw (← (whole-is k s at n a w x h ha p q)) (first-below any prev a t e (omega (arith, ltb-true 0 k j, id-length k s at a ha)))
+
+  pub if-part-follows : t ≡ true → ltb 0 k ≡ true → z ≡ X → z ≡ pick (below (pick any prev []) w) X Y
+  if-part-follows i j e = rw (part-test j, i) e
+
+  pub if-part-not : t ≡ false → ltb 0 k ≡ true → z ≡ Y → z ≡ pick (below (pick any prev []) w) X Y
+  if-part-not i j e = rw (part-test j, i) e
+
+module _ {A R : Type 0} (E : List ℕ → Format A) (step : List ℕ → A → List ℕ) (s : List ℕ) (n at : ℕ) (stop : Refusal → R) (go : List A → ℕ → R) where
+  pub part-again : (k p q : ℕ) (a w : List ℕ) (x : Part) → Stands s p w q → a ≡ wholeAt k s p → x ≡ ended (blob k) s p → x ≡ P.Next q
+      → items E step a n .run s at stop go ≡ items E step w n .run s at stop go
+  part-again k p q a w x h ha i j = rw (whole-is k s p q a w x h ha i j)
+
+-- numbers, as indices are
+module _ {R : Type 0} (any : Bool) (prev v : ℕ) (t : Bool) (z X Y : R) (e : t ≡ pick any (ltb prev v) true) (small : prev < 256 ^ 4) where
+  number-test : v < 256 ^ 4 → below (pick any (digits 4 prev) []) (digits 4 v) ≡ t
+  number-test h = first-below any (digits 4 prev) (digits 4 v) t (rw (below-digits 4 prev v small h) e) (omega (arith, length-digits 4 v))
+
+  pub if-number-follows : t ≡ true → v < 256 ^ 4 → z ≡ X → z ≡ pick (below (pick any (digits 4 prev) []) (digits 4 v)) X Y
+  if-number-follows h i j = rw (number-test i, h) j
+
+  pub if-number-not : t ≡ false → v < 256 ^ 4 → z ≡ Y → z ≡ pick (below (pick any (digits 4 prev) []) (digits 4 v)) X Y
+  if-number-not h i j = rw (number-test i, h) j
+
+-- keys, an identifier and an index: w is the writing of the identifier
+module _ (s : List ℕ) (at n : ℕ) (id w : List ℕ) (x : Part) (h : Stands s at w n) (ha : id ≡ wholeAt 32 s at) (p : x ≡ ended (blob 32) s at) (q : x ≡ P.Next n) where
+  module _ {R : Type 0} (any : Bool) (prev : List ℕ) (last index : ℕ) (t : Bool) (z X Y : R) (e : t ≡ pick any (keyBelow prev last id index) true) (hp : length prev ≡ 32) (hl : last < 256 ^ 4) where
+    key-test : index < 256 ^ 4 → below (pick any (prev ++ number 4 .write last) []) (w ++ number 4 .write index) ≡ t
+    unfolding number
+    key-test hx =
+        let hi : length id ≡ 32 = id-length 32 s at id ha in
+        rw (← (whole-is 32 s at n id w x h ha p q))
+        (first-below any (prev ++ digits 4 last) (id ++ digits 4 index) t (rw (key-below prev id last index (hp ∙ sym hi) hl hx) e)
+        (omega (arith, length-append id (digits 4 index))))
+
+    pub if-key-follows : index < 256 ^ 4 → t ≡ true → z ≡ X → z ≡ pick (below (pick any (prev ++ number 4 .write last) []) (w ++ number 4 .write index)) X Y
+    if-key-follows hx i j = rw (key-test hx, i) j
+
+    pub if-key-not : index < 256 ^ 4 → t ≡ false → z ≡ Y → z ≡ pick (below (pick any (prev ++ number 4 .write last) []) (w ++ number 4 .write index)) X Y
+    if-key-not hx i j = rw (key-test hx, i) j
+
+  pub key-again : {A R : Type 0} (E : List ℕ → Format A) (step : List ℕ → A → List ℕ) (u : List ℕ) (m k : ℕ) (stop : Refusal → R) (go : List A → ℕ → R)
+      → items E step (id ++ u) m .run s k stop go ≡ items E step (w ++ u) m .run s k stop go
+  key-again E step u m k stop go = rw (whole-is 32 s at n id w x h ha p q)
+
+-- ---- lists: what is left of one, by what code keeps of the element before
+
+-- of no order: it does not hang on the element before
+pub unordered-again : {A : Type 0} (F : Format A) (s : List ℕ) (n at : ℕ) (stop : Refusal → Part) (go : List A → ℕ → Part) (p q : List ℕ)
+    → items (λ prev. F) (left (λ prev. F)) p n .run s at stop go ≡ items (λ prev. F) (left (λ prev. F)) q n .run s at stop go
+unfolding items listRun
+unordered-again F s zero at stop go p q = refl
+unordered-again F s (suc n) at stop go p q = refl
+
+-- of elements that look at the first k bytes of the one before: code keeps just these
+module _ {A : Type 0} (G : List ℕ → Format A) (k : ℕ) (viewed : A → List ℕ) (front : (b : List ℕ) (a : A) → G b .Good a → take k (G b .write a) ≡ viewed a) where
+  items-viewed : {R : Type 0} (s : List ℕ) → Bytes s → (n : ℕ) (prev : List ℕ) (at : ℕ) (stop : Refusal → R) (go : List A → ℕ → R)
+      → items G (λ b a. viewed a) (take k prev) n .run s at stop go ≡ items (λ p. G (take k p)) (left (λ p. G (take k p))) prev n .run s at stop go
+  unfolding items listRun
+  items-viewed s bs zero prev at stop go = refl
+  items-viewed s bs (suc n) prev at stop go =
+      run-alike-read (G (take k prev)) s at stop _ _ (λ a m q.
+      ap (λ (b : List ℕ). listRun G (λ b a. viewed a) n b s m stop (λ l j. go (a ∷ l) j)) (sym (front (take k prev) a (G (take k prev) .sound s at a m bs q .0)))
+      ∙ items-viewed s bs n (G (take k prev) .write a) m stop (λ l j. go (a ∷ l) j))
+
+-- ---- strings
+
+-- a body that is wholly there
 pub string-made : (k : ℕ) (s : List ℕ) (at : ℕ) (x : Part) (n : ℕ) → x ≡ ended (blob k) s at → x ≡ P.Next n → Slice s
     → S.Whole at k n ≡ S.Whole (n - length (part at n s)) (length (part at n s)) n
-unfolding blob
 string-made k s at x n p q b =
-    let (v, t) = W.next-took (blob k) s at x n p q in
-    let (g, h) = blob k .sound s at v n (slice-bytes s b) t in
-    let i : length (part at n s) ≡ k = ap length (sym (W.blob-part k s at v n t)) ∙ g .0 in
-    let j : n - k ≡ at = omega (arith, h .ends) in
+    let (i, e) = part-read k s at x n p q b in
+    let j : n - k ≡ at = omega arith in
     rw (i, j)
 
 module _ {R : Type 0} (most : ℕ) (s : List ℕ) (at : ℕ) (z : R) (stop : Refusal → R) (go : List ℕ → ℕ → R) (x : StringRead) (p : x ≡ stringAt most s at) where
   pub on-string : (f c n : ℕ) → x ≡ S.Whole f c n → ((v : List ℕ) → f ≡ n - length v → c ≡ length v → z ≡ go v n) → z ≡ string 4 most .run s at stop go
-  on-string f c n q e =
-      let (v, m, t, w) = answer-took (string 4 most) s at S.Refused stringWhole x p (S.Whole f c n) q (λ e i. let z : _≡_ {A = ℕ} 0 1 = cc in omega arith) in
-      let em : m ≡ n = cc in
-      let ef : f ≡ m - length v = cc in
-      let ec : c ≡ length v = cc in
-      e v (ef ∙ ap (λ k. k - length v) em) ec ∙ sym (W.run-took (string 4 most) s at stop go v n (t ∙ ap (took v) em))
+  on-string f c n q e = on-whole (string 4 most) S.Refused stringWhole s at z stop go x p (S.Whole f c n) n q (λ d i. cc) (λ v m i. cc) (λ v i t. e v (cc) (cc))
 
   pub on-string-refused : (e : Refusal) → x ≡ S.Refused e → z ≡ stop e → z ≡ string 4 most .run s at stop go
-  on-string-refused e q r =
-      let (d, t, w) = answer-refused (string 4 most) s at S.Refused stringWhole x p (S.Refused e) q (λ v m i. let z : _≡_ {A = ℕ} 0 1 = cc in omega arith) in
-      let i : d ≡ e = cc in
-      r ∙ ap stop (sym i) ∙ sym (W.run-refused (string 4 most) s at stop go d t)
+  on-string-refused e q = on-refused (string 4 most) S.Refused stringWhole s at z stop go x p e q (λ v m i. cc) (λ d i. cc)
 
--- ---- owners
+-- the same, with where the body starts
+pub on-string-next : {R : Type 0} (s : List ℕ) (at : ℕ) (z : R) (stop : Refusal → R) (b : Slice s) (most : ℕ) (go : List ℕ → ℕ → R) (x : StringRead) (f c n : ℕ)
+    → x ≡ stringAt most s at → x ≡ S.Whole f c n → ((v : List ℕ) → f ≡ at + 4 → f ≡ n - length v → c ≡ length v → z ≡ go v n) → z ≡ string 4 most .run s at stop go
+unfolding string blob
+on-string-next s at z stop b most go x f c n p q e =
+    on-whole (string 4 most) S.Refused stringWhole s at z stop go x p (S.Whole f c n) n q (λ d i. cc) (λ v m i. cc) (λ v i t.
+    let ef : f ≡ n - length v = cc in
+    let (g, h) = string 4 most .sound s at v n (slice-bytes s b) t in
+    e v (omega (arith, h .ends, length-append (number 4 .write (length v)) v, length-number 4 (length v))) ef (cc))
 
-pub owners-made : (l t c d p q n : ℕ) → p ≡ q → c ≡ d
-    → H.Whole record { locktime = l; threshold = t; «addresses_at» = p; «addresses_count» = c } n ≡ H.Whole record { locktime = l; threshold = t; «addresses_at» = q; «addresses_count» = d } n
-owners-made l t c d p q n e f = rw (e, f)
-
-module _ {R : Type 0} (s : List ℕ) (at : ℕ) (z : R) (stop : Refusal → R) (go : Owners → ℕ → R) (x : OwnersRead) (p : x ≡ ownersAt s at) where
-  pub on-owners : (w : OwnersFields) (n : ℕ) → x ≡ H.Whole w n → ((v : Owners) → w ≡ ownersFields n v → z ≡ go v n) → z ≡ owners .run s at stop go
-  on-owners w n q e =
-      let (v, m, t, i) = answer-took owners s at H.Refused ownersWhole x p (H.Whole w n) q (λ e i. let z : _≡_ {A = ℕ} 0 1 = cc in omega arith) in
-      let em : m ≡ n = cc in
-      let ew : w ≡ ownersFields m v = cc in
-      e v (ew ∙ ap (λ k. ownersFields k v) em) ∙ sym (W.run-took owners s at stop go v n (t ∙ ap (took v) em))
-
-  pub on-owners-refused : (e : Refusal) → x ≡ H.Refused e → z ≡ stop e → z ≡ owners .run s at stop go
-  on-owners-refused e q r =
-      let (d, t, w) = answer-refused owners s at H.Refused ownersWhole x p (H.Refused e) q (λ v m i. let z : _≡_ {A = ℕ} 0 1 = cc in omega arith) in
-      let i : d ≡ e = cc in
-      r ∙ ap stop (sym i) ∙ sym (W.run-refused owners s at stop go d t)
-
--- ---- a list of keys: how many, and where they begin
-
-pub key-wide : (v : List ℕ × ℕ) → key .Good v → length (key .write v) ≡ 36
-unfolding key number blob
-key-wide v h = omega (arith, h .0 .0, length-append (v .0) (digits 4 (v .1)), length-digits 4 (v .1))
-
-module _ {R : Type 0} (c : ℕ) (s : List ℕ) (at : ℕ) (z : R) (stop : Refusal → R) (x : Part) where
-  pub on-keys : (go : List (List ℕ × ℕ) → ℕ → R) (n : ℕ) → x ≡ ended (increasing key c) s at → x ≡ P.Next n → Slice s
-      → ((l : List (List ℕ × ℕ)) → c ≡ length l → n ≡ at + 36 * length l → z ≡ go l n) → z ≡ increasing key c .run s at stop go
-  on-keys go n p q b e =
-      let (l, h, i, t) = W.wide-list key 36 key-wide c s at n b x p q in
-      e l h i ∙ sym (W.run-took (increasing key c) s at stop go l n t)
-
--- ---- an input behind its key
-
-pub input-made : (i a c d p q n : ℕ) → p ≡ q → c ≡ d
-    → I.Whole record { index = i; amount = a; «indices_at» = p; «indices_count» = c } n ≡ I.Whole record { index = i; amount = a; «indices_at» = q; «indices_count» = d } n
-input-made i a c d p q n e f = rw (e, f)
-
--- ---- characters: what is left of the search for one that is not printable, from index i on
-
+-- characters: what is left of the search for one that is not printable, from index i on
 unfoldable pub unprintableFrom : List ℕ → ℕ → ℕ
 unprintableFrom s i = i + unprintable (drop i s)
 
@@ -237,21 +278,36 @@ pub ruleset characters = (unprintable-low, unprintable-high, unprintable-on, unp
 -- the characters of a body that is wholly there, where the code has looked at them: u is the index of the first that is not printable
 module _ (k : ℕ) (s : List ℕ) (at : ℕ) (z X : Part) (x : Part) (n : ℕ) (b : List ℕ) (u : ℕ)
     (p : x ≡ ended (blob k) s at) (q : x ≡ P.Next n) (c : Slice s) (e : b ≡ part at n s) (d : u ≡ unprintable b) where
-  body-length : length (part at n s) ≡ k
-  unfolding blob
-  body-length =
-      let (v, t) = W.next-took (blob k) s at x n p q in
-      ap length (sym (W.blob-part k s at v n t)) ∙ blob k .sound s at v n (slice-bytes s c) t .0 .0
-
   pub if-printable : u ≡ k → z ≡ X → z ≡ pick (eqb (unprintable (part at n s)) (length (part at n s))) X (P.Refused (by notPrintable (at + unprintable (part at n s))))
-  if-printable h i = rw (← e, ← d, h, e, body-length, eq-eqb k k refl) i
+  if-printable h i = rw (← e, ← d, h, e, part-read k s at x n p q c .0, eq-eqb k k refl) i
 
   pub if-unprintable : (u ≡ k → ⊥) → z ≡ P.Refused (by notPrintable (at + u)) → z ≡ pick (eqb (unprintable (part at n s)) (length (part at n s))) X (P.Refused (by notPrintable (at + unprintable (part at n s))))
-  if-unprintable h i = rw (body-length, ← e, ← d, ne-eqb u k h) i
+  if-unprintable h i = rw (part-read k s at x n p q c .0, ← e, ← d, ne-eqb u k h) i
 
-pub unprintable-room : (s b : List ℕ) (a e u : ℕ) → b ≡ part a e s → u ≡ unprintable b → u ≤ length s - a
-unprintable-room s b a e u h k =
-    omega (arith, k, unprintable-le b, ap length h, length-take (e - a) (drop a s), length-drop a s)
+-- and its place is a number of 64 bits
+pub unprintable-fits : (s b : List ℕ) (a e u : ℕ) → b ≡ part a e s → u ≡ unprintable b → length s < 2 ^ 64 → a < 2 ^ 64 → a + u < 2 ^ 64
+unprintable-fits s b a e u h k i j = omega (arith, k, unprintable-le b, ap length h, length-take (e - a) (drop a s), length-drop a s)
+
+-- ---- owners
+
+pub owners-made : (l t c d p q n : ℕ) → p ≡ q → c ≡ d
+    → H.Whole record { locktime = l; threshold = t; «addresses_at» = p; «addresses_count» = c } n ≡ H.Whole record { locktime = l; threshold = t; «addresses_at» = q; «addresses_count» = d } n
+owners-made l t c d p q n e f = rw (e, f)
+
+module _ {R : Type 0} (s : List ℕ) (at : ℕ) (z : R) (stop : Refusal → R) (go : Owners → ℕ → R) (x : OwnersRead) (p : x ≡ ownersAt s at) where
+  pub on-owners : (w : OwnersFields) (n : ℕ) → x ≡ H.Whole w n → ((v : Owners) → w ≡ ownersFields n v → z ≡ go v n) → z ≡ owners .run s at stop go
+  on-owners w n q e = on-whole owners H.Refused ownersWhole s at z stop go x p (H.Whole w n) n q (λ d i. cc) (λ v m i. cc) (λ v i t. e v (cc))
+
+  pub on-owners-refused : (e : Refusal) → x ≡ H.Refused e → z ≡ stop e → z ≡ owners .run s at stop go
+  on-owners-refused e q = on-refused owners H.Refused ownersWhole s at z stop go x p e q (λ v m i. cc) (λ d i. cc)
+
+-- so many owners, of no order
+pub on-owners-list : {R : Type 0} (c : ℕ) (s : List ℕ) (at : ℕ) (z : R) (stop : Refusal → R) (go : List Owners → ℕ → R) (x : Part) (n : ℕ)
+    → x ≡ ended (unordered owners c) s at → x ≡ P.Next n → Slice s → ((l : List Owners) → c ≡ length l → z ≡ go l n) → z ≡ unordered owners c .run s at stop go
+on-owners-list c s at z stop go x n p q b e =
+    let (l, t) = W.next-took (unordered owners c) s at x n p q in
+    e l (sym (items-sized (λ prev. owners) (left (λ prev. owners)) [] c l (unordered owners c .sound s at l n (slice-bytes s b) t .0)))
+    ∙ sym (W.run-took (unordered owners c) s at stop go l n t)
 
 -- ---- outputs
 
@@ -265,23 +321,20 @@ transfer-made a w u n e = rw e
 pub nft-mint-made : (g : ℕ) (w u : OwnersFields) (n : ℕ) → w ≡ u → O.Whole (F.NftMint g w) n ≡ O.Whole (F.NftMint g u) n
 nft-mint-made g w u n e = rw e
 
+pub nft-transfer-made : (at g p f c d k : ℕ) (w u : OwnersFields) (n : ℕ) → g ≡ at + 4 → p ≡ g + 4 → f ≡ p + 4 → c ≡ d → w ≡ u
+    → O.Whole (F.NftTransfer k f c w) n ≡ O.Whole (F.NftTransfer k (at + 12) d u) n
+nft-transfer-made at g p f c d k w u n hg hp hf e i = let j : f ≡ at + 12 = omega arith in rw (j, e, i)
+
 pub output-made : (f g : OutputFields) (n : ℕ) → f ≡ g → O.Whole f n ≡ O.Whole g n
 output-made f g n e = rw e
 
 module _ {R : Type 0} (s : List ℕ) (at : ℕ) (z : R) (stop : Refusal → R) (go : ℕ × Owners → ℕ → R) (x : OutputRead) (p : x ≡ transferBodyAt s at) where
   pub on-transfer : (f : OutputFields) (n : ℕ) → x ≡ O.Whole f n → ((v : ℕ × Owners) → f ≡ F.SecpTransfer (v .0) (ownersFields n (v .1)) → z ≡ go v n)
       → z ≡ transferBody .run s at stop go
-  on-transfer f n q e =
-      let (v, m, t, i) = answer-took transferBody s at O.Refused transferWhole x p (O.Whole f n) q (λ e i. let z : _≡_ {A = ℕ} 0 1 = cc in omega arith) in
-      let em : m ≡ n = cc in
-      let ef : f ≡ F.SecpTransfer (v .0) (ownersFields m (v .1)) = cc in
-      e v (ef ∙ ap (λ k. F.SecpTransfer (v .0) (ownersFields k (v .1))) em) ∙ sym (W.run-took transferBody s at stop go v n (t ∙ ap (took v) em))
+  on-transfer f n q e = on-whole transferBody O.Refused transferWhole s at z stop go x p (O.Whole f n) n q (λ d i. cc) (λ v m i. cc) (λ v i t. e v (cc))
 
   pub on-transfer-refused : (e : Refusal) → x ≡ O.Refused e → z ≡ stop e → z ≡ transferBody .run s at stop go
-  on-transfer-refused e q r =
-      let (d, t, w) = answer-refused transferBody s at O.Refused transferWhole x p (O.Refused e) q (λ v m i. let z : _≡_ {A = ℕ} 0 1 = cc in omega arith) in
-      let i : d ≡ e = cc in
-      r ∙ ap stop (sym i) ∙ sym (W.run-refused transferBody s at stop go d t)
+  on-transfer-refused e q = on-refused transferBody O.Refused transferWhole s at z stop go x p e q (λ v m i. cc) (λ d i. cc)
 
 -- an output of a list: where its writing stands
 module _ {R : Type 0} (s : List ℕ) (at : ℕ) (z : R) (stop : Refusal → R) (x : OutputRead) where
@@ -289,91 +342,38 @@ module _ {R : Type 0} (s : List ℕ) (at : ℕ) (z : R) (stop : Refusal → R) (
     pub on-transferable : (f : OutputFields) (n : ℕ) → x ≡ O.Whole f n → Slice s → ((v : TransferableOutput) → Stands s at (transferableOutput .write v) n → z ≡ go v n)
         → z ≡ transferableOutput .run s at stop go
     on-transferable f n q b e =
-        let (v, m, t, i) = answer-took transferableOutput s at O.Refused (transferableWhole at) x p (O.Whole f n) q (λ e i. let z : _≡_ {A = ℕ} 0 1 = cc in omega arith) in
-        let em : m ≡ n = cc in
-        let u = t ∙ ap (took v) em in
-        e v (transferableOutput .sound s at v n (slice-bytes s b) u .1) ∙ sym (W.run-took transferableOutput s at stop go v n u)
+        on-whole transferableOutput O.Refused (transferableWhole at) s at z stop go x p (O.Whole f n) n q (λ d i. cc) (λ v m i. cc)
+        (λ v i t. e v (transferableOutput .sound s at v n (slice-bytes s b) t .1))
 
     pub on-transferable-refused : (e : Refusal) → x ≡ O.Refused e → z ≡ stop e → z ≡ transferableOutput .run s at stop go
-    on-transferable-refused e q r =
-        let (d, t, w) = answer-refused transferableOutput s at O.Refused (transferableWhole at) x p (O.Refused e) q (λ v m i. let z : _≡_ {A = ℕ} 0 1 = cc in omega arith) in
-        let i : d ≡ e = cc in
-        r ∙ ap stop (sym i) ∙ sym (W.run-refused transferableOutput s at stop go d t)
+    on-transferable-refused e q = on-refused transferableOutput O.Refused (transferableWhole at) s at z stop go x p e q (λ v m i. cc) (λ d i. cc)
 
   module _ (types : List OutputType) (go : Output → ℕ → R) (p : x ≡ outputAt types s at) where
     pub on-output : (f : OutputFields) (n : ℕ) → x ≡ O.Whole f n → Slice s → ((v : Output) → Stands s at (output types .write v) n → z ≡ go v n) → z ≡ output types .run s at stop go
     on-output f n q b e =
-        let (v, m, t, i) = answer-took (output types) s at O.Refused (outputWhole at) x p (O.Whole f n) q (λ e i. let z : _≡_ {A = ℕ} 0 1 = cc in omega arith) in
-        let em : m ≡ n = cc in
-        let u = t ∙ ap (took v) em in
-        e v (output types .sound s at v n (slice-bytes s b) u .1) ∙ sym (W.run-took (output types) s at stop go v n u)
+        on-whole (output types) O.Refused (outputWhole at) s at z stop go x p (O.Whole f n) n q (λ d i. cc) (λ v m i. cc)
+        (λ v i t. e v (output types .sound s at v n (slice-bytes s b) t .1))
 
     pub on-output-refused : (e : Refusal) → x ≡ O.Refused e → z ≡ stop e → z ≡ output types .run s at stop go
-    on-output-refused e q r =
-        let (d, t, w) = answer-refused (output types) s at O.Refused (outputWhole at) x p (O.Refused e) q (λ v m i. let z : _≡_ {A = ℕ} 0 1 = cc in omega arith) in
-        let i : d ≡ e = cc in
-        r ∙ ap stop (sym i) ∙ sym (W.run-refused (output types) s at stop go d t)
+    on-output-refused e q = on-refused (output types) O.Refused (outputWhole at) s at z stop go x p e q (λ v m i. cc) (λ d i. cc)
 
--- ---- lists of no order: what is left does not hang on the element before
+-- ---- inputs
 
-unordered-again : {A R : Type 0} (F : Format A) (s : List ℕ) (n at : ℕ) (stop : Refusal → R) (go : List A → ℕ → R) (p q : List ℕ)
-    → items (λ prev. F) (left (λ prev. F)) p n .run s at stop go ≡ items (λ prev. F) (left (λ prev. F)) q n .run s at stop go
-unfolding items listRun
-unordered-again F s zero at stop go p q = refl
-unordered-again F s (suc n) at stop go p q = refl
+-- an input behind its key
+pub input-made : (i a c d p q n : ℕ) → p ≡ q → c ≡ d
+    → I.Whole record { index = i; amount = a; «indices_at» = p; «indices_count» = c } n ≡ I.Whole record { index = i; amount = a; «indices_at» = q; «indices_count» = d } n
+input-made i a c d p q n e f = rw (e, f)
 
-module _ {R : Type 0} (s : List ℕ) (n at : ℕ) (stop : Refusal → R) (p q : List ℕ) where
-  pub owners-again : (go : List Owners → ℕ → R)
-      → items (λ prev. owners) (left (λ prev. owners)) p n .run s at stop go ≡ items (λ prev. owners) (left (λ prev. owners)) q n .run s at stop go
-  owners-again go = unordered-again owners s n at stop go p q
+module _ {R : Type 0} (index : ℕ) (s : List ℕ) (at : ℕ) (z : R) (stop : Refusal → R) (go : List ℕ × (Unit {0} × (ℕ × List ℕ)) → ℕ → R) (x : InputRead) (p : x ≡ spendAt index s at) where
+  pub on-spend : (f : InputFields) (n : ℕ) → x ≡ I.Whole f n → ((v : List ℕ × (Unit {0} × (ℕ × List ℕ))) → z ≡ go v n) → z ≡ spend .run s at stop go
+  on-spend f n q e = on-whole spend I.Refused (spendWhole index) s at z stop go x p (I.Whole f n) n q (λ d i. cc) (λ v m i. cc) (λ v i t. e v)
 
-  pub operations-again : (go : List Operation → ℕ → R)
-      → items (λ prev. operation) (left (λ prev. operation)) p n .run s at stop go ≡ items (λ prev. operation) (left (λ prev. operation)) q n .run s at stop go
-  operations-again go = unordered-again operation s n at stop go p q
+  pub on-spend-refused : (e : Refusal) → x ≡ I.Refused e → z ≡ stop e → z ≡ spend .run s at stop go
+  on-spend-refused e q = on-refused spend I.Refused (spendWhole index) s at z stop go x p e q (λ v m i. cc) (λ d i. cc)
 
--- ---- keys, an identifier and an index, compared with the one before
-
-key-test : (any : Bool) (prev id : List ℕ) (last index : ℕ) (t : Bool) → t ≡ pick any (keyBelow prev last id index) true → length prev ≡ 32 → length id ≡ 32
-    → last < 256 ^ 4 → index < 256 ^ 4 → below (pick any (prev ++ number 4 .write last) []) (id ++ number 4 .write index) ≡ t
-unfolding number
-key-test any prev id last index t e hp hi hl hx =
-    let (f, g) = on-any any t (keyBelow prev last id index) e in
-    first-below any (prev ++ digits 4 last) (id ++ digits 4 index) t (λ i. f i ∙ sym (key-below prev id last index (hp ∙ sym hi) hl hx)) g
-    (omega (arith, length-append id (digits 4 index)))
-
--- an identifier handed over whole is what stands there
-module _ (s : List ℕ) (at n : ℕ) (id w : List ℕ) (x : Part) (h : Stands s at w n) (ha : id ≡ wholeAt 32 s at) (p : x ≡ ended (blob 32) s at) (q : x ≡ P.Next n) where
-  id-is : id ≡ w
-  id-is = W.whole-next 32 s at id x n ha p q ∙ sym (stands-part s at w n h)
-
-  module _ {R : Type 0} (any : Bool) (prev : List ℕ) (last index : ℕ) (t : Bool) (z X Y : R) (e : t ≡ pick any (keyBelow prev last id index) true) (hp : length prev ≡ 32) (hl : last < 256 ^ 4) where
-    id-test : index < 256 ^ 4 → below (pick any (prev ++ number 4 .write last) []) (w ++ number 4 .write index) ≡ t
-    id-test hx = rw (← id-is) (key-test any prev id last index t e hp (ap length ha ∙ W.whole-length 32 s at) hl hx)
-
-    pub if-key-follows : index < 256 ^ 4 → t ≡ true → z ≡ X → z ≡ pick (below (pick any (prev ++ number 4 .write last) []) (w ++ number 4 .write index)) X Y
-    if-key-follows hx i j = rw (id-test hx, i) j
-
-    pub if-key-not : index < 256 ^ 4 → t ≡ false → z ≡ Y → z ≡ pick (below (pick any (prev ++ number 4 .write last) []) (w ++ number 4 .write index)) X Y
-    if-key-not hx i j = rw (id-test hx, i) j
-
-  pub key-again : {A R : Type 0} (E : List ℕ → Format A) (step : List ℕ → A → List ℕ) (u : List ℕ) (m k : ℕ) (stop : Refusal → R) (go : List A → ℕ → R)
-      → items E step (id ++ u) m .run s k stop go ≡ items E step (w ++ u) m .run s k stop go
-  key-again E step u m k stop go = rw id-is
-
-pub id-length : (k : ℕ) (s : List ℕ) (at : ℕ) (a : List ℕ) → a ≡ wholeAt k s at → length a ≡ k
-id-length k s at a h = ap length h ∙ W.whole-length k s at
-
--- ---- lists whose elements look at the first k bytes of the one before: code keeps just these
-
-module _ {A : Type 0} (G : List ℕ → Format A) (k : ℕ) (viewed : A → List ℕ) (front : (b : List ℕ) (a : A) → G b .Good a → take k (G b .write a) ≡ viewed a) where
-  pub items-viewed : {R : Type 0} (s : List ℕ) → Bytes s → (n : ℕ) (prev : List ℕ) (at : ℕ) (stop : Refusal → R) (go : List A → ℕ → R)
-      → items G (λ b a. viewed a) (take k prev) n .run s at stop go ≡ items (λ p. G (take k p)) (left (λ p. G (take k p))) prev n .run s at stop go
-  unfolding items listRun
-  items-viewed s bs zero prev at stop go = refl
-  items-viewed s bs (suc n) prev at stop go =
-      run-alike-read (G (take k prev)) s at stop _ _ (λ a m q.
-      ap (λ (b : List ℕ). listRun G (λ b a. viewed a) n b s m stop (λ l j. go (a ∷ l) j)) (sym (front (take k prev) a (G (take k prev) .sound s at a m bs q .0)))
-      ∙ items-viewed s bs n (G (take k prev) .write a) m stop (λ l j. go (a ∷ l) j))
+pub key-wide : (v : List ℕ × ℕ) → key .Good v → length (key .write v) ≡ 36
+unfolding key number blob
+key-wide v h = omega (arith, h .0 .0, length-append (v .0) (digits 4 (v .1)), length-digits 4 (v .1))
 
 abbrev pub inputKey : Input → List ℕ
 inputKey i = key .write (i .txid, i .index)
@@ -389,64 +389,20 @@ inputsAfter before n = items inputAfter (λ b i. inputKey i) before n
 pub inputs-are : (s : List ℕ) → Slice s → (n at : ℕ) → ended (inputsAfter [] n) s at ≡ ended (series input n) s at
 inputs-are s b n at = items-viewed inputAfter 36 inputKey input-front s (slice-bytes s b) n [] at P.Refused (λ l k. P.Next k)
 
-module _ {R : Type 0} (index : ℕ) (s : List ℕ) (at : ℕ) (z : R) (stop : Refusal → R) (go : List ℕ × (Unit {0} × (ℕ × List ℕ)) → ℕ → R) (x : InputRead) (p : x ≡ spendAt index s at) where
-  pub on-spend : (f : InputFields) (n : ℕ) → x ≡ I.Whole f n → ((v : List ℕ × (Unit {0} × (ℕ × List ℕ))) → z ≡ go v n) → z ≡ spend .run s at stop go
-  on-spend f n q e =
-      let (v, m, t, i) = answer-took spend s at I.Refused (spendWhole index) x p (I.Whole f n) q (λ e i. let z : _≡_ {A = ℕ} 0 1 = cc in omega arith) in
-      let em : m ≡ n = cc in
-      e v ∙ sym (W.run-took spend s at stop go v n (t ∙ ap (took v) em))
+-- ---- operations
 
-  pub on-spend-refused : (e : Refusal) → x ≡ I.Refused e → z ≡ stop e → z ≡ spend .run s at stop go
-  on-spend-refused e q r =
-      let (d, t, w) = answer-refused spend s at I.Refused (spendWhole index) x p (I.Refused e) q (λ v m i. let z : _≡_ {A = ℕ} 0 1 = cc in omega arith) in
-      let i : d ≡ e = cc in
-      r ∙ ap stop (sym i) ∙ sym (W.run-refused spend s at stop go d t)
-
--- ---- places: how far a field that was read goes
-
-pub value-next : (k : ℕ) (s : List ℕ) (at : ℕ) (x : Number) (v n : ℕ) → x ≡ valued (number k) s at → x ≡ N.Value v n → Slice s → n ≡ at + k
-value-next k s at x v n p q b =
-    let t = W.number-value-inv (read (number k) s at) v n (sym (number k .same s at N.Refused N.Value) ∙ found p q) in
-    number k .sound s at v n (slice-bytes s b) t .1 .ends ∙ ap (λ j. at + j) (length-number k v)
-
-pub part-next : (k : ℕ) (s : List ℕ) (at : ℕ) (x : Part) (n : ℕ) → x ≡ ended (blob k) s at → x ≡ P.Next n → Slice s → n ≡ at + k
-unfolding blob
-part-next k s at x n p q b =
-    let (v, t) = W.next-took (blob k) s at x n p q in
-    let (g, h) = blob k .sound s at v n (slice-bytes s b) t in
-    h .ends ∙ ap (λ j. at + j) (g .0)
-
-pub string-next : (most : ℕ) (s : List ℕ) (at : ℕ) (x : StringRead) (f c n : ℕ) → x ≡ stringAt most s at → x ≡ S.Whole f c n → Slice s → f ≡ at + 4
-unfolding string blob
-string-next most s at x f c n p q b =
-    let (v, m, t, w) = answer-took (string 4 most) s at S.Refused stringWhole x p (S.Whole f c n) q (λ e i. let z : _≡_ {A = ℕ} 0 1 = cc in omega arith) in
-    let em : m ≡ n = cc in
-    let ef : f ≡ m - length v = cc in
-    let (g, h) = string 4 most .sound s at v m (slice-bytes s b) t in
-    omega (arith, h .ends, length-append (number 4 .write (length v)) v, length-number 4 (length v))
-
--- the reading goes on with that
-module _ {R : Type 0} (s : List ℕ) (at : ℕ) (z : R) (stop : Refusal → R) (b : Slice s) where
-  pub on-value-next : (k : ℕ) (go : ℕ → ℕ → R) (x : Number) (v n : ℕ) → x ≡ valued (number k) s at → x ≡ N.Value v n → (n ≡ at + k → z ≡ go v n) → z ≡ number k .run s at stop go
-  on-value-next k go x v n p q e = W.on-value k s at z stop go x v n p q (e (value-next k s at x v n p q b))
-
-  pub on-part-next : (k : ℕ) (go : List ℕ → ℕ → R) (x : Part) (n : ℕ) → x ≡ ended (blob k) s at → x ≡ P.Next n → (n ≡ at + k → z ≡ go (part at n s) n) → z ≡ blob k .run s at stop go
-  on-part-next k go x n p q e = W.on-part k s at z stop go x n p q (e (part-next k s at x n p q b))
-
-  pub on-string-next : (most : ℕ) (go : List ℕ → ℕ → R) (x : StringRead) (f c n : ℕ) → x ≡ stringAt most s at → x ≡ S.Whole f c n
-      → ((v : List ℕ) → f ≡ at + 4 → f ≡ n - length v → c ≡ length v → z ≡ go v n) → z ≡ string 4 most .run s at stop go
-  on-string-next most go x f c n p q e = on-string most s at z stop go x p f c n q (λ v h i. e v (string-next most s at x f c n p q b) h i)
-
-pub nft-transfer-made : (at g p f c d k : ℕ) (w u : OwnersFields) (n : ℕ) → g ≡ at + 4 → p ≡ g + 4 → f ≡ p + 4 → c ≡ d → w ≡ u
-    → O.Whole (F.NftTransfer k f c w) n ≡ O.Whole (F.NftTransfer k (at + 12) d u) n
-nft-transfer-made at g p f c d k w u n hg hp hf e i = let j : f ≡ at + 12 = omega arith in rw (j, e, i)
+-- the (id, index) pairs: how many, and where they begin
+module _ {R : Type 0} (c : ℕ) (s : List ℕ) (at : ℕ) (z : R) (stop : Refusal → R) (x : Part) where
+  pub on-keys : (go : List (List ℕ × ℕ) → ℕ → R) (n : ℕ) → x ≡ ended (increasing key c) s at → x ≡ P.Next n → Slice s
+      → ((l : List (List ℕ × ℕ)) → c ≡ length l → n ≡ at + 36 * length l → z ≡ go l n) → z ≡ increasing key c .run s at stop go
+  on-keys go n p q b e =
+      let (l, h, i, t) = W.wide-list key 36 key-wide c s at n b x p q in
+      e l h i ∙ sym (W.run-took (increasing key c) s at stop go l n t)
 
 pub terms-made : (at i c d g p q l m n : ℕ) → i ≡ at + 4 → c ≡ d → p ≡ q → l ≡ m
     → T.Whole record { «indices_at» = i; «indices_count» = c; group = g; «payload_at» = p; «payload_length» = l } n
     ≡ T.Whole record { «indices_at» = at + 4; «indices_count» = d; group = g; «payload_at» = q; «payload_length» = m } n
 terms-made at i c d g p q l m n e f h k = rw (e, f, h, k)
-
--- ---- operations
 
 abbrev Terms : Type 0
 Terms = List ℕ × (ℕ × List ℕ)
@@ -455,26 +411,13 @@ module _ {R : Type 0} (s : List ℕ) (at : ℕ) (z : R) (stop : Refusal → R) (
   pub on-terms : (w : TermsFields) (n : ℕ) → x ≡ T.Whole w n → Slice s → ((v : Terms) → w ≡ termsFields at n v → n ≡ at + length (terms .write v) → z ≡ go v n)
       → z ≡ terms .run s at stop go
   on-terms w n q b e =
-      let (v, m, t, i) = answer-took terms s at T.Refused (termsWhole at) x p (T.Whole w n) q (λ e i. let z : _≡_ {A = ℕ} 0 1 = cc in omega arith) in
-      let em : m ≡ n = cc in
-      let ew : w ≡ termsFields at m v = cc in
-      let u = t ∙ ap (took v) em in
-      e v (ew ∙ ap (λ k. termsFields at k v) em) (terms .sound s at v n (slice-bytes s b) u .1 .ends) ∙ sym (W.run-took terms s at stop go v n u)
+      on-whole terms T.Refused (termsWhole at) s at z stop go x p (T.Whole w n) n q (λ d i. cc) (λ v m i. cc)
+      (λ v i t. e v (cc) (terms .sound s at v n (slice-bytes s b) t .1 .ends))
 
   pub on-terms-refused : (e : Refusal) → x ≡ T.Refused e → z ≡ stop e → z ≡ terms .run s at stop go
-  on-terms-refused e q r =
-      let (d, t, w) = answer-refused terms s at T.Refused (termsWhole at) x p (T.Refused e) q (λ v m i. let z : _≡_ {A = ℕ} 0 1 = cc in omega arith) in
-      let i : d ≡ e = cc in
-      r ∙ ap stop (sym i) ∙ sym (W.run-refused terms s at stop go d t)
+  on-terms-refused e q = on-refused terms T.Refused (termsWhole at) s at z stop go x p e q (λ v m i. cc) (λ d i. cc)
 
--- so many owners, of no order
-pub on-owners-list : {R : Type 0} (c : ℕ) (s : List ℕ) (at : ℕ) (z : R) (stop : Refusal → R) (go : List Owners → ℕ → R) (x : Part) (n : ℕ)
-    → x ≡ ended (unordered owners c) s at → x ≡ P.Next n → Slice s → ((l : List Owners) → c ≡ length l → z ≡ go l n) → z ≡ unordered owners c .run s at stop go
-on-owners-list c s at z stop go x n p q b e =
-    let (l, t) = W.next-took (unordered owners c) s at x n p q in
-    e l (sym (items-sized (λ prev. owners) (left (λ prev. owners)) [] c l (unordered owners c .sound s at l n (slice-bytes s b) t .0)))
-    ∙ sym (W.run-took (unordered owners c) s at stop go l n t)
-
+-- what follows the pairs: type, terms, and what the type has
 module _ (place count at i o : ℕ) (v : Terms) (w : TermsFields) (n : ℕ) (hi : i ≡ at + 4) (hw : w ≡ termsFields i o v) (ho : o ≡ i + length (terms .write v)) where
   same-end : o ≡ at + 4 + length (terms .write v)
   same-end = ho ∙ ap (λ j. j + length (terms .write v)) hi
@@ -492,36 +435,27 @@ module _ (place count at i o : ℕ) (v : Terms) (w : TermsFields) (n : ℕ) (hi 
       ≡ Y.Whole record { «outputs_at» = place; «outputs_count» = count; terms = termsFields (at + 4) (at + 4 + length (terms .write v)) v; recipients = Q.Transfer y } n
   transfer-action-made u y e = rw (same-terms, e)
 
--- what follows an operation's pairs, seen from the operation's start (its asset id is none of its fields)
-action-whole : (place count at t q : ℕ) (l : List (List ℕ × ℕ)) → q ≡ at + 32 → place ≡ q + 4 → count ≡ length l → t ≡ place + 36 * length l
-    → (v : (k : OperationType) × (Terms × OperationOwners k)) (n : ℕ)
-    → actionWhole place count t v n ≡ operationWhole at record { asset = []; outputs = l; terms = v .1 .0; owners = (v .0, v .1 .1) } n
-action-whole place count at t q l hq hp hc ht v n =
+-- the same, seen from the operation's start (its asset id is none of its fields)
+abbrev Action : Type 0
+Action = (k : OperationType) × (Terms × OperationOwners k)
+
+pub action-made : (place count at t q : ℕ) (asset : List ℕ) (l : List (List ℕ × ℕ)) (v : Action) (n : ℕ) → q ≡ at + 32 → place ≡ q + 4 → count ≡ length l → t ≡ place + 36 * length l
+    → actionWhole place count t v n ≡ operationWhole at record { asset = asset; outputs = l; terms = v .1 .0; owners = (v .0, v .1 .1) } n
+action-made place count at t q asset l v n hq hp hc ht =
     let ep : place ≡ at + 36 = omega arith in
     let et : t + 4 ≡ at + 36 + 36 * length l + 4 = omega arith in
     rw (et, ep, hc)
 
-module _ (s : List ℕ) (place count at t q : ℕ) (l : List (List ℕ × ℕ)) (x : OperationRead) where
-  pub on-action : x ≡ actionAt place count s t → q ≡ at + 32 → place ≡ q + 4 → count ≡ length l → t ≡ place + 36 * length l
-      → x ≡ action .run s t Y.Refused (λ v n. operationWhole at record { asset = []; outputs = l; terms = v .1 .0; owners = (v .0, v .1 .1) } n)
-  on-action p hq hp hc ht = p ∙ run-alike action s t Y.Refused _ _ (action-whole place count at t q l hq hp hc ht)
+pub on-action : (s : List ℕ) (place count t : ℕ) (x : OperationRead) (go : Action → ℕ → OperationRead) → x ≡ actionAt place count s t
+    → ((v : Action) (n : ℕ) → actionWhole place count t v n ≡ go v n) → x ≡ action .run s t Y.Refused go
+on-action s place count t x go p e = p ∙ run-alike action s t Y.Refused _ _ e
 
 module _ {R : Type 0} (s : List ℕ) (at : ℕ) (z : R) (stop : Refusal → R) (go : Operation → ℕ → R) (x : OperationRead) (p : x ≡ operationAt s at) where
   pub on-operation : (f : OperationFields) (n : ℕ) → x ≡ Y.Whole f n → ((v : Operation) → z ≡ go v n) → z ≡ operation .run s at stop go
-  on-operation f n q e =
-      let (v, m, t, i) = answer-took operation s at Y.Refused (operationWhole at) x p (Y.Whole f n) q (λ e i. let z : _≡_ {A = ℕ} 0 1 = cc in omega arith) in
-      let em : m ≡ n = cc in
-      e v ∙ sym (W.run-took operation s at stop go v n (t ∙ ap (took v) em))
+  on-operation f n q e = on-whole operation Y.Refused (operationWhole at) s at z stop go x p (Y.Whole f n) n q (λ d i. cc) (λ v m i. cc) (λ v i t. e v)
 
   pub on-operation-refused : (e : Refusal) → x ≡ Y.Refused e → z ≡ stop e → z ≡ operation .run s at stop go
-  on-operation-refused e q r =
-      let (d, t, w) = answer-refused operation s at Y.Refused (operationWhole at) x p (Y.Refused e) q (λ v m i. let z : _≡_ {A = ℕ} 0 1 = cc in omega arith) in
-      let i : d ≡ e = cc in
-      r ∙ ap stop (sym i) ∙ sym (W.run-refused operation s at stop go d t)
-
-pub ruleset acting = (on-value-next, W.on-short, W.if-eq, W.if-ne, on-terms, on-terms-refused, W.on-list-refused, on-owners-refused)
-
-pub ruleset acted = (on-value-next, W.if-eq, W.if-ne, on-terms, on-owners-list, on-owners, mint-action-made, transfer-action-made)
+  on-operation-refused e q = on-refused operation Y.Refused (operationWhole at) s at z stop go x p e q (λ v m i. cc) (λ d i. cc)
 
 -- ---- initial states
 
@@ -604,3 +538,8 @@ pub ruleset wholly = (W.on-value, W.on-part, W.on-parts, W.on-numbers, W.tests, 
 
 -- the same, where places are counted from the start
 pub ruleset placed = (on-value-next, on-part-next, W.on-numbers, W.if-eq, W.if-ne, on-string-next, on-owners, nft-transfer-made, terms-made)
+
+-- an operation behind its pairs, up to a refusal and through to its end
+pub ruleset acting = (on-value-next, W.on-short, W.if-eq, W.if-ne, on-terms, on-terms-refused, W.on-list-refused, on-owners-refused)
+
+pub ruleset acted = (on-value-next, W.if-eq, W.if-ne, on-terms, on-owners-list, on-owners, mint-action-made, transfer-action-made)

@@ -33,7 +33,7 @@ indices-from-spec =
     (λ c. search needs)  -- enum-known-index
     (λ c. search needs)  -- enum-told
     (λ c κs. search needs)  -- cut-requires
-    (λ c. search (turn, value-small, if-number-not) depth 10)  -- returns
+    (λ c. search turn depth 10)  -- returns
     (λ c κs. search needs)  -- number-follows-requires
     (λ c. search needs)  -- sub-left
     (λ c. search needs)  -- loop-less

@@ -2,7 +2,7 @@
 -- Assumes nothing.
 use borrow.Author.Needs.{needs}
 use Prim.Native.Nat.{_^_, _<_}
-use mathlib.Core.Path.{_≡_, refl, _∙_}
+use mathlib.Core.Path.{_≡_, refl}
 use mathlib.Core.List.{[], _++_}
 use lib.ListN.{length}
 use Rattle.wire.specs.Bytes.{pick}
@@ -35,13 +35,13 @@ inputs-from-spec =
     (λ c. search needs)  -- enum-known-i
     (λ c. search needs)  -- enum-told
     (λ c κs. search needs)  -- cut-requires
-    (λ c. search (list-on, on-part-there, on-cut, on-value, on-short, value-small, if-key-not) depth 10)  -- returns
+    (λ c. search (list-on, on-part-there, on-cut) depth 10)  -- returns
     (λ c κs. search needs)  -- id-at-requires
     (λ c κs. search needs)  -- u32-at-requires
     (λ c. search needs)  -- enum-known-index
     (λ c. search needs)  -- enum-told-2
     (λ c κs. search needs)  -- cut-requires-2
-    (λ c. search (list-on, on-part-there, on-cut, on-value, on-short, value-small, if-key-not) depth 10)  -- returns-2
+    (λ c. search (list-on, on-part-there, on-cut, on-value, on-short) depth 10)  -- returns-2
     (λ c κs. search needs)  -- key-follows-requires
     (λ c κs. search needs)  -- spend-at-requires
     (λ c. search needs)  -- enum-known-refusal

@@ -1,6 +1,5 @@
 -- `element::inputs::number_follows` meets its contract.
 -- Assumes nothing.
-use borrow.Author.Needs.{needs}
 use Rattle.element.proofs.Reading.{follows}
 use Rattle.element.proofs.inputs.number_follows.Statement.{statement}
 use Rattle.element.proofs.inputs.number_follows.Tie as tie

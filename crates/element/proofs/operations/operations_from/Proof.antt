@@ -6,7 +6,7 @@ use Rattle.wire.specs.Series.{unordered}
 use Rattle.wire.specs.Answer.{ended}
 use Rattle.wire.proofs.Reading.{list-on, list-end}
 use Rattle.element.specs.Operations.{operation}
-use Rattle.element.proofs.Reading.{on-operation, on-operation-refused, operations-again}
+use Rattle.element.proofs.Reading.{on-operation, on-operation-refused, unordered-again}
 use Rattle.element.proofs.operations.operations_from.Statement.{statement}
 use Rattle.element.proofs.operations.operations_from.Tie as tie
 
@@ -30,5 +30,5 @@ operations-from-spec =
     (λ c. search needs)  -- enum-known-next
     (λ c. search needs)  -- sub-left
     (λ c. search needs)  -- loop-less
-    (λ c. search (list-on, on-operation, operations-again) depth 6)  -- loop-again
+    (λ c. search (list-on, on-operation, unordered-again operation) depth 6)  -- loop-again
     (λ c. search list-end))  -- returns-2

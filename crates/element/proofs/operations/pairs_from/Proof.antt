@@ -7,12 +7,12 @@ use mathlib.Core.List.{[], _++_}
 use lib.ListN.{length}
 use Rattle.wire.specs.Bytes.{pick}
 use Rattle.wire.specs.Fields.{number}
-use Rattle.wire.specs.Sequence.{guard, andThen}
+use Rattle.wire.specs.Sequence.{guard}
 use Rattle.wire.specs.Series.{above, seriesFrom, increasing}
 use Rattle.wire.specs.Answer.{ended}
 use Rattle.wire.proofs.Reading.{list-on, list-end, on-part-there, on-cut, on-value, on-short}
 use Rattle.element.specs.Inputs.{key}
-use Rattle.element.proofs.Reading.{value-small, if-key-follows, if-key-not, key-again, id-length}
+use Rattle.element.proofs.Reading.{value-small, if-key-follows, if-key-not, key-again}
 use Rattle.element.proofs.operations.pairs_from.Statement.{statement}
 use Rattle.element.proofs.operations.pairs_from.Tie as tie
 
@@ -35,16 +35,16 @@ pairs-from-spec =
     (λ c. search needs)  -- enum-known-i
     (λ c. search needs)  -- enum-told
     (λ c κs. search needs)  -- cut-requires
-    (λ c. search (list-on, on-part-there, on-cut, on-value, on-short, value-small, if-key-not) depth 10)  -- returns
+    (λ c. search (list-on, on-part-there, on-cut) depth 10)  -- returns
     (λ c κs. search needs)  -- id-at-requires
     (λ c κs. search needs)  -- u32-at-requires
     (λ c. search needs)  -- enum-known-index
     (λ c. search needs)  -- enum-told-2
     (λ c κs. search needs)  -- cut-requires-2
-    (λ c. search (list-on, on-part-there, on-cut, on-value, on-short, value-small, if-key-not) depth 10)  -- returns-2
+    (λ c. search (list-on, on-part-there, on-cut, on-value, on-short) depth 10)  -- returns-2
     (λ c κs. search needs)  -- key-follows-requires
     (λ c. search needs)  -- sub-left
     (λ c. search needs)  -- loop-less
-    (λ c. search (list-on, on-part-there, on-value, value-small, if-key-follows, key-again, id-length) depth 10)  -- loop-again
+    (λ c. search (list-on, on-part-there, on-value, value-small, if-key-follows, key-again) depth 10)  -- loop-again
     (λ c. search (list-on, on-part-there, on-cut, on-value, on-short, value-small, if-key-not) depth 10)  -- returns-3
     (λ c. search list-end))  -- returns-4

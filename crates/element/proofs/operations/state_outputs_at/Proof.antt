@@ -16,8 +16,8 @@ state-outputs-at-spec =
     (λ c. search needs)  -- enum-known-count
     (λ c. search needs)  -- enum-told
     (λ c κs. search needs)  -- cut-requires
-    (λ c. search (on-value, on-short, on-secp, on-nft) depth 8)  -- returns
+    (λ c. search (on-value, on-short) depth 8)  -- returns
     (λ c κs. search needs)  -- secp-from-requires
-    (λ c. search (on-value, on-short, on-secp, on-nft) depth 8)  -- returns-2
+    (λ c. search (on-value, on-short, on-secp) depth 8)  -- returns-2
     (λ c κs. search needs)  -- nft-from-requires
     (λ c. search (on-value, on-short, on-secp, on-nft) depth 8))  -- returns-3

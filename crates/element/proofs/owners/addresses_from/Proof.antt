@@ -32,7 +32,7 @@ addresses-from-spec =
     (λ c. search needs)  -- enum-known-next
     (λ c. search needs)  -- enum-told
     (λ c κs. search needs)  -- cut-requires
-    (λ c. search (turn, if-part-not) depth 10)  -- returns
+    (λ c. search turn depth 10)  -- returns
     (λ c κs. search needs)  -- address-at-requires
     (λ c κs. search needs)  -- address-follows-requires
     (λ c. search needs)  -- sub-left

@@ -6,7 +6,7 @@ use Rattle.wire.specs.Series.{unordered}
 use Rattle.wire.specs.Answer.{ended}
 use Rattle.wire.proofs.Reading.{list-on, list-end}
 use Rattle.element.specs.Owners.{owners}
-use Rattle.element.proofs.Reading.{on-owners, on-owners-refused, owners-again}
+use Rattle.element.proofs.Reading.{on-owners, on-owners-refused, unordered-again}
 use Rattle.element.proofs.owners.owners_list_at.Statement.{statement}
 use Rattle.element.proofs.owners.owners_list_at.Tie as tie
 
@@ -30,5 +30,5 @@ owners-list-at-spec =
     (λ c. search needs)  -- enum-known-next
     (λ c. search needs)  -- sub-left
     (λ c. search needs)  -- loop-less
-    (λ c. search (list-on, on-owners, owners-again) depth 6)  -- loop-again
+    (λ c. search (list-on, on-owners, unordered-again owners) depth 6)  -- loop-again
     (λ c. search list-end))  -- returns-2

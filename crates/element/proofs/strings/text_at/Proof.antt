@@ -2,8 +2,7 @@
 -- Assumes nothing.
 use borrow.Author.Needs.{needs}
 use Rattle.wire.proofs.Reading.{on-value, on-short, on-part, on-cut, tests}
-use Rattle.element.proofs.Reading.{unprintable-room, if-printable, if-unprintable}
-use native.Mathlib.Omega.{arith}
+use Rattle.element.proofs.Reading.{unprintable-fits, if-printable, if-unprintable}
 use Rattle.element.specs.Strings.{text}
 use Rattle.element.proofs.strings.text_at.Statement.{statement}
 use Rattle.element.proofs.strings.text_at.Tie as tie
@@ -17,9 +16,9 @@ text-at-spec =
     (λ c. search needs)  -- enum-known-length
     (λ c. search needs)  -- enum-told
     (λ c κs. search needs)  -- cut-requires
-    (λ c. search (on-value, on-short, on-part, on-cut, tests) depth 12)  -- returns
-    (λ c. search (on-value, on-short, on-part, on-cut, tests) depth 12)  -- returns-2
-    (λ c. search (on-value, on-short, on-part, on-cut, tests) depth 12)  -- returns-3
+    (λ c. search (on-value, on-short, tests) depth 12)  -- returns
+    (λ c. search (on-value, on-short, tests) depth 12)  -- returns-2
+    (λ c. search (on-value, on-short, tests) depth 12)  -- returns-3
     (λ c κs. search needs)  -- part-at-requires
     (λ c. search needs)  -- enum-known-next
     (λ c. search needs)  -- enum-told-2
@@ -27,6 +26,6 @@ text-at-spec =
     (λ c. search (on-value, on-short, on-part, on-cut, tests) depth 12)  -- returns-4
     (λ c κs. search needs)  -- between-requires
     (λ c κs. search needs)  -- first-unprintable-requires
-    (λ c. omega (arith, unprintable-room (c .before .before .before .before .before .before .before .before .before .before .before .before .before .before .args .s .now) _ (c .before .before .before .before .before .before .before .before .before .before .length .given .0 .1 .0) (c .before .before .before .before .next .given .0 .0) _ (c .before .before .between .ensures) (c .before .first-unprintable .ensures)))  -- add-t19
+    (λ c. search (needs, unprintable-fits))  -- add-t19
     (λ c. search (on-value, on-part, tests, if-unprintable) depth 12)  -- returns-5
     (λ c. search (on-value, on-part, tests, if-printable) depth 12))  -- returns-6
