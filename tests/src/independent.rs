@@ -24,45 +24,50 @@ impl From<Result<usize, Refusal>> for Answer {
 impl Answers for Independent {
     type Writer = writer::Writer;
 
-    fn check(&self, bytes: &[u8]) -> Answer {
-        check(bytes).map(|transaction| transaction.length).into()
+    fn check(&self, bytes: &[u8]) -> Option<Answer> {
+        Some(check(bytes).map(|transaction| transaction.length).into())
     }
 
-    fn rows(&self, bytes: &[u8], table: &mut [u32]) -> (Answer, usize) {
+    fn rows(&self, bytes: &[u8], table: &mut [u32]) -> Option<(Answer, usize)> {
         let read = entries::rows(bytes, table);
         let rows = read.map_or(0, |transaction| transaction.rows);
-        (read.map(|transaction| transaction.length).into(), rows)
+        Some((read.map(|transaction| transaction.length).into(), rows))
     }
 
-    fn entry(&self, bytes: &[u8], n: u32) -> (Answer, Option<EntryFields>) {
-        match entries::entry(bytes, n as usize) {
+    fn entry(&self, bytes: &[u8], n: u32) -> Option<(Answer, Option<EntryFields>)> {
+        Some(match entries::entry(bytes, n as usize) {
             Ok((transaction, row, entry)) => {
                 let fields = Fields::of(entry);
                 let shown = EntryFields { kind: row.kind as u32, fields };
                 (Ok(transaction.length).into(), Some(shown))
             }
             Err(refusal) => (Err(refusal).into(), None),
-        }
+        })
     }
 
-    fn fill(&self, draft: &mut [u8], slot: u32, signature: &[u8]) -> Answer {
-        draft::fill(draft, slot as usize, signature).into()
+    fn fill(&self, draft: &mut [u8], slot: u32, signature: &[u8]) -> Option<Answer> {
+        Some(draft::fill(draft, slot as usize, signature).into())
     }
 
-    fn merge(&self, first: &[u8], second: &[u8], output: &mut [u8]) -> Answer {
-        draft::merge(first, second, output).into()
+    fn merge(&self, first: &[u8], second: &[u8], output: &mut [u8]) -> Option<Answer> {
+        Some(draft::merge(first, second, output).into())
     }
 
-    fn phone_check(&self, bytes: &[u8]) -> u64 {
-        phone::check(bytes)
+    fn phone_check(&self, bytes: &[u8]) -> Option<u64> {
+        Some(phone::check(bytes))
     }
 
-    fn phone_merge(&self, first: &[u8], second: &[u8], output: &mut [u8]) -> u64 {
-        phone::merge(first, second, output)
+    fn phone_merge(&self, first: &[u8], second: &[u8], output: &mut [u8]) -> Option<u64> {
+        Some(phone::merge(first, second, output))
     }
 
-    fn step(&self, writer: &mut writer::Writer, buffer: &mut [u8], step: &Step) -> Answer {
-        make_step(writer, buffer, step).into()
+    fn step(
+        &self,
+        writer: &mut writer::Writer,
+        buffer: &mut [u8],
+        step: &Step,
+    ) -> Option<Answer> {
+        Some(make_step(writer, buffer, step).into())
     }
 }
 

@@ -67,27 +67,50 @@ pub struct Call {
     pub lent: Option<usize>,
 }
 
-/// What answers the requests.
+/// What answers the requests. A call that it does not have answers `None`, and the line of
+/// such a request is `not yet`.
+#[allow(unused_variables)]
 pub trait Answers {
     /// The writer's state before its first step is the default.
     type Writer: Default;
 
     /// Checks with no table lent.
-    fn check(&self, bytes: &[u8]) -> Answer;
+    fn check(&self, bytes: &[u8]) -> Option<Answer> {
+        None
+    }
     /// Checks with a lent table; answers also the number of rows.
-    fn rows(&self, bytes: &[u8], table: &mut [u32]) -> (Answer, usize);
+    fn rows(&self, bytes: &[u8], table: &mut [u32]) -> Option<(Answer, usize)> {
+        None
+    }
     /// Reads one entry.
-    fn entry(&self, bytes: &[u8], n: u32) -> (Answer, Option<EntryFields>);
+    fn entry(&self, bytes: &[u8], n: u32) -> Option<(Answer, Option<EntryFields>)> {
+        None
+    }
     /// Fills a slot of the lent draft.
-    fn fill(&self, draft: &mut [u8], slot: u32, signature: &[u8]) -> Answer;
+    fn fill(&self, draft: &mut [u8], slot: u32, signature: &[u8]) -> Option<Answer> {
+        None
+    }
     /// Merges two drafts into the output buffer.
-    fn merge(&self, first: &[u8], second: &[u8], output: &mut [u8]) -> Answer;
+    fn merge(&self, first: &[u8], second: &[u8], output: &mut [u8]) -> Option<Answer> {
+        None
+    }
     /// The phone program's check.
-    fn phone_check(&self, bytes: &[u8]) -> u64;
+    fn phone_check(&self, bytes: &[u8]) -> Option<u64> {
+        None
+    }
     /// The phone program's merge.
-    fn phone_merge(&self, first: &[u8], second: &[u8], output: &mut [u8]) -> u64;
+    fn phone_merge(&self, first: &[u8], second: &[u8], output: &mut [u8]) -> Option<u64> {
+        None
+    }
     /// Makes one writer's step over the lent buffer.
-    fn step(&self, writer: &mut Self::Writer, buffer: &mut [u8], step: &Step) -> Answer;
+    fn step(
+        &self,
+        writer: &mut Self::Writer,
+        buffer: &mut [u8],
+        step: &Step,
+    ) -> Option<Answer> {
+        None
+    }
 }
 
 /// Answers each line of the input with one line.
@@ -104,37 +127,50 @@ pub fn serve(
     output.flush()
 }
 
+/// The line of a request whose call is not there.
+pub const NOT_YET: &str = "not yet";
+
 /// The answer to one request, or none where the line is no request.
 pub fn answer<A: Answers>(answers: &A, line: &str) -> Option<String> {
     let words: Vec<&str> = line.split(' ').collect();
     match words[..] {
-        ["check", bytes, "none"] => Some(answers.check(&unhex(bytes)?).to_string()),
+        ["check", bytes, "none"] => shown(answers.check(&unhex(bytes)?)),
         ["check", bytes, room] => rows_line(answers, &unhex(bytes)?, lent_room(room)?),
-        ["entry", bytes, n] => Some(entry_line(answers, &unhex(bytes)?, number(n)?)),
+        ["entry", bytes, n] => entry_line(answers, &unhex(bytes)?, number(n)?),
         ["fill", draft, slot, signature] => {
             let mut draft = unhex(draft)?;
             let answer = answers.fill(&mut draft, number(slot)?, &unhex(signature)?);
-            Some(format!("{answer} {}", Hex(&draft)))
+            shown_with(answer, &draft)
         }
         ["merge", first, second, room] => {
             let mut output = vec![LENT; lent_room(room)?];
             let answer = answers.merge(&unhex(first)?, &unhex(second)?, &mut output);
-            Some(format!("{answer} {}", Hex(&output)))
+            shown_with(answer, &output)
         }
-        ["phone-check", bytes] => Some(answers.phone_check(&unhex(bytes)?).to_string()),
+        ["phone-check", bytes] => shown(answers.phone_check(&unhex(bytes)?)),
         ["phone-merge", first, second, room] => {
             let mut output = vec![LENT; lent_room(room)?];
             let answer = answers.phone_merge(&unhex(first)?, &unhex(second)?, &mut output);
-            Some(format!("{answer} {}", Hex(&output)))
+            shown_with(answer, &output)
         }
         ["write", length, ref steps @ ..] => write_line(answers, lent_room(length)?, steps),
         _ => None,
     }
 }
 
+fn shown(answer: Option<impl Display>) -> Option<String> {
+    Some(answer.map_or(NOT_YET.into(), |answer| answer.to_string()))
+}
+
+fn shown_with(answer: Option<impl Display>, bytes: &[u8]) -> Option<String> {
+    shown(answer.map(|answer| format!("{answer} {}", Hex(bytes))))
+}
+
 fn rows_line(answers: &impl Answers, bytes: &[u8], room: usize) -> Option<String> {
     let mut table = vec![LENT_NUMBER; room];
-    let (answer, rows) = answers.rows(bytes, &mut table);
+    let Some((answer, rows)) = answers.rows(bytes, &mut table) else {
+        return Some(NOT_YET.into());
+    };
     let (written, beyond) = table.split_at_checked(3 * rows)?;
     let mut line = format!("{answer} {rows}");
     for number in written {
@@ -144,14 +180,15 @@ fn rows_line(answers: &impl Answers, bytes: &[u8], room: usize) -> Option<String
     Some(line + if kept { " kept" } else { " changed" })
 }
 
-fn entry_line(answers: &impl Answers, bytes: &[u8], n: u32) -> String {
-    let (answer, entry) = answers.entry(bytes, n);
-    let Some(EntryFields { kind, mut fields }) = entry else {
-        return answer.to_string();
-    };
-    fields.sort_by_key(|&(name, _)| name);
-    let fields = fields.iter().map(|(name, field)| format!(" {name}={field}"));
-    format!("{answer} kind={kind}{}", fields.collect::<String>())
+fn entry_line(answers: &impl Answers, bytes: &[u8], n: u32) -> Option<String> {
+    shown(answers.entry(bytes, n).map(|(answer, entry)| {
+        let Some(EntryFields { kind, mut fields }) = entry else {
+            return answer.to_string();
+        };
+        fields.sort_by_key(|&(name, _)| name);
+        let fields = fields.iter().map(|(name, field)| format!(" {name}={field}"));
+        format!("{answer} kind={kind}{}", fields.collect::<String>())
+    }))
 }
 
 fn write_line<A: Answers>(answers: &A, length: usize, steps: &[&str]) -> Option<String> {
@@ -161,7 +198,9 @@ fn write_line<A: Answers>(answers: &A, length: usize, steps: &[&str]) -> Option<
     let mut line = String::new();
     for Call { step, lent } in calls? {
         let lent = buffer.get_mut(..lent.unwrap_or(length))?;
-        let answer = answers.step(&mut writer, lent, &step);
+        let Some(answer) = answers.step(&mut writer, lent, &step) else {
+            return Some(NOT_YET.into());
+        };
         write!(line, "{answer} ").ok()?;
     }
     Some(format!("{line}{}", Hex(&buffer)))

@@ -8,9 +8,8 @@ use cellfacet_tests::generate::{Kind, Requests};
 fn main() -> ExitCode {
     let arguments: Vec<String> = std::env::args().skip(1).collect();
     let Some((seed, count, kinds)) = parse(&arguments) else {
-        eprintln!(
-            "usage: cellfacet-generate SEED COUNT [check entry fill merge phone write].."
-        );
+        let names = Kind::ALL.map(|(name, _)| name).join(" ");
+        eprintln!("usage: cellfacet-generate SEED COUNT [{names}]..");
         return ExitCode::from(2);
     };
     match print(Requests::new(seed, kinds).take(count)) {

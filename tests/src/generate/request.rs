@@ -18,21 +18,25 @@ use crate::writer::Writer;
 #[allow(missing_docs)]
 pub enum Kind {
     Check,
+    CheckNone,
     Entry,
     Fill,
     Merge,
     Phone,
+    PhoneCheck,
     Write,
 }
 
 impl Kind {
     /// All kinds with their names.
-    pub const ALL: [(&'static str, Kind); 6] = [
+    pub const ALL: [(&'static str, Kind); 8] = [
         ("check", Kind::Check),
+        ("check-none", Kind::CheckNone),
         ("entry", Kind::Entry),
         ("fill", Kind::Fill),
         ("merge", Kind::Merge),
         ("phone", Kind::Phone),
+        ("phone-check", Kind::PhoneCheck),
         ("write", Kind::Write),
     ];
 
@@ -64,14 +68,19 @@ impl Iterator for Requests {
             let random = &mut self.random;
             match random.pick(&self.kinds) {
                 Kind::Check => self.waiting.push_back(check_request(random)),
+                Kind::CheckNone => {
+                    self.waiting.push_back(format!("check {} none", Hex(&bytes(random))));
+                }
                 Kind::Entry => self.waiting.push_back(entry_request(random)),
                 Kind::Fill => self.waiting.push_back(fill_request(random)),
                 Kind::Merge if random.once_in(3) => self.waiting.extend(grouping(random)),
                 Kind::Merge => self.waiting.push_back(merge_request(random, "merge")),
                 Kind::Phone if random.once_in(2) => {
+                    self.waiting.push_back(merge_request(random, "phone-merge"));
+                }
+                Kind::Phone | Kind::PhoneCheck => {
                     self.waiting.push_back(format!("phone-check {}", Hex(&bytes(random))));
                 }
-                Kind::Phone => self.waiting.push_back(merge_request(random, "phone-merge")),
                 Kind::Write => self.waiting.push_back(write_request(random)),
             }
         }

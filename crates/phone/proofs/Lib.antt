@@ -1,0 +1,2 @@
+-- What is proved of the answers to the phone program
+pub mod Packing

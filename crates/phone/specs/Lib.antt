@@ -1,0 +1,2 @@
+-- What the phone program is answered
+pub mod Packed

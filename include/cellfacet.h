@@ -1,0 +1,102 @@
+/*
+ * Cellfacet for C: checks signed AVM (X-Chain) transactions.
+ *
+ * Build the library with `rt staticlib phone` and link target/staticlib/libphone.a; it needs
+ * no other library. It keeps no state, allocates nothing, does not write to the bytes that it
+ * is given, and may be called from several threads at once.
+ *
+ * Every answer is one 64-bit number, number * 2^32 + place. cellfacet_number and
+ * cellfacet_place take it apart.
+ */
+#ifndef CELLFACET_H
+#define CELLFACET_H
+
+#include <stddef.h>
+#include <stdint.h>
+
+#ifdef __cplusplus
+extern "C" {
+#endif
+
+/*
+ * The numbers, and the place that comes with each. A place counts bytes from 0, the first byte
+ * handed over. Fields are taken from left to right, and the first broken rule answers.
+ */
+enum {
+    /* Accepted: one signed transaction, and nothing behind it. Place: its number of bytes. */
+    CELLFACET_ACCEPTED = 0,
+    /* More than 65,536 bytes. Place: 0. */
+    CELLFACET_TOO_LONG = 1,
+    /* A field is not wholly there. Place: the start of that field. */
+    CELLFACET_CUT_SHORT = 2,
+    /* The codec is not 0. Place: 0. */
+    CELLFACET_WRONG_CODEC = 3,
+    /* A type or FxID is unknown, or not allowed where it stands. Place: its start. */
+    CELLFACET_UNKNOWN_TYPE = 4,
+    /* An amount is 0. Place: the start of the amount. */
+    CELLFACET_ZERO_AMOUNT = 5,
+    /* A list is not in its order. Place: the start of the later of the two elements. */
+    CELLFACET_OUT_OF_ORDER = 6,
+    /* A threshold is above the number of addresses. Place: the start of the threshold. */
+    CELLFACET_BAD_THRESHOLD = 7,
+    /* The length of a name, symbol, memo or payload is not allowed. Place: its start. */
+    CELLFACET_BAD_LENGTH = 8,
+    /* A character of a name or symbol is not printable ASCII. Place: that character. */
+    CELLFACET_NOT_PRINTABLE = 9,
+    /* The denomination is above 32. Place: that byte. */
+    CELLFACET_BAD_DENOMINATION = 10,
+    /* A list is empty that needs an element. Place: the start of its count. */
+    CELLFACET_EMPTY_LIST = 11,
+    /* Not as many credentials or signatures as are due. Place: the start of the count. */
+    CELLFACET_WRONG_COUNT = 12,
+    /* Bytes stand behind the end of the transaction. Place: the first of them. */
+    CELLFACET_BYTES_AFTER_END = 13,
+
+    /* The rest of the table. A check never answers with these. */
+
+    /* No room in the memory lent for the result. Place: 0. */
+    CELLFACET_NO_ROOM = 14,
+    /* There is no such entry or slot. Place: 0. */
+    CELLFACET_NO_ENTRY = 15,
+    /* A step of the writer is not due. Place: 0. */
+    CELLFACET_STEP_NOT_DUE = 16,
+    /* The first draft is not accepted. Place: 0. */
+    CELLFACET_FIRST_NOT_ACCEPTED = 17,
+    /* The second draft is not accepted. Place: 0. */
+    CELLFACET_SECOND_NOT_ACCEPTED = 18,
+    /* The drafts differ before the credential count. Place: 0. */
+    CELLFACET_DRAFTS_DIFFER = 19,
+    /* Two different signatures in one slot. Place: the number of the first such slot. */
+    CELLFACET_CONFLICT = 20,
+    /* A signature is not 65 bytes. Place: 0. */
+    CELLFACET_NOT_A_SIGNATURE = 21
+};
+
+/*
+ * Checks a whole signed transaction.
+ *
+ * bytes points to `length` bytes that may be read, and that nothing writes to during the call.
+ * Any bytes will do, and any alignment. Where length is 0, bytes may be NULL; the answer is
+ * then CELLFACET_CUT_SHORT at 0.
+ *
+ * The answer's number is 0 to 13, its place at most 65,536.
+ */
+uint64_t cellfacet_check(const uint8_t *bytes, size_t length);
+
+/* The number of an answer: CELLFACET_ACCEPTED, or why the bytes are refused. */
+static inline uint32_t cellfacet_number(uint64_t answer)
+{
+    return (uint32_t)(answer >> 32);
+}
+
+/* The place of an answer. */
+static inline uint32_t cellfacet_place(uint64_t answer)
+{
+    return (uint32_t)(answer & 0xffffffffu);
+}
+
+#ifdef __cplusplus
+}
+#endif
+
+#endif

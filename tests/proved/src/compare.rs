@@ -1,0 +1,86 @@
+//! Both programs answer the same requests, and every answer must be the same.
+
+use std::collections::BTreeSet;
+use std::fmt;
+
+use cellfacet_tests::generate::Kind;
+use cellfacet_tests::independent::Independent;
+use cellfacet_tests::lines::answer;
+
+use crate::Proved;
+
+/// The kinds of requests that the proved code answers.
+pub const KINDS: [Kind; 2] = [Kind::CheckNone, Kind::PhoneCheck];
+
+/// A request that the two answer differently. No answer is a line that is no request.
+#[derive(Debug, PartialEq, Eq)]
+pub struct Difference {
+    /// The request line.
+    pub request: String,
+    /// The proved code's answer.
+    pub proved: Option<String>,
+    /// The independent program's answer.
+    pub independent: Option<String>,
+}
+
+impl fmt::Display for Difference {
+    fn fmt(&self, f: &mut fmt::Formatter) -> fmt::Result {
+        let Difference { request, proved, independent } = self;
+        let shown = |answer: &Option<String>| answer.clone().unwrap_or("bad request".into());
+        writeln!(f, "request: {request}")?;
+        writeln!(f, "proved: {}", shown(proved))?;
+        write!(f, "independent: {}", shown(independent))
+    }
+}
+
+/// What was asked and answered alike.
+#[derive(Debug, Default)]
+pub struct Met {
+    /// How many requests.
+    pub requests: usize,
+    /// The answers to `check`: number, and the transaction's type where it is accepted.
+    pub checks: BTreeSet<(u32, Option<u8>)>,
+    /// The fewest and the most bytes checked.
+    pub lengths: Option<(usize, usize)>,
+}
+
+impl Met {
+    /// Asks both, and notes the answer where it is one.
+    pub fn ask(&mut self, request: &str) -> Result<(), Difference> {
+        let proved = answer(&Proved, request);
+        let independent = answer(&Independent, request);
+        if proved != independent || proved.is_none() {
+            let request = request.to_string();
+            return Err(Difference { request, proved, independent });
+        }
+        self.requests += 1;
+        if let (["check", bytes, "none"], Some(answer)) =
+            (&request.split(' ').collect::<Vec<_>>()[..], proved)
+        {
+            self.note(bytes, &answer);
+        }
+        Ok(())
+    }
+
+    fn note(&mut self, hex: &str, answer: &str) {
+        let number = answer.split(' ').next().and_then(|number| number.parse().ok());
+        let Some(number) = number else {
+            return;
+        };
+        // The last digit of the type, whose 32 bits stand behind the codec's 16.
+        let type_id = hex.as_bytes().get(11).filter(|_| number == 0).map(|digit| digit - b'0');
+        self.checks.insert((number, type_id));
+        let length = if hex == "-" { 0 } else { hex.len() / 2 };
+        let (least, most) = self.lengths.unwrap_or((length, length));
+        self.lengths = Some((least.min(length), most.max(length)));
+    }
+}
+
+/// Asks both each of the requests, up to the first difference.
+pub fn compare(requests: impl IntoIterator<Item = String>) -> Result<Met, Difference> {
+    let mut met = Met::default();
+    for request in requests {
+        met.ask(&request)?;
+    }
+    Ok(met)
+}

@@ -1,0 +1,128 @@
+//! The proved code and the independent program answer alike.
+#![allow(missing_docs)]
+
+use std::collections::BTreeSet;
+use std::fs;
+use std::path::{Path, PathBuf};
+
+use cellfacet_proved::compare::{compare, Difference, Met, KINDS};
+use cellfacet_proved::Proved;
+use cellfacet_tests::encode::Encoder;
+use cellfacet_tests::generate::Requests;
+use cellfacet_tests::lines::{answer, serve, unhex, Hex};
+
+const SEED: u64 = 20_251_115;
+const REQUESTS: usize = 240_000;
+
+fn data() -> PathBuf {
+    Path::new(env!("CARGO_MANIFEST_DIR")).join("../data")
+}
+
+/// The bytes of a data file in hex, without the lines of its head.
+fn example(path: &Path) -> Vec<u8> {
+    let text = fs::read_to_string(path).expect("a data file");
+    let digits: String = text.lines().filter(|line| !line.starts_with('#')).collect();
+    unhex(&digits.replace(' ', "")).expect("hex")
+}
+
+fn case_a() -> Vec<u8> {
+    example(&data().join("case-a.hex"))
+}
+
+/// Both ways to ask for a check.
+fn requests(bytes: &[u8]) -> [String; 2] {
+    [format!("check {} none", Hex(bytes)), format!("phone-check {}", Hex(bytes))]
+}
+
+fn alike(requests: impl IntoIterator<Item = String>) -> Met {
+    compare(requests).unwrap_or_else(|difference| panic!("\n{difference}"))
+}
+
+#[test]
+fn random_requests() {
+    println!("seed {SEED}, {REQUESTS} requests");
+    let met = alike(Requests::new(SEED, KINDS.to_vec()).take(REQUESTS));
+    assert_eq!(met.requests, REQUESTS);
+    // Every type is accepted at times, every number of the check is met, and no bytes are as
+    // well there as more bytes than any transaction has.
+    let accepted = (0..=4).map(|type_id| (0, Some(type_id)));
+    let refused = (1..=13).map(|number| (number, None));
+    assert_eq!(met.checks, accepted.chain(refused).collect::<BTreeSet<_>>());
+    let (least, most) = met.lengths.expect("some were checked");
+    assert!(least == 0 && most > 65_536, "{least} to {most} bytes");
+}
+
+#[test]
+fn published_examples() {
+    let mut files = 0;
+    for folder in ["dijets-vm", "avm-es"] {
+        for file in fs::read_dir(data().join(folder)).expect("a data folder") {
+            let bytes = example(&file.expect("a file").path());
+            // As it is; as an unsigned part; and with one or two credentials behind that.
+            let coded = Encoder::new().u16(0).raw(&bytes);
+            let blank = Encoder::new().u32(9).list(&[[0; 65]; 2]).done();
+            let one = coded.clone().list(&[&blank]).done();
+            let two = coded.clone().list(&[&blank, &blank]).done();
+            for bytes in [bytes, coded.done(), one, two] {
+                alike(requests(&bytes));
+            }
+            files += 1;
+        }
+    }
+    assert_eq!(files, 44);
+}
+
+#[test]
+fn every_byte_of_case_a_with_every_value() {
+    let a = case_a();
+    let changed = (0..a.len()).flat_map(|place| (0..=255).map(move |value| (place, value)));
+    let met = alike(changed.flat_map(|(place, value)| {
+        let mut bytes = case_a();
+        bytes[place] = value;
+        requests(&bytes)
+    }));
+    assert_eq!(met.requests, 2 * 392 * 256);
+}
+
+#[test]
+fn case_a_cut_and_continued() {
+    let longer = [case_a(), vec![0; 3]].concat();
+    alike((0..=longer.len()).flat_map(|length| requests(&longer[..length])));
+}
+
+#[test]
+fn zeros_around_the_limit() {
+    alike((65_530..65_540).flat_map(|length| requests(&vec![0; length])));
+}
+
+#[test]
+fn the_proved_cases() {
+    let a = case_a();
+    assert_eq!(answer(&Proved, &requests(&a)[0]), Some("0 392".into()));
+    assert_eq!(answer(&Proved, &requests(&a)[1]), Some("392".into()));
+    assert_eq!(answer(&Proved, &requests(&a[..391])[0]), Some("2 327".into()));
+    let packed = (2_u64 << 32) + 327;
+    assert_eq!(answer(&Proved, &requests(&a[..391])[1]), Some(packed.to_string()));
+}
+
+#[test]
+fn lines_that_are_not_answered() {
+    let input = b"check - none\ncheck - 0\nmerge - - 0\nwrite 0 finish\nfoo\n";
+    let mut output = Vec::new();
+    serve(&Proved, &input[..], &mut output).expect("no failing write");
+    let lines = "2 0\nnot yet\nnot yet\nnot yet\nbad request\n";
+    assert_eq!(String::from_utf8(output).expect("text"), lines);
+}
+
+#[test]
+fn a_difference_is_found_and_shown() {
+    let difference = compare(["check - 0".to_string()]).expect_err("a difference");
+    let expected = Difference {
+        request: "check - 0".into(),
+        proved: Some("not yet".into()),
+        independent: Some("2 0 0 kept".into()),
+    };
+    assert_eq!(difference, expected);
+    let shown = "request: check - 0\nproved: not yet\nindependent: 2 0 0 kept";
+    assert_eq!(difference.to_string(), shown);
+}
