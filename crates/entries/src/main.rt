@@ -1,0 +1,91 @@
+// Prints the entries of the transaction in a file, a row to a line: kind, start, length. A refusal is one line: number, place.
+use libc::STDOUT_FILENO;
+use table::Tabled;
+use wire::Refusal;
+
+// What reading a file to its end, or to the buffer's, finds.
+enum Loaded {
+    Bytes(usize),
+    Failed,
+}
+
+fn load(fd: i32, buf: &mut [u8]) -> Loaded {
+    let got = libc::read(fd, buf);
+    if got < 0 {
+        return Loaded::Failed;
+    }
+    let n = io::count(got, buf);
+    let m = io::read_full(fd, &mut buf[n..]);
+    Loaded::Bytes(n + m)
+}
+
+fn print_row(kind: u32, start: u32, length: u32) {
+    io::print_decimal(STDOUT_FILENO, kind as u64);
+    io::write_all(STDOUT_FILENO, b" ");
+    io::print_decimal(STDOUT_FILENO, start as u64);
+    io::write_all(STDOUT_FILENO, b" ");
+    io::print_decimal(STDOUT_FILENO, length as u64);
+    io::write_all(STDOUT_FILENO, b"\n");
+}
+
+fn print_rows(rows: &[u32], count: usize) {
+    let mut i: usize = 0;
+    let mut at: usize = 0;
+    while i < count {
+        if rows.len() - at < 3 {
+            return;
+        }
+        print_row(rows[at], rows[at + 1], rows[at + 2]);
+        at += 3;
+        i += 1;
+    }
+}
+
+fn print_refusal(refusal: Refusal) {
+    io::print_decimal(STDOUT_FILENO, refusal.number as u64);
+    io::write_all(STDOUT_FILENO, b" ");
+    io::print_decimal(STDOUT_FILENO, refusal.place as u64);
+    io::write_all(STDOUT_FILENO, b"\n");
+}
+
+// The entries of the first n bytes: at most 3,272 stand in 65,536.
+fn print_entries(buf: &[u8], n: usize) {
+    if buf.len() < n {
+        return;
+    }
+    let mut rows = [0u32; 9816];
+    match table::rows::check_table(&buf[..n], &mut rows) {
+        Tabled::Listed(count) => {
+            print_rows(&rows, count);
+        }
+        Tabled::Refused(refusal) => {
+            print_refusal(refusal);
+        }
+    }
+}
+
+// One byte more than a transaction may have is read, and no further one.
+fn show(fd: i32, path: &[u8]) {
+    let mut buf = [0u8; 65537];
+    let Loaded::Bytes(n) = load(fd, &mut buf) else {
+        os::fail(path);
+        return;
+    };
+    print_entries(&buf, n);
+}
+
+fn main() {
+    let mut path = io::buffer();
+    let length = os::arg(1, &mut path);
+    if os::errno() != 0 {
+        os::fail(b"entries: name a file");
+        return;
+    }
+    let fd = os::open_read(&path[..length]);
+    if fd < 0 {
+        os::fail(&path[..length]);
+        return;
+    }
+    show(fd, &path[..length]);
+    libc::close(fd);
+}
