@@ -1,9 +1,9 @@
 /*
  * Cellfacet for C: checks signed AVM (X-Chain) transactions.
  *
- * Build the library with `rt staticlib phone` and link target/staticlib/libphone.a; it needs
- * no other library. It keeps no state, allocates nothing, does not write to the bytes that it
- * is given, and may be called from several threads at once.
+ * Build the library with `rt staticlib phone` and link target/staticlib/libphone.a; beside it
+ * only the C library is needed. It keeps no state, allocates nothing, does not write to the
+ * bytes that it is given, and may be called from several threads at once.
  *
  * Every answer is one 64-bit number, number * 2^32 + place. cellfacet_number and
  * cellfacet_place take it apart.
