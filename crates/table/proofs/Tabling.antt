@@ -144,3 +144,18 @@ module _ (s t : List ℕ) (x : Checked) (w : Layout) (p : x ≡ checked s) (q : 
           h ∙ put-all 0 (rest w s (start w)) t (omega arith) ∙ ap₂ (λ (p : List ℕ) (k : ℕ). p ++ drop k t) (ap flat c ∙ f) last in
           let count : n ≡ length es = same ∙ size in
           ap₂ filled (ap T.Listed count) put ∙ sym (a ∙ rw (le-leb (length (rows es)) (length t) (omega arith)))
+
+-- demand 1, of the check with a table: a refusal's number is one of 1 to 14
+listed-number : (es : List EntryAt) (t : List ℕ) (e : Refusal) → listed es t .answer ≡ T.Refused e → (1 ≤ e .number) × (e .number ≤ 14)
+listed-number es t e = go (leb (length (rows es)) (length t))
+  where
+    go : (b : Bool) → pick b (filled (T.Listed (length es)) (rows es ++ drop (length (rows es)) t)) (filled (T.Refused (refusal noRoom 0)) t) .answer ≡ T.Refused e → (1 ≤ e .number) × (e .number ≤ 14)
+    go true h = let z : _≡_ {A = ℕ} 0 1 = cc in absurd (omega arith)
+    go false h = let i : refusal noRoom 0 ≡ e = cc in rw (← i) (omega arith, omega arith)
+
+pub tabled-number : (s t : List ℕ) (e : Refusal) → tabled s t .answer ≡ T.Refused e → (1 ≤ e .number) × (e .number ≤ 14)
+tabled-number s t e = go (check (avm memoMost) s) refl
+  where
+    go : (o : Result (Signed (avm memoMost))) → check (avm memoMost) s ≡ o → onResult o (λ e. filled (T.Refused e) t) (λ v n. listed (entries (avm memoMost) v) t) .answer ≡ T.Refused e → (1 ≤ e .number) × (e .number ≤ 14)
+    go (took v n) r h = listed-number (entries (avm memoMost) v) t e h
+    go (refused d) r h = let i : d ≡ e = cc in let (a, c) = codec (avm memoMost) .refused-by s d r in rw (← i) (a, omega arith)
