@@ -4,7 +4,7 @@ use Prim.Native.Nat.{ℕ, _+_}
 use mathlib.Core.List.{List, [], _∷_, _++_}
 use lib.ListN.{length, take, drop}
 use Rattle.wire.specs.Bytes.{value, digits, below}
-use Rattle.wire.specs.Format.{verdict, Result, took, refused}
+use Rattle.wire.specs.Format.{read, verdict, Result, took, refused}
 use Rattle.wire.specs.Fields.{number, blobRun, constant}
 use Rattle.wire.specs.Sequence.{guard, tag}
 use Rattle.wire.specs.Series.{items, listRun, listWrite, counted}
@@ -80,6 +80,19 @@ ordered = edited 234 (0 ∷ 0 ∷ 0 ∷ 3 ∷ 0 ∷ 0 ∷ 0 ∷ 7 ∷ []) publis
 abbrev pub A : List ℕ
 A = edited 5 (0 ∷ []) ordered
 
+-- ---- the transferable NFT operation of the same page: asset id, one spent output, type 13, indices 3, 7, group 12345, payload 43 11 00, and owners
+-- that begin with their threshold
+abbrev withoutLocktime : List ℕ
+withoutLocktime =
+    0 ∷ 1 ∷ 2 ∷ 3 ∷ 4 ∷ 5 ∷ 6 ∷ 7 ∷ 8 ∷ 9 ∷ 10 ∷ 11 ∷ 12 ∷ 13 ∷ 14 ∷ 15 ∷ 16 ∷ 17 ∷ 18 ∷ 19
+    ∷ 20 ∷ 21 ∷ 22 ∷ 23 ∷ 24 ∷ 25 ∷ 26 ∷ 27 ∷ 28 ∷ 29 ∷ 30 ∷ 31 ∷ 0 ∷ 0 ∷ 0 ∷ 1 ∷ 241 ∷ 225 ∷ 209 ∷ 193
+    ∷ 177 ∷ 161 ∷ 145 ∷ 129 ∷ 113 ∷ 97 ∷ 81 ∷ 65 ∷ 49 ∷ 33 ∷ 17 ∷ 1 ∷ 240 ∷ 224 ∷ 208 ∷ 192 ∷ 176 ∷ 160 ∷ 144 ∷ 128
+    ∷ 112 ∷ 96 ∷ 80 ∷ 64 ∷ 48 ∷ 32 ∷ 16 ∷ 0 ∷ 0 ∷ 0 ∷ 0 ∷ 5 ∷ 0 ∷ 0 ∷ 0 ∷ 13 ∷ 0 ∷ 0 ∷ 0 ∷ 2
+    ∷ 0 ∷ 0 ∷ 0 ∷ 3 ∷ 0 ∷ 0 ∷ 0 ∷ 7 ∷ 0 ∷ 0 ∷ 48 ∷ 57 ∷ 0 ∷ 0 ∷ 0 ∷ 3 ∷ 67 ∷ 17 ∷ 0 ∷ 0
+    ∷ 0 ∷ 0 ∷ 1 ∷ 0 ∷ 0 ∷ 0 ∷ 2 ∷ 81 ∷ 2 ∷ 92 ∷ 97 ∷ 251 ∷ 207 ∷ 192 ∷ 120 ∷ 246 ∷ 147 ∷ 52 ∷ 248 ∷ 52
+    ∷ 190 ∷ 109 ∷ 210 ∷ 109 ∷ 85 ∷ 169 ∷ 85 ∷ 195 ∷ 52 ∷ 65 ∷ 40 ∷ 224 ∷ 96 ∷ 18 ∷ 142 ∷ 222 ∷ 53 ∷ 35 ∷ 162 ∷ 74
+    ∷ 70 ∷ 28 ∷ 137 ∷ 67 ∷ 171 ∷ 8 ∷ 89 ∷ []
+
 -- ---- the table
 
 pub data Case : Type 0 where
@@ -87,6 +100,8 @@ pub data Case : Type 0 where
   checks : List ℕ → ℕ → ℕ → Case
   -- accepted bytes; their rows, whole
   lists : List ℕ → List ℕ → Case
+  -- bytes of an operation alone; number and place
+  reads : List ℕ → ℕ → ℕ → Case
 
 abbrev rowsOf : Result (Signed (avm 256)) → List ℕ
 rowsOf (took v n) = rows (entries (avm 256) v)
@@ -95,6 +110,7 @@ rowsOf (refused e) = []
 abbrev pub Holds : Case → Type 0
 Holds (checks s n p) = verdict (check (avm 256) s) ≡ (n, p)
 Holds (lists s rs) = rowsOf (check (avm 256) s) ≡ rs
+Holds (reads s n p) = verdict (read operation s 0) ≡ (n, p)
 
 abbrev pub AllHold : List Case → Type 0
 AllHold [] = Unit {0}
@@ -130,8 +146,10 @@ table =
     -- the signed example as published; and with its indices put right, which is type 1 over a base body
     ∷ checks published 6 238
     ∷ checks ordered 8 250
+    -- the operation that lacks its locktime: its second address is not there
+    ∷ reads withoutLocktime 2 135
     ∷ []
 
 pub proved-cases : AllHold table
 unfolding Any.check unsigned head wants credentials signatureWidth owners amount transferBody output transferableOutput key indices spend inputAfter terms action operation fxId stateOutputs initialStateAfter guard string text printable unprintable denomination constant tag counted number blobRun items listRun listWrite value digits below rows entriesFrom credentialEntries form wanted asked planEntries atLeast entries
-proved-cases = (refl, (refl, (refl, (refl, (refl, (refl, (refl, (refl, (refl, (refl, (refl, (refl, (refl, (refl, (refl, tt)))))))))))))))
+proved-cases = (refl, (refl, (refl, (refl, (refl, (refl, (refl, (refl, (refl, (refl, (refl, (refl, (refl, (refl, (refl, (refl, tt))))))))))))))))

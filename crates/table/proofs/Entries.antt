@@ -21,7 +21,7 @@ use Rattle.element.specs.Strings.{memo, name, symbol, denomination}
 use Rattle.element.specs.Outputs.{OutputType, Output, output, TransferableOutput, transferableOutput}
 use Rattle.element.specs.Inputs.{Input, input}
 use Rattle.element.specs.Operations.{Operation, operation, InitialState, Fx, fxCode, fxOf, fxOf-code, fxOutputs, fxId, stateOutputs, initialStateAfter, initialState}
-use Rattle.transaction.specs.Entries.{EntryAt, kindOf, credentialEntries, outputEntry, exportedEntry, inputEntry, importedEntry, operationEntry, stateOutputEntry, stateEntries, entriesFrom}
+use Rattle.transaction.specs.Entries.{EntryAt, entryKind, credentialEntries, outputEntry, exportedEntry, inputEntry, importedEntry, operationEntry, stateOutputEntry, stateEntries, entriesFrom}
 use Rattle.transaction.specs.Plan.{Value, form, atLeast, planEntries}
 use Rattle.transaction.specs.Signed as Any
 use Rattle.transaction.specs.Family.{Head, head, Signed, Unsigned, unsigned, wants, check, entries}
@@ -39,7 +39,7 @@ use Rattle.table.specs.declared.Row.{Row}
 
 -- an entry's row
 abbrev pub located : EntryAt → Row
-located e = row (kindOf (e .fields)) (e .start) (e .end)
+located e = row (entryKind (e .fields)) (e .start) (e .end)
 
 -- ---- a list that was read: its rows are those of its entries, whatever its elements are
 

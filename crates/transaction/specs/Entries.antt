@@ -1,7 +1,10 @@
 -- Entries: the rows of the table, and the typed fields of each, from the values and where they stand. Assumes nothing.
 use Prim.Native.Nat.{ℕ, _+_, _-_, _*_}
 use mathlib.Core.List.{List, [], _∷_, _++_}
+use mathlib.Core.Option.{Option, none, some}
 use lib.ListN.{length, replicate}
+use lib.Dec.{eqb}
+use Rattle.wire.specs.Bytes.{pick}
 use Rattle.wire.specs.Format.{Format}
 use Rattle.wire.specs.Series.{notBelow}
 use Rattle.element.specs.Outputs.{Output, output, TransferableOutput, outputFields}
@@ -12,14 +15,14 @@ use Rattle.transaction.specs.Credentials.{Want, credentialCode}
 use Rattle.transaction.specs.declared.Entry.{Entry}
 use Rattle.transaction.specs.declared.Entry.the-variants as E
 
-abbrev pub kindOf : Entry → ℕ
-kindOf (E.Output f) = 1
-kindOf (E.Input f) = 2
-kindOf (E.Operation f) = 3
-kindOf (E.ImportedInput f) = 4
-kindOf (E.ExportedOutput f) = 5
-kindOf (E.InitialStateOutput f) = 6
-kindOf (E.Credential f) = 7
+abbrev pub entryKind : Entry → ℕ
+entryKind (E.Output f) = 1
+entryKind (E.Input f) = 2
+entryKind (E.Operation f) = 3
+entryKind (E.ImportedInput f) = 4
+entryKind (E.ExportedOutput f) = 5
+entryKind (E.InitialStateOutput f) = 6
+entryKind (E.Credential f) = 7
 
 -- an entry from `start` up to `end`: its typed fields, and the identifiers beside them, zero bytes where it has none
 pub record EntryAt : Type 0 where
@@ -31,7 +34,12 @@ pub record EntryAt : Type 0 where
 
 -- the three numbers of a row: kind, start, length
 abbrev pub row : EntryAt → List ℕ
-row e = kindOf (e .fields) ∷ e .start ∷ (e .end - e .start) ∷ []
+row e = entryKind (e .fields) ∷ e .start ∷ (e .end - e .start) ∷ []
+
+-- entry n, from 0
+unfoldable pub nth : List EntryAt → ℕ → Option EntryAt
+nth [] n = none
+nth (e ∷ l) n = pick (eqb n 0) (some e) (nth l (n - 1))
 
 unfoldable pub rows : List EntryAt → List ℕ
 rows [] = []

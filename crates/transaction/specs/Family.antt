@@ -4,13 +4,14 @@ use mathlib.Core.Path.{_≡_, refl}
 use Prim.Native.Nat.{ℕ, _+_}
 use mathlib.Core.Bool.{Bool}
 use mathlib.Core.List.{List, _++_}
+use mathlib.Core.Option.{Option}
 use lib.ListN.{length}
 use Rattle.wire.specs.Numbers.{wrongCodec, unknownType}
 use Rattle.wire.specs.Format.{Format, Result}
 use Rattle.wire.specs.Fields.{number, blob, constant}
 use Rattle.wire.specs.Sequence.{andThen, named, tag}
 use Rattle.transaction.specs.Credentials.{Want}
-use Rattle.transaction.specs.Entries.{EntryAt, credentialEntries}
+use Rattle.transaction.specs.Entries.{EntryAt, nth, credentialEntries}
 use Rattle.transaction.specs.Plan.{Plan, Value, form, wanted, planEntries}
 use Rattle.transaction.specs.Signed as Any
 
@@ -71,3 +72,6 @@ module _ (F : Family) where
   entries (u, l) =
       planEntries (F .plan (u .0 .kind)) (u .1) (length (head .write (u .0)))
       ++ credentialEntries (wants u) (length (unsigned .write u) + 4)
+
+  abbrev pub entry : Signed → ℕ → Option EntryAt
+  entry v = nth (entries v)

@@ -33,6 +33,7 @@ tooLong = 1
 abbrev pub bytesAfterEnd : ℕ
 bytesAfterEnd = 13
 
+-- what is judged of a request: its room, its number, its step, its drafts
 abbrev pub noRoom : ℕ
 noRoom = 14
 
