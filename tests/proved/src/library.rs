@@ -26,11 +26,6 @@ pub fn probe_table(bytes: &[u8], table: &mut [u32]) -> u64 {
     // SAFETY: the pointers and the lengths are those of two slices, of which the second is
     // borrowed mutably, so that they do not overlap; the function asks for nothing else.
     unsafe {
-        c::cellfacet_probe_table(
-            bytes.as_ptr(),
-            bytes.len(),
-            table.as_mut_ptr(),
-            table.len(),
-        )
+        c::cellfacet_probe_table(bytes.as_ptr(), bytes.len(), table.as_mut_ptr(), table.len())
     }
 }

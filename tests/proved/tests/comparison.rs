@@ -7,9 +7,9 @@ use std::path::{Path, PathBuf};
 
 use cellfacet_proved::compare::{compare, Difference, Met, KINDS};
 use cellfacet_proved::Proved;
+use cellfacet_tests::check;
 use cellfacet_tests::encode::Encoder;
 use cellfacet_tests::generate::Requests;
-use cellfacet_tests::check;
 use cellfacet_tests::lines::{answer, serve, unhex, Hex};
 
 const SEED: u64 = 20_251_115;
