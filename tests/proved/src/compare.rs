@@ -10,7 +10,7 @@ use cellfacet_tests::lines::answer;
 use crate::Proved;
 
 /// The kinds of requests that the proved code answers.
-pub const KINDS: [Kind; 2] = [Kind::CheckNone, Kind::PhoneCheck];
+pub const KINDS: [Kind; 3] = [Kind::Check, Kind::CheckNone, Kind::PhoneCheck];
 
 /// A request that the two answer differently. No answer is a line that is no request.
 #[derive(Debug, PartialEq, Eq)]
@@ -38,6 +38,8 @@ impl fmt::Display for Difference {
 pub struct Met {
     /// How many requests.
     pub requests: usize,
+    /// How many of them with a lent table.
+    pub tables: usize,
     /// The answers to `check`: number, and the transaction's type where it is accepted.
     pub checks: BTreeSet<(u32, Option<u8>)>,
     /// The fewest and the most bytes checked.
@@ -54,9 +56,10 @@ impl Met {
             return Err(Difference { request, proved, independent });
         }
         self.requests += 1;
-        if let (["check", bytes, "none"], Some(answer)) =
+        if let (["check", bytes, room], Some(answer)) =
             (&request.split(' ').collect::<Vec<_>>()[..], proved)
         {
+            self.tables += usize::from(*room != "none");
             self.note(bytes, &answer);
         }
         Ok(())

@@ -7,12 +7,13 @@ use std::path::{Path, PathBuf};
 
 use cellfacet_proved::compare::{compare, Difference, Met, KINDS};
 use cellfacet_proved::Proved;
+use cellfacet_tests::check;
 use cellfacet_tests::encode::Encoder;
 use cellfacet_tests::generate::Requests;
 use cellfacet_tests::lines::{answer, serve, unhex, Hex};
 
 const SEED: u64 = 20_251_115;
-const REQUESTS: usize = 240_000;
+const REQUESTS: usize = 300_000;
 
 fn data() -> PathBuf {
     Path::new(env!("CARGO_MANIFEST_DIR")).join("../data")
@@ -29,7 +30,14 @@ fn case_a() -> Vec<u8> {
     example(&data().join("case-a.hex"))
 }
 
-/// Both ways to ask for a check.
+/// Checks with a lent table: of no room, of some, of all that is used and one less or more.
+fn tables(bytes: &[u8]) -> Vec<String> {
+    let exact = 3 * check(bytes).map_or(0, |transaction| transaction.rows);
+    let rooms = BTreeSet::from([0, 3, exact.saturating_sub(1), exact, exact + 1, 9816]);
+    rooms.iter().map(|room| format!("check {} {room}", Hex(bytes))).collect()
+}
+
+/// Both ways to ask for a check with no table.
 fn requests(bytes: &[u8]) -> [String; 2] {
     [format!("check {} none", Hex(bytes)), format!("phone-check {}", Hex(bytes))]
 }
@@ -43,10 +51,11 @@ fn random_requests() {
     println!("seed {SEED}, {REQUESTS} requests");
     let met = alike(Requests::new(SEED, KINDS.to_vec()).take(REQUESTS));
     assert_eq!(met.requests, REQUESTS);
+    assert!(met.tables >= 60_000, "{} with a lent table", met.tables);
     // Every type is accepted at times, every number of the check is met, and no bytes are as
     // well there as more bytes than any transaction has.
     let accepted = (0..=4).map(|type_id| (0, Some(type_id)));
-    let refused = (1..=13).map(|number| (number, None));
+    let refused = (1..=14).map(|number| (number, None));
     assert_eq!(met.checks, accepted.chain(refused).collect::<BTreeSet<_>>());
     let (least, most) = met.lengths.expect("some were checked");
     assert!(least == 0 && most > 65_536, "{least} to {most} bytes");
@@ -65,6 +74,7 @@ fn published_examples() {
             let two = coded.clone().list(&[&blank, &blank]).done();
             for bytes in [bytes, coded.done(), one, two] {
                 alike(requests(&bytes));
+                alike(tables(&bytes));
             }
             files += 1;
         }
@@ -88,6 +98,7 @@ fn every_byte_of_case_a_with_every_value() {
 fn case_a_cut_and_continued() {
     let longer = [case_a(), vec![0; 3]].concat();
     alike((0..=longer.len()).flat_map(|length| requests(&longer[..length])));
+    alike((0..=longer.len()).flat_map(|length| tables(&longer[..length])));
 }
 
 #[test]
@@ -101,28 +112,34 @@ fn the_proved_cases() {
     assert_eq!(answer(&Proved, &requests(&a)[0]), Some("0 392".into()));
     assert_eq!(answer(&Proved, &requests(&a)[1]), Some("392".into()));
     assert_eq!(answer(&Proved, &requests(&a[..391])[0]), Some("2 327".into()));
+    let rows = "1 46 100 2 150 92 7 254 138";
+    let tabled = [(8, "14 0 0 kept".into()), (9, format!("0 392 3 {rows} kept"))];
+    for (room, line) in tabled {
+        let request = format!("check {} {room}", Hex(&a));
+        assert_eq!(answer(&Proved, &request), Some(line));
+    }
     let packed = (2_u64 << 32) + 327;
     assert_eq!(answer(&Proved, &requests(&a[..391])[1]), Some(packed.to_string()));
 }
 
 #[test]
 fn lines_that_are_not_answered() {
-    let input = b"check - none\ncheck - 0\nmerge - - 0\nwrite 0 finish\nfoo\n";
+    let input = b"check - none\ncheck - 0\nentry - 0\nmerge - - 0\nwrite 0 finish\nfoo\n";
     let mut output = Vec::new();
     serve(&Proved, &input[..], &mut output).expect("no failing write");
-    let lines = "2 0\nnot yet\nnot yet\nnot yet\nbad request\n";
+    let lines = "2 0\n2 0 0 kept\nnot yet\nnot yet\nnot yet\nbad request\n";
     assert_eq!(String::from_utf8(output).expect("text"), lines);
 }
 
 #[test]
 fn a_difference_is_found_and_shown() {
-    let difference = compare(["check - 0".to_string()]).expect_err("a difference");
+    let difference = compare(["entry - 0".to_string()]).expect_err("a difference");
     let expected = Difference {
-        request: "check - 0".into(),
+        request: "entry - 0".into(),
         proved: Some("not yet".into()),
-        independent: Some("2 0 0 kept".into()),
+        independent: Some("2 0".into()),
     };
     assert_eq!(difference, expected);
-    let shown = "request: check - 0\nproved: not yet\nindependent: 2 0 0 kept";
+    let shown = "request: entry - 0\nproved: not yet\nindependent: 2 0";
     assert_eq!(difference.to_string(), shown);
 }

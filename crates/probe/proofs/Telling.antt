@@ -1,0 +1,19 @@
+-- The answer with a lent table as one number. Assumes nothing.
+use Prim.Native.Nat.{ℕ, _+_, _*_, _%_}
+use mathlib.Core.Path.{_≡_, sym, ap, _∙_}
+use mathlib.Core.List.{List}
+use Rattle.wire.specs.declared.Refusal.{Refusal}
+use Rattle.table.specs.Table.{filled, tabled}
+use Rattle.table.specs.declared.Tabled.{Tabled}
+use Rattle.table.specs.declared.Tabled.the-variants as T
+use Rattle.probe.specs.Probed.{probed, packed, told}
+
+-- x is what the check answered, and u what the table holds then
+module _ (s t u : List ℕ) (x : Tabled) (p : filled x u ≡ tabled s t) where
+  pub listed-told : (n : ℕ) → x ≡ T.Listed n → probed (n % 4294967296) u ≡ told (tabled s t)
+  listed-told n q = sym (ap (λ y. told (filled y u)) q) ∙ ap told p
+
+  pub refused-told : (e : Refusal) → x ≡ T.Refused e → probed (e .number * 4294967296 + e .place % 4294967296) u ≡ told (tabled s t)
+  refused-told e q = sym (ap (λ y. told (filled y u)) q) ∙ ap told p
+
+pub ruleset telling = (listed-told, refused-told)

@@ -1,0 +1,2 @@
+-- What a test is answered
+pub mod Probed
