@@ -2,7 +2,6 @@
 //! transactions, prints what is expected.
 #![allow(missing_docs)]
 
-use std::env;
 use std::fs;
 use std::path::{Path, PathBuf};
 use std::process::Command;
@@ -25,10 +24,8 @@ fn program() -> PathBuf {
     let program = root.join("target/bin/entries");
     BUILT.call_once(|| {
         if !program.exists() {
-            let path = env::var("PATH").unwrap_or_default() + ":/opt/rattle/bin";
-            let mut check = Command::new("rt");
-            check.args(["check", "entries"]).env("PATH", path).current_dir(&root);
-            assert!(check.status().expect("rt").success(), "`rt check entries` failed");
+            let check = Command::new("rt").args(["check", "entries"]).current_dir(&root).status();
+            assert!(check.expect("rt").success(), "`rt check entries` failed");
         }
     });
     program.canonicalize().expect("the program")
