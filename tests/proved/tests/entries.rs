@@ -24,7 +24,8 @@ fn program() -> PathBuf {
     let program = root.join("target/bin/entries");
     BUILT.call_once(|| {
         if !program.exists() {
-            let check = Command::new("rt").args(["check", "entries"]).current_dir(&root).status();
+            let check =
+                Command::new("rt").args(["check", "entries"]).current_dir(&root).status();
             assert!(check.expect("rt").success(), "`rt check entries` failed");
         }
     });
