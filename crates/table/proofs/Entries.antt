@@ -104,13 +104,13 @@ module _ (s : List ℕ) (b : Slice s) where
       ap (λ (f : Fx). output (fxOutputs f) .run s at (λ e. []) (λ v next. row 6 at next ∷ stateOutputRows (fxCode k) n s next go)) (fxOf-code k)
       ∙ W.run-took (output (fxOutputs k)) s at (λ e. []) _ v m (ea ∙ e₂)
 
-  fx-number : (at : ℕ) (k : Fx) (i : ℕ) → read fxId s at ≡ took k i → read (number 4) s at ≡ took (fxCode k) i
+  pub fx-number : (at : ℕ) (k : Fx) (i : ℕ) → read fxId s at ≡ took k i → read (number 4) s at ≡ took (fxCode k) i
   unfolding fxId tag
   fx-number at k i h =
       let (g, st) = fxId .sound s at k i (slice-bytes s b) h in
       read-complete (number 4) s at (fxCode k) (drop i s) (g .0) (st .there) ∙ ap (took (fxCode k)) (sym (st .ends))
 
-  number-next : (at v n : ℕ) → read (number 4) s at ≡ took v n → n ≡ at + 4
+  pub number-next : (at v n : ℕ) → read (number 4) s at ≡ took v n → n ≡ at + 4
   number-next at v n h = written-next (number 4) s at v n b h ∙ ap (λ j. at + j) (length-number 4 v)
 
   states-one : (later : List Row) (prev : List ℕ) (at : ℕ) (v : InitialState) (m : ℕ) → read (initialState prev) s at ≡ took v m
@@ -190,7 +190,7 @@ module _ (s : List ℕ) (b : Slice s) where
       omega (arith, g .0, ap length (st .there), length-append x (drop m s), length-drop at s, length-drop m s)
 
   -- n signatures that were read are so many bytes, and then the others
-  signatures-inv : (n : ℕ) (ps : List Piece) (at : ℕ) (l : List (List ℕ)) (e : ℕ) → read (pieces (signatures n ps)) s at ≡ took l e
+  pub signatures-inv : (n : ℕ) (ps : List Piece) (at : ℕ) (l : List (List ℕ)) (e : ℕ) → read (pieces (signatures n ps)) s at ≡ took l e
       → (l′ : List (List ℕ)) × (read (pieces ps) s (at + signatureWidth * n) ≡ took l′ e) × (signatureWidth * n ≤ length s - at)
   unfolding pieces signatures cons «as» andThen
   signatures-inv zero ps at l e h = (l, rw (mul-zero signatureWidth, add-zero at) h, rw (mul-zero signatureWidth) (omega arith))

@@ -91,7 +91,7 @@ refused-tabled (refused d) e t h = let i : d ≡ e = cc in rw i
 pub on-refused : (s t : List ℕ) (x : Checked) (e : Refusal) → x ≡ checked s → x ≡ C.Refused e → filled (T.Refused e) t ≡ tabled s t
 on-refused s t x e p q = refused-tabled (check (avm memoMost) s) e t (found p q)
 
-accepted-inv : (o : Result (Signed (avm memoMost))) (w : Layout) → onResult o C.Refused (λ v n. C.Accepted (layout (v .0))) ≡ C.Accepted w → (v : Signed (avm memoMost)) × (n : ℕ) × (o ≡ took v n) × (w ≡ layout (v .0))
+pub accepted-inv : (o : Result (Signed (avm memoMost))) (w : Layout) → onResult o C.Refused (λ v n. C.Accepted (layout (v .0))) ≡ C.Accepted w → (v : Signed (avm memoMost)) × (n : ℕ) × (o ≡ took v n) × (w ≡ layout (v .0))
 accepted-inv (took v n) w h = (v, n, refl, cc)
 accepted-inv (refused e) w h = let z : _≡_ {A = ℕ} 0 1 = cc in absurd (omega arith)
 

@@ -1,0 +1,19 @@
+-- `entry::credential_typed` meets its contract. Assumes nothing.
+use borrow.Author.Needs.{needs}
+use Rattle.entry.proofs.Typing.{passing}
+use Rattle.entry.proofs.credential_typed.Statement.{statement}
+use Rattle.entry.proofs.credential_typed.Tie as tie
+
+pub credential-typed-spec : {M : Type 1} → statement M
+credential-typed-spec =
+    tie.close
+    (tie.spec
+    (λ c κs. search needs)  -- u32-at-requires
+    (λ c. search needs)  -- enum-known-type-id
+    (λ c. search needs)  -- enum-told
+    (λ c. search passing depth 10)  -- returns
+    (λ c κs. search needs)  -- u32-at-requires-2
+    (λ c. search needs)  -- enum-known-signatures-count
+    (λ c. search needs)  -- enum-told-2
+    (λ c. search passing depth 10)  -- returns-2
+    (λ c. search passing depth 10))  -- returns-3

@@ -1,0 +1,15 @@
+-- `entry::operation_typed` meets its contract. Assumes nothing.
+use borrow.Author.Needs.{needs}
+use Rattle.entry.proofs.Typing.{typing}
+use Rattle.entry.proofs.operation_typed.Statement.{statement}
+use Rattle.entry.proofs.operation_typed.Tie as tie
+
+pub operation-typed-spec : {M : Type 1} → statement M
+operation-typed-spec =
+    tie.close
+    (tie.spec
+    (λ c κs. search needs)  -- operation-at-requires
+    (λ c. search needs)  -- enum-told
+    (λ c. search needs)  -- enum-known-fields
+    (λ c. search typing depth 10)  -- returns
+    (λ c. search typing depth 10))  -- returns-2

@@ -1,0 +1,18 @@
+-- `entry::row_entry` meets its contract. Assumes nothing.
+use borrow.Author.Needs.{needs}
+use Rattle.entry.proofs.Typing.{typing}
+use Rattle.entry.proofs.row_entry.Statement.{statement}
+use Rattle.entry.proofs.row_entry.Tie as tie
+
+pub row-entry-spec : {M : Type 1} → statement M
+row-entry-spec =
+    tie.close
+    (tie.spec
+    (λ c κs. search needs)  -- typed-at-requires
+    (λ c. search needs)  -- enum-told
+    (λ c κs. search needs)  -- missing-requires
+    (λ c. search needs)  -- enum-known-fields
+    (λ c κs. search needs)  -- asset-at-requires
+    (λ c κs. search needs)  -- txid-at-requires
+    (λ c. search typing depth 10)  -- returns
+    (λ c. search typing depth 10))  -- returns-2

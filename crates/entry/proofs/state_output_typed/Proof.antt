@@ -1,0 +1,15 @@
+-- `entry::state_output_typed` meets its contract. Assumes nothing.
+use borrow.Author.Needs.{needs}
+use Rattle.entry.proofs.Typing.{typing}
+use Rattle.entry.proofs.state_output_typed.Statement.{statement}
+use Rattle.entry.proofs.state_output_typed.Tie as tie
+
+pub state-output-typed-spec : {M : Type 1} → statement M
+state-output-typed-spec =
+    tie.close
+    (tie.spec
+    (λ c κs. search needs)  -- state-output-at-requires
+    (λ c. search needs)  -- enum-told
+    (λ c. search needs)  -- enum-known-fields
+    (λ c. search typing depth 10)  -- returns
+    (λ c. search typing depth 10))  -- returns-2

@@ -1,0 +1,15 @@
+-- `entry::txid_at` meets its contract. Assumes nothing.
+use borrow.Author.Needs.{needs}
+use Rattle.entry.proofs.Typing.{passing}
+use Rattle.entry.proofs.txid_at.Statement.{statement}
+use Rattle.entry.proofs.txid_at.Tie as tie
+
+pub txid-at-spec : {M : Type 1} → statement M
+txid-at-spec =
+    tie.close
+    (tie.spec
+    (λ c κs. search needs)  -- id-at-requires
+    (λ c. search passing depth 10)  -- returns
+    (λ c κs. search needs)  -- id-at-requires-2
+    (λ c. search passing depth 10)  -- returns-2
+    (λ c. search passing depth 10))  -- returns-3

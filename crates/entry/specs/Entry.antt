@@ -1,0 +1,31 @@
+-- Entry n as typed fields (document 01, "Entries and table"). Assumes nothing.
+use Prim.Native.Nat.{ℕ}
+use mathlib.Core.List.{List}
+use mathlib.Core.Option.{Option, none, some}
+use Rattle.wire.specs.Numbers.{refusal, noEntry}
+use Rattle.wire.specs.Format.{onResult}
+use Rattle.wire.specs.declared.Refusal.{Refusal}
+use Rattle.transaction.specs.Entries.{EntryAt, noId}
+use Rattle.transaction.specs.Family.{check, entry}
+use Rattle.transaction.specs.Avm.{avm}
+use Rattle.transaction.specs.Answer.{memoMost}
+use Rattle.entry.specs.declared.EntryRead.{EntryRead}
+use Rattle.entry.specs.declared.EntryAnswer.the-variants as A
+
+abbrev pub refusedEntry : Refusal → EntryRead
+refusedEntry e = record { answer = A.Refused e; asset = noId; txid = noId }
+
+abbrev pub missingEntry : EntryRead
+missingEntry = refusedEntry (refusal noEntry 0)
+
+-- an entry of a transaction of so many bytes
+abbrev pub foundEntry : ℕ → EntryAt → EntryRead
+foundEntry bytes e = record { answer = A.Found (e .fields) (e .start) (e .end) bytes; asset = e .asset; txid = e .txid }
+
+abbrev pub entryAnswer : ℕ → Option EntryAt → EntryRead
+entryAnswer bytes none = missingEntry
+entryAnswer bytes (some e) = foundEntry bytes e
+
+-- the check's own refusal comes first
+abbrev pub entryOf : List ℕ → ℕ → EntryRead
+entryOf s n = onResult (check (avm memoMost) s) refusedEntry (λ v end. entryAnswer end (entry (avm memoMost) v n))

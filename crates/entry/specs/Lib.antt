@@ -1,0 +1,3 @@
+-- Entry n as typed fields
+pub mod Entry
+pub mod Typed

@@ -1,0 +1,235 @@
+// Entry n of an accepted transaction, as typed fields: its row is found by the walk, and read once more by its kind.
+ghost use mathlib.Core.Path.{_≡_};
+ghost use Rattle.entry.specs.Entry.{refusedEntry, missingEntry, entryOf};
+ghost use Rattle.entry.specs.Typed.{stateOutputAt, inputAt, outputTyped, stateOutputTyped, inputTyped, operationTyped, credentialTyped, typedAt, behindKey, assetAt, txidAt, rowEntry};
+use element::InputRead;
+use element::OperationRead;
+use element::OutputRead;
+use table::Nth;
+use table::Row;
+use transaction::Checked;
+use transaction::CredentialFields;
+use transaction::Entry;
+use wire::Number;
+use wire::Part;
+use wire::Refusal;
+
+// An entry with its start, its end, and the bytes of the whole transaction.
+pub enum EntryAnswer {
+    Found(Entry, usize, usize, usize),
+    Refused(Refusal),
+}
+
+// The identifiers stand beside the typed fields, zero bytes where the entry has none.
+pub struct EntryRead {
+    pub answer: EntryAnswer,
+    pub asset: [u8; 32],
+    pub txid: [u8; 32],
+}
+
+pub enum Typed {
+    Entry(Entry),
+    Missing,
+}
+
+// An output of any type: those of FxID 0 are below 10.
+fn state_output_at(s: &[u8], at: usize) -> OutputRead
+    ensures { λ r. ⌜ r ≡ stateOutputAt (now (s .entry)) at ⌝ }
+{
+    let Number::Value(kind, _) = wire::u32_at(s, at) else {
+        return OutputRead::Refused(wire::cut(s, at, 4));
+    };
+    if kind < 10 {
+        return element::outputs::secp_at(s, at);
+    }
+    element::outputs::nft_at(s, at)
+}
+
+// An input, whatever stands before it.
+fn input_at(s: &[u8], at: usize) -> InputRead
+    ensures { λ r. ⌜ r ≡ inputAt (now (s .entry)) at ⌝ }
+{
+    let Part::Next(i) = wire::part_at(s, at, 32) else {
+        return InputRead::Refused(wire::cut(s, at, 32));
+    };
+    let Number::Value(index, e) = wire::u32_at(s, i) else {
+        return InputRead::Refused(wire::cut(s, i, 4));
+    };
+    element::inputs::spend_at(s, e, index)
+}
+
+fn output_typed(s: &[u8], kind: u32, at: usize) -> Typed
+    ensures { λ r. ⌜ r ≡ outputTyped kind (now (s .entry)) at ⌝ }
+{
+    match element::outputs::transferable_at(s, at) {
+        OutputRead::Refused(_) => Typed::Missing,
+        OutputRead::Whole(fields, _) => {
+            if kind == 1 {
+                return Typed::Entry(Entry::Output(fields));
+            }
+            Typed::Entry(Entry::ExportedOutput(fields))
+        }
+    }
+}
+
+fn input_typed(s: &[u8], kind: u32, at: usize) -> Typed
+    ensures { λ r. ⌜ r ≡ inputTyped kind (now (s .entry)) at ⌝ }
+{
+    match input_at(s, at) {
+        InputRead::Refused(_) => Typed::Missing,
+        InputRead::Whole(fields, _) => {
+            if kind == 2 {
+                return Typed::Entry(Entry::Input(fields));
+            }
+            Typed::Entry(Entry::ImportedInput(fields))
+        }
+    }
+}
+
+fn operation_typed(s: &[u8], at: usize) -> Typed
+    ensures { λ r. ⌜ r ≡ operationTyped (now (s .entry)) at ⌝ }
+{
+    match element::operations::operation_at(s, at) {
+        OperationRead::Refused(_) => Typed::Missing,
+        OperationRead::Whole(fields, _) => Typed::Entry(Entry::Operation(fields)),
+    }
+}
+
+fn state_output_typed(s: &[u8], at: usize) -> Typed
+    ensures { λ r. ⌜ r ≡ stateOutputTyped (now (s .entry)) at ⌝ }
+{
+    match state_output_at(s, at) {
+        OutputRead::Refused(_) => Typed::Missing,
+        OutputRead::Whole(fields, _) => Typed::Entry(Entry::InitialStateOutput(fields)),
+    }
+}
+
+fn credential_typed(s: &[u8], at: usize) -> Typed
+    ensures { λ r. ⌜ r ≡ credentialTyped (now (s .entry)) at ⌝ }
+{
+    let Number::Value(type_id, i) = wire::u32_at(s, at) else {
+        return Typed::Missing;
+    };
+    let Number::Value(signatures_count, signatures_at) = wire::u32_at(s, i) else {
+        return Typed::Missing;
+    };
+    Typed::Entry(Entry::Credential(CredentialFields {
+        type_id,
+        signatures_at,
+        signatures_count,
+    }))
+}
+
+// The fields of an entry of this kind.
+fn typed_at(s: &[u8], kind: u32, at: usize) -> Typed
+    ensures { λ r. ⌜ r ≡ typedAt kind (now (s .entry)) at ⌝ }
+{
+    if kind == 7 {
+        return credential_typed(s, at);
+    }
+    if kind == 6 {
+        return state_output_typed(s, at);
+    }
+    if kind == 3 {
+        return operation_typed(s, at);
+    }
+    if kind == 2 {
+        return input_typed(s, kind, at);
+    }
+    if kind == 4 {
+        return input_typed(s, kind, at);
+    }
+    output_typed(s, kind, at)
+}
+
+// An input's asset id stands behind its key.
+fn behind_key(s: &[u8], at: usize) -> [u8; 32]
+    ensures { λ r. ⌜ r ≡ behindKey (now (s .entry)) at ⌝ }
+{
+    let Part::Next(i) = wire::part_at(s, at, 32) else {
+        return [0u8; 32];
+    };
+    let Number::Value(_, a) = wire::u32_at(s, i) else {
+        return [0u8; 32];
+    };
+    wire::id_at(s, a)
+}
+
+// Outputs and operations start with their asset id.
+fn asset_at(s: &[u8], kind: u32, at: usize) -> [u8; 32]
+    ensures { λ r. ⌜ r ≡ assetAt kind (now (s .entry)) at ⌝ }
+{
+    if kind == 7 {
+        return [0u8; 32];
+    }
+    if kind == 6 {
+        return [0u8; 32];
+    }
+    if kind == 2 {
+        return behind_key(s, at);
+    }
+    if kind == 4 {
+        return behind_key(s, at);
+    }
+    wire::id_at(s, at)
+}
+
+// Only inputs have a transaction id: it is the first of them.
+fn txid_at(s: &[u8], kind: u32, at: usize) -> [u8; 32]
+    ensures { λ r. ⌜ r ≡ txidAt kind (now (s .entry)) at ⌝ }
+{
+    if kind == 2 {
+        return wire::id_at(s, at);
+    }
+    if kind == 4 {
+        return wire::id_at(s, at);
+    }
+    [0u8; 32]
+}
+
+fn refused(refusal: Refusal) -> EntryRead
+    ensures { λ r. ⌜ r ≡ refusedEntry refusal ⌝ }
+{
+    EntryRead {
+        answer: EntryAnswer::Refused(refusal),
+        asset: [0u8; 32],
+        txid: [0u8; 32],
+    }
+}
+
+// There is no such entry.
+fn missing() -> EntryRead
+    ensures { λ r. ⌜ r ≡ missingEntry ⌝ }
+{
+    refused(Refusal {
+        number: wire::numbers::NO_ENTRY,
+        place: 0,
+    })
+}
+
+// The entry of a row.
+fn row_entry(s: &[u8], row: Row) -> EntryRead
+    ensures { λ r. ⌜ r ≡ rowEntry (now (s .entry)) row ⌝ }
+{
+    match typed_at(s, row.kind, row.start) {
+        Typed::Missing => missing(),
+        Typed::Entry(fields) => EntryRead {
+            answer: EntryAnswer::Found(fields, row.start, row.end, s.len()),
+            asset: asset_at(s, row.kind, row.start),
+            txid: txid_at(s, row.kind, row.start),
+        },
+    }
+}
+
+// Reads entry n, from 0. Bytes that are not accepted get the check's own refusal.
+pub fn entry(s: &[u8], n: u64) -> EntryRead
+    ensures { λ r. ⌜ r ≡ entryOf (now (s .entry)) n ⌝ }
+{
+    match transaction::check::check(s) {
+        Checked::Refused(refusal) => refused(refusal),
+        Checked::Accepted(layout) => match table::rows::find(s, layout, n) {
+            Nth::Missing => missing(),
+            Nth::Entry(row) => row_entry(s, row),
+        },
+    }
+}
