@@ -55,7 +55,7 @@ fn print_entries(buf: &[u8], n: usize) {
     }
     let mut rows = [0u32; 9816];
     match table::rows::check_table(&buf[..n], &mut rows) {
-        Tabled::Listed(count) => {
+        Tabled::Listed(count, _) => {
             print_rows(&rows, count);
         }
         Tabled::Refused(refusal) => {

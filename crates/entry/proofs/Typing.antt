@@ -2,7 +2,6 @@
 use Prim.Native.Nat.{ℕ}
 use mathlib.Core.Path.{_≡_, sym, ap, _∙_}
 use mathlib.Core.List.{List}
-use lib.ListN.{length}
 use Rattle.wire.specs.declared.Refusal.{Refusal}
 use Rattle.wire.proofs.Bytes.{found}
 use Rattle.wire.proofs.Reading as W
@@ -48,13 +47,13 @@ module _ (x y : OperationRead) (p : x ≡ y) where
   no-operation e q = sym (ap onOperation (found p q))
 
 -- the entry of a row
-module _ (x y : Typed) (p : x ≡ y) (s : List ℕ) (r : Row) where
-  pub row-missing : (z : EntryRead) → x ≡ T.Missing → z ≡ missingEntry → z ≡ onTyped y s r
-  row-missing z q e = e ∙ sym (ap (λ t. onTyped t s r) (found p q))
+module _ (x y : Typed) (p : x ≡ y) (s : List ℕ) (k : ℕ) (r : Row) where
+  pub row-missing : (z : EntryRead) → x ≡ T.Missing → z ≡ missingEntry → z ≡ onTyped y s k r
+  row-missing z q e = e ∙ sym (ap (λ t. onTyped t s k r) (found p q))
 
   pub row-typed : (f : Entry) (a t : List ℕ) → x ≡ T.Entry f → a ≡ assetAt (r .kind) s (r .start) → t ≡ txidAt (r .kind) s (r .start)
-      → _≡_ {A = EntryRead} record { answer = A.Found f (r .start) (r .end) (length s); asset = a; txid = t } (onTyped y s r)
-  row-typed f a t q ea et = rw (ea, et) (sym (ap (λ t. onTyped t s r) (found p q)))
+      → _≡_ {A = EntryRead} record { answer = A.Found f (r .start) (r .end) k; asset = a; txid = t } (onTyped y s k r)
+  row-typed f a t q ea et = rw (ea, et) (sym (ap (λ t. onTyped t s k r) (found p q)))
 
 pub ruleset typing = (typed-output, no-output, typed-input, no-input, typed-operation, no-operation, row-missing, row-typed, W.if-eq, W.if-ne)
 

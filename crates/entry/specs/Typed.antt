@@ -1,7 +1,6 @@
 -- What stands at a row, read by its kind alone. In an accepted transaction it is the row's entry (`entries-stand`, of proofs/Standing). Assumes nothing.
 use Prim.Native.Nat.{ℕ}
 use mathlib.Core.List.{List}
-use lib.ListN.{length}
 use lib.Dec.{eqb, ltb}
 use Rattle.wire.specs.Bytes.{pick}
 use Rattle.wire.specs.Fields.{number, blob}
@@ -85,12 +84,12 @@ assetAt kind s at =
 abbrev pub txidAt : ℕ → List ℕ → ℕ → List ℕ
 txidAt kind s at = pick (eqb kind 2) (wholeAt 32 s at) (pick (eqb kind 4) (wholeAt 32 s at) noId)
 
--- ---- the entry of a row
+-- ---- the entry of a row, in a transaction of so many bytes
 
-abbrev pub onTyped : Typed → List ℕ → Row → EntryRead
-onTyped (T.Entry f) s r =
-    record { answer = A.Found f (r .start) (r .end) (length s); asset = assetAt (r .kind) s (r .start); txid = txidAt (r .kind) s (r .start) }
-onTyped T.Missing s r = missingEntry
+abbrev pub onTyped : Typed → List ℕ → ℕ → Row → EntryRead
+onTyped (T.Entry f) s bytes r =
+    record { answer = A.Found f (r .start) (r .end) bytes; asset = assetAt (r .kind) s (r .start); txid = txidAt (r .kind) s (r .start) }
+onTyped T.Missing s bytes r = missingEntry
 
-abbrev pub rowEntry : List ℕ → Row → EntryRead
-rowEntry s r = onTyped (typedAt (r .kind) s (r .start)) s r
+abbrev pub rowEntry : List ℕ → ℕ → Row → EntryRead
+rowEntry s bytes r = onTyped (typedAt (r .kind) s (r .start)) s bytes r

@@ -207,14 +207,14 @@ fn missing() -> EntryRead
     })
 }
 
-// The entry of a row.
-fn row_entry(s: &[u8], row: Row) -> EntryRead
-    ensures { λ r. ⌜ r ≡ rowEntry (now (s .entry)) row ⌝ }
+// The entry of a row, in a transaction of so many bytes.
+fn row_entry(s: &[u8], row: Row, bytes: usize) -> EntryRead
+    ensures { λ r. ⌜ r ≡ rowEntry (now (s .entry)) bytes row ⌝ }
 {
     match typed_at(s, row.kind, row.start) {
         Typed::Missing => missing(),
         Typed::Entry(fields) => EntryRead {
-            answer: EntryAnswer::Found(fields, row.start, row.end, s.len()),
+            answer: EntryAnswer::Found(fields, row.start, row.end, bytes),
             asset: asset_at(s, row.kind, row.start),
             txid: txid_at(s, row.kind, row.start),
         },
@@ -227,9 +227,9 @@ pub fn entry(s: &[u8], n: u64) -> EntryRead
 {
     match transaction::check::check(s) {
         Checked::Refused(refusal) => refused(refusal),
-        Checked::Accepted(layout) => match table::rows::find(s, layout, n) {
+        Checked::Accepted(layout, bytes) => match table::rows::find(s, layout, n) {
             Nth::Missing => missing(),
-            Nth::Entry(row) => row_entry(s, row),
+            Nth::Entry(row) => row_entry(s, row, bytes),
         },
     }
 }

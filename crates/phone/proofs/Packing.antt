@@ -18,8 +18,10 @@ use Rattle.phone.specs.Packed.{packed}
 
 -- x is what the check answered
 module _ (s : List ℕ) (b : Slice s) (x : Checked) (p : x ≡ checked s) where
-  pub accepted-packed : (w : Layout) → x ≡ C.Accepted w → length s ≡ packed (verdict (check (avm memoMost) s))
-  accepted-packed w q = omega (arith, ap packed (checked-accepted s w (slice-bytes s b) (found q p) .0))
+  pub accepted-packed : (w : Layout) (n : ℕ) → x ≡ C.Accepted w n → n ≡ packed (verdict (check (avm memoMost) s))
+  accepted-packed w n q =
+      let (v, t, _) = checked-accepted s w n (found q p) in
+      omega (arith, ap (λ o. packed (verdict o)) t)
 
   pub refused-packed : (e : Refusal) → x ≡ C.Refused e → e .number * 4294967296 + e .place ≡ packed (verdict (check (avm memoMost) s))
   refused-packed e q = sym (ap packed (checked-refused s e (found q p)))

@@ -13,7 +13,7 @@ pub extern "C" fn cellfacet_check(bytes: &[u8]) -> u64
     ensures { λ r. ⌜ r ≡ packed (verdict (check (avm memoMost) (now (bytes .entry)))) ⌝ }
 {
     match transaction::check::check(bytes) {
-        Checked::Accepted(_) => bytes.len() as u64,
+        Checked::Accepted(_, end) => end as u64,
         Checked::Refused(refusal) => refusal.number as u64 * 4294967296 + refusal.place as u64,
     }
 }

@@ -10,10 +10,10 @@ use Rattle.probe.specs.Probed.{probed, packed, told}
 
 -- x is what the check answered, and u what the table holds then
 module _ (s t u : List ℕ) (x : Tabled) (p : filled x u ≡ tabled s t) where
-  pub listed-told : (n : ℕ) → x ≡ T.Listed n → probed (n % 4294967296) u ≡ told (tabled s t)
-  listed-told n q = sym (ap (λ y. told (filled y u)) q) ∙ ap told p
+  pub listed-told : (n end : ℕ) → x ≡ T.Listed n end → probed (n % 1048576 * 1048576 + end % 1048576) u ≡ told (tabled s t)
+  listed-told n end q = sym (ap (λ y. told (filled y u)) q) ∙ ap told p
 
-  pub refused-told : (e : Refusal) → x ≡ T.Refused e → probed (e .number * 4294967296 + e .place % 4294967296) u ≡ told (tabled s t)
+  pub refused-told : (e : Refusal) → x ≡ T.Refused e → probed (e .number % 1048576 * 1099511627776 + e .place % 1048576) u ≡ told (tabled s t)
   refused-told e q = sym (ap (λ y. told (filled y u)) q) ∙ ap told p
 
 pub ruleset telling = (listed-told, refused-told)

@@ -1,2 +1,3 @@
 -- What a test is answered
 pub mod Probed
+pub mod Values

@@ -12,10 +12,10 @@ pub record Probed : Type 0 where
 abbrev pub probed : ℕ → List ℕ → Probed
 probed a t = record { answer = a; table = t }
 
--- the row count, or number × 2^32 + place
+-- number × 2^40 + rows × 2^20 + place
 abbrev pub packed : Tabled → ℕ
-packed (T.Listed n) = n % 4294967296
-packed (T.Refused e) = e .number * 4294967296 + e .place % 4294967296
+packed (T.Listed rows end) = rows % 1048576 * 1048576 + end % 1048576
+packed (T.Refused e) = e .number % 1048576 * 1099511627776 + e .place % 1048576
 
 abbrev pub told : Filled → Probed
 told f = probed (packed (f .answer)) (f .table)

@@ -17,11 +17,12 @@ use Rattle.wire.proofs.Bytes.{Slice, slice-bytes, found}
 use Rattle.transaction.specs.Entries.{EntryAt, row, rows}
 use Rattle.transaction.specs.Family.{Signed, check, entries}
 use Rattle.transaction.specs.Avm.{avm}
-use Rattle.transaction.specs.Answer.{memoMost, layout, checked}
+use Rattle.transaction.specs.Answer.{memoMost, checked}
 use Rattle.transaction.specs.declared.Layout.{Layout}
 use Rattle.transaction.specs.declared.Checked.{Checked}
 use Rattle.transaction.specs.declared.Checked.the-variants as C
 use Rattle.transaction.proofs.Codec.{codec}
+use Rattle.transaction.proofs.Verdicts.{refused-check, checked-accepted}
 use Rattle.table.specs.Walk.{rest, start}
 use Rattle.table.specs.Rows.{numbers, putRow, putRows, counted}
 use Rattle.table.specs.Table.{filled, listed, tabled}
@@ -83,26 +84,17 @@ length-rows (e ∷ es) = omega (arith, length-append (row e) (rows es), length-r
 
 -- ---- what the answers of the check and of the count say
 
-refused-tabled : (o : Result (Signed (avm memoMost))) (e : Refusal) (t : List ℕ) → onResult o C.Refused (λ v n. C.Accepted (layout (v .0))) ≡ C.Refused e
-    → filled (T.Refused e) t ≡ onResult o (λ e. filled (T.Refused e) t) (λ v n. listed (entries (avm memoMost) v) t)
-refused-tabled (took v n) e t h = let z : _≡_ {A = ℕ} 0 1 = cc in absurd (omega arith)
-refused-tabled (refused d) e t h = let i : d ≡ e = cc in rw i
-
 pub on-refused : (s t : List ℕ) (x : Checked) (e : Refusal) → x ≡ checked s → x ≡ C.Refused e → filled (T.Refused e) t ≡ tabled s t
-on-refused s t x e p q = refused-tabled (check (avm memoMost) s) e t (found p q)
+on-refused s t x e p q = sym (ap (λ o. onResult o (λ e. filled (T.Refused e) t) (λ v end. listed end (entries (avm memoMost) v) t)) (refused-check s e (found q p)))
 
-pub accepted-inv : (o : Result (Signed (avm memoMost))) (w : Layout) → onResult o C.Refused (λ v n. C.Accepted (layout (v .0))) ≡ C.Accepted w → (v : Signed (avm memoMost)) × (n : ℕ) × (o ≡ took v n) × (w ≡ layout (v .0))
-accepted-inv (took v n) w h = (v, n, refl, cc)
-accepted-inv (refused e) w h = let z : _≡_ {A = ℕ} 0 1 = cc in absurd (omega arith)
-
-module _ (s t : List ℕ) (x : Checked) (w : Layout) (p : x ≡ checked s) (q : x ≡ C.Accepted w) (b : Slice s) where
-  -- the reading, its entries as the walk meets them, and that they are small
-  meets : (es : List EntryAt) × (tabled s t ≡ listed es t) × (rest w s (start w) ≡ map located es) × (flat (map located es) ≡ rows es)
+module _ (s t : List ℕ) (x : Checked) (w : Layout) (k : ℕ) (p : x ≡ checked s) (q : x ≡ C.Accepted w k) (b : Slice s) where
+  -- the entries as the walk meets them, and that they are small
+  meets : (es : List EntryAt) × (tabled s t ≡ listed k es t) × (rest w s (start w) ≡ map located es) × (flat (map located es) ≡ rows es)
   meets =
-      let (v, n, r, h) = accepted-inv (check (avm memoMost) s) w (found p q) in
+      let (v, r, h) = checked-accepted s w k (found q p) in
       let es : List EntryAt = entries (avm memoMost) v in
-      let (wr, _) = codec (avm memoMost) .write-after-read s v n (slice-bytes s b) r in
-      (es, ap (λ o. onResult o (λ e. filled (T.Refused e) t) (λ v n. listed (entries (avm memoMost) v) t)) r, ap (λ (k : Layout). rest k s (start k)) h ∙ walked s b v n r, flat-rows (length s) es (omega (arith, wr .short)) (entries-inside s v wr))
+      let (wr, _) = codec (avm memoMost) .write-after-read s v k (slice-bytes s b) r in
+      (es, ap (λ o. onResult o (λ e. filled (T.Refused e) t) (λ v end. listed end (entries (avm memoMost) v) t)) r, ap (λ (k : Layout). rest k s (start k)) h ∙ walked s b v k r, flat-rows (length s) es (omega (arith, wr .short)) (entries-inside s v wr))
 
   module _ (y : Count) (d : y ≡ counted (length t / 3) (rest w s (start w))) where
     pub on-too-many : y ≡ N.TooMany → filled (T.Refused (refusal noRoom 0)) t ≡ tabled s t
@@ -132,7 +124,7 @@ module _ (s t : List ℕ) (x : Checked) (w : Layout) (p : x ≡ checked s) (q : 
           let (few, _) = rows-inv (length t / 3) (length (rest w s (start w))) n (found d e) in
           omega (arith, div-add-mod' (length t) 3)
 
-      pub on-rows : (u : List ℕ) → u ≡ putRows 0 (rest w s (start w)) t → filled (T.Listed n) u ≡ tabled s t
+      pub on-rows : (u : List ℕ) → u ≡ putRows 0 (rest w s (start w)) t → filled (T.Listed n k) u ≡ tabled s t
       on-rows u h =
           let (es, a, c, f) = meets in
           let (few, same) = rows-inv (length t / 3) (length (rest w s (start w))) n (found d e) in
@@ -141,21 +133,21 @@ module _ (s t : List ℕ) (x : Checked) (w : Layout) (p : x ≡ checked s) (q : 
           let long = length-rows es in
           let last : 3 * (0 + length (rest w s (start w))) ≡ length (rows es) = omega arith in
           let put : u ≡ rows es ++ drop (length (rows es)) t =
-          h ∙ put-all 0 (rest w s (start w)) t (omega arith) ∙ ap₂ (λ (p : List ℕ) (k : ℕ). p ++ drop k t) (ap flat c ∙ f) last in
+          h ∙ put-all 0 (rest w s (start w)) t (omega arith) ∙ ap₂ (λ (p : List ℕ) (i : ℕ). p ++ drop i t) (ap flat c ∙ f) last in
           let count : n ≡ length es = same ∙ size in
-          ap₂ filled (ap T.Listed count) put ∙ sym (a ∙ rw (le-leb (length (rows es)) (length t) (omega arith)))
+          ap₂ filled (ap (λ (m : ℕ). T.Listed m k) count) put ∙ sym (a ∙ rw (le-leb (length (rows es)) (length t) (omega arith)))
 
 -- demand 1, of the check with a table: a refusal's number is one of 1 to 14
-listed-number : (es : List EntryAt) (t : List ℕ) (e : Refusal) → listed es t .answer ≡ T.Refused e → (1 ≤ e .number) × (e .number ≤ 14)
-listed-number es t e = go (leb (length (rows es)) (length t))
+listed-number : (k : ℕ) (es : List EntryAt) (t : List ℕ) (e : Refusal) → listed k es t .answer ≡ T.Refused e → (1 ≤ e .number) × (e .number ≤ 14)
+listed-number k es t e = go (leb (length (rows es)) (length t))
   where
-    go : (b : Bool) → pick b (filled (T.Listed (length es)) (rows es ++ drop (length (rows es)) t)) (filled (T.Refused (refusal noRoom 0)) t) .answer ≡ T.Refused e → (1 ≤ e .number) × (e .number ≤ 14)
+    go : (b : Bool) → pick b (filled (T.Listed (length es) k) (rows es ++ drop (length (rows es)) t)) (filled (T.Refused (refusal noRoom 0)) t) .answer ≡ T.Refused e → (1 ≤ e .number) × (e .number ≤ 14)
     go true h = let z : _≡_ {A = ℕ} 0 1 = cc in absurd (omega arith)
     go false h = let i : refusal noRoom 0 ≡ e = cc in rw (← i) (omega arith, omega arith)
 
 pub tabled-number : (s t : List ℕ) (e : Refusal) → tabled s t .answer ≡ T.Refused e → (1 ≤ e .number) × (e .number ≤ 14)
 tabled-number s t e = go (check (avm memoMost) s) refl
   where
-    go : (o : Result (Signed (avm memoMost))) → check (avm memoMost) s ≡ o → onResult o (λ e. filled (T.Refused e) t) (λ v n. listed (entries (avm memoMost) v) t) .answer ≡ T.Refused e → (1 ≤ e .number) × (e .number ≤ 14)
-    go (took v n) r h = listed-number (entries (avm memoMost) v) t e h
+    go : (o : Result (Signed (avm memoMost))) → check (avm memoMost) s ≡ o → onResult o (λ e. filled (T.Refused e) t) (λ v end. listed end (entries (avm memoMost) v) t) .answer ≡ T.Refused e → (1 ≤ e .number) × (e .number ≤ 14)
+    go (took v n) r h = listed-number n (entries (avm memoMost) v) t e h
     go (refused d) r h = let i : d ≡ e = cc in let (a, c) = codec (avm memoMost) .refused-by s d r in rw (← i) (a, omega arith)

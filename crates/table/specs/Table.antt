@@ -22,9 +22,9 @@ abbrev pub filled : Tabled → List ℕ → Filled
 filled a t = record { answer = a; table = t }
 
 -- the rows stand at the front where there is room for all; else nothing changes
-abbrev pub listed : List EntryAt → List ℕ → Filled
-listed es t = pick (leb (length (rows es)) (length t)) (filled (T.Listed (length es)) (rows es ++ drop (length (rows es)) t)) (filled (T.Refused (refusal noRoom 0)) t)
+abbrev pub listed : ℕ → List EntryAt → List ℕ → Filled
+listed end es t = pick (leb (length (rows es)) (length t)) (filled (T.Listed (length es) end) (rows es ++ drop (length (rows es)) t)) (filled (T.Refused (refusal noRoom 0)) t)
 
 -- room is judged after all rules
 abbrev pub tabled : List ℕ → List ℕ → Filled
-tabled s t = onResult (check (avm memoMost) s) (λ e. filled (T.Refused e) t) (λ v n. listed (entries (avm memoMost) v) t)
+tabled s t = onResult (check (avm memoMost) s) (λ e. filled (T.Refused e) t) (λ v end. listed end (entries (avm memoMost) v) t)

@@ -45,8 +45,8 @@ pub enum Nth {
     Missing,
 }
 
-// How many rows were written.
+// How many rows were written, and how many bytes the transaction has.
 pub enum Tabled {
-    Listed(usize),
+    Listed(usize, usize),
     Refused(Refusal),
 }

@@ -116,14 +116,14 @@ pub fn check_table(s: &[u8], table: &mut [u32]) -> Tabled
 {
     match transaction::check::check(s) {
         Checked::Refused(refusal) => Tabled::Refused(refusal),
-        Checked::Accepted(layout) => match count(s, layout, table.len() / 3) {
+        Checked::Accepted(layout, end) => match count(s, layout, table.len() / 3) {
             Count::TooMany => Tabled::Refused(Refusal {
                 number: wire::numbers::NO_ROOM,
                 place: 0,
             }),
             Count::Rows(n) => {
                 put_rows(s, layout, table);
-                Tabled::Listed(n)
+                Tabled::Listed(n, end)
             }
         },
     }

@@ -30,11 +30,11 @@ use Rattle.transaction.proofs.Beside.{credentials-beside}
 
 pub from-check : (s : List ℕ) (z : Checked)
     → z ≡ pick (leb (length s) 65536)
-    (unsigned (avm memoMost) .run s 0 C.Refused (λ u m. credentials (wants (avm memoMost) u) .run s m C.Refused (λ l n. pick (eqb n (length s)) (C.Accepted (layout u)) (C.Refused (refusal bytesAfterEnd n)))))
+    (unsigned (avm memoMost) .run s 0 C.Refused (λ u m. credentials (wants (avm memoMost) u) .run s m C.Refused (λ l n. pick (eqb n (length s)) (C.Accepted (layout u) n) (C.Refused (refusal bytesAfterEnd n)))))
     (C.Refused (refusal tooLong 0))
     → z ≡ checked s
 unfolding Any.check Any.signed
-from-check s z e = e ∙ whole-same (signed (avm memoMost)) 65536 s C.Refused (λ v n. C.Accepted (layout (v .0)))
+from-check s z e = e ∙ whole-same (signed (avm memoMost)) 65536 s C.Refused (λ v n. C.Accepted (layout (v .0)) n)
 
 module _ {R : Type 0} (s : List ℕ) (z : R) (stop : Refusal → R) (go : Unsigned (avm memoMost) → ℕ → R) (x : UnsignedRead) (p : x ≡ unsignedAt s) where
   pub on-unsigned : (w : Layout) (n : ℕ) → x ≡ U.Whole w n → ((u : Unsigned (avm memoMost)) → w ≡ layout u → read (unsigned (avm memoMost)) s 0 ≡ took u n → z ≡ go u n)
@@ -63,7 +63,7 @@ module _ {R : Type 0} (s : List ℕ) (u : Unsigned (avm memoMost)) (n : ℕ) (z 
   pub on-credentials-refused : (e : Refusal) → x ≡ P.Refused e → z ≡ stop e → z ≡ credentials (wants (avm memoMost) u) .run s n stop go
   on-credentials-refused e q f = W.stops (credentials (wants (avm memoMost) u)) R s n z stop go x e those q f
 
-pub accepted-made : (v w : Layout) → v ≡ w → C.Accepted v ≡ C.Accepted w
-accepted-made v w e = rw e
+pub accepted-made : (v w : Layout) (n : ℕ) → v ≡ w → C.Accepted v n ≡ C.Accepted w n
+accepted-made v w n e = rw e
 
 pub ruleset checking = (from-check, W.if-le, W.if-not-le, W.if-eq, W.if-ne, on-unsigned, on-unsigned-refused, on-credentials, on-credentials-refused, accepted-made)

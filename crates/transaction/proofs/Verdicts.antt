@@ -21,15 +21,15 @@ use Rattle.transaction.specs.declared.Checked.the-variants as C
 use Rattle.transaction.proofs.Codec.{codec}
 
 module _ {A : Type 0} (w : A → Layout) where
-  refused-inv : (o : Result A) (e : Refusal) → C.Refused e ≡ onResult o C.Refused (λ v n. C.Accepted (w v)) → o ≡ refused e
+  refused-inv : (o : Result A) (e : Refusal) → C.Refused e ≡ onResult o C.Refused (λ v n. C.Accepted (w v) n) → o ≡ refused e
   refused-inv (took v n) e q = let z : _≡_ {A = ℕ} 0 1 = cc in absurd (omega arith)
   refused-inv (refused d) e q = let z : d ≡ e = cc in ap refused z
 
-  accepted-inv : (o : Result A) (l : Layout) → C.Accepted l ≡ onResult o C.Refused (λ v n. C.Accepted (w v)) → (v : A) × (n : ℕ) × (o ≡ took v n)
-  accepted-inv (took v n) l q = (v, n, refl)
-  accepted-inv (refused d) l q = let z : _≡_ {A = ℕ} 0 1 = cc in absurd (omega arith)
+  accepted-inv : (o : Result A) (l : Layout) (k : ℕ) → C.Accepted l k ≡ onResult o C.Refused (λ v n. C.Accepted (w v) n) → (v : A) × (o ≡ took v k) × (l ≡ w v)
+  accepted-inv (took v n) l k q = let i : n ≡ k = cc in let j : l ≡ w v = cc in (v, ap (took v) i, j)
+  accepted-inv (refused d) l k q = let z : _≡_ {A = ℕ} 0 1 = cc in absurd (omega arith)
 
-refused-check : (s : List ℕ) (e : Refusal) → C.Refused e ≡ checked s → check (avm memoMost) s ≡ refused e
+pub refused-check : (s : List ℕ) (e : Refusal) → C.Refused e ≡ checked s → check (avm memoMost) s ≡ refused e
 refused-check s e = refused-inv (λ v. layout (v .0)) (check (avm memoMost) s) e
 
 -- the number is of the table, 1 to 13
@@ -45,12 +45,10 @@ checked-place s e bs q = fits (leb (length s) 65536) refl (refused-check s e q)
     fits true p r = omega (arith, leb-true (length s) 65536 p, codec (avm memoMost) .refused-at s e bs r)
     fits false p r = refused-placed {A = Signed (avm memoMost)} 65536 (refusal tooLong 0) e (omega arith) (rw p at r)
 
--- the verdict of a check that refuses, and of one that accepts
+-- the verdict of a check that refuses
 pub checked-refused : (s : List ℕ) (e : Refusal) → C.Refused e ≡ checked s → verdict (check (avm memoMost) s) ≡ (e .number, e .place)
 checked-refused s e q = ap verdict (refused-check s e q)
 
-pub checked-accepted : (s : List ℕ) (w : Layout) → Bytes s → C.Accepted w ≡ checked s → (verdict (check (avm memoMost) s) ≡ (0, length s)) × (length s ≤ 65536)
-checked-accepted s w bs q =
-    let (v, n, t) = accepted-inv (λ v. layout (v .0)) (check (avm memoMost) s) w q in
-    let (g, m) = codec (avm memoMost) .write-after-read s v n bs t in
-    (ap verdict t ∙ ap (λ (k : ℕ). (0, k)) m, g .short)
+-- what was read, where the lists are, and how many bytes there are
+pub checked-accepted : (s : List ℕ) (w : Layout) (n : ℕ) → C.Accepted w n ≡ checked s → (v : Signed (avm memoMost)) × (check (avm memoMost) s ≡ took v n) × (w ≡ layout (v .0))
+checked-accepted s w n = accepted-inv (λ v. layout (v .0)) (check (avm memoMost) s) w n

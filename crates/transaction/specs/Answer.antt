@@ -155,4 +155,4 @@ credentialsBeside w s at =
 -- ---- the check
 
 abbrev pub checked : List ℕ → Checked
-checked s = onResult (check (avm memoMost) s) C.Refused (λ v n. C.Accepted (layout (v .0)))
+checked s = onResult (check (avm memoMost) s) C.Refused (λ v n. C.Accepted (layout (v .0)) n)

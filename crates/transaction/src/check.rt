@@ -10,7 +10,7 @@ use wire::Refusal;
 
 const MOST_BYTES: usize = 65536;
 
-// Where the lists stand in bytes that are accepted, or the first broken rule and its place.
+// Accepted, or the first broken rule and its place.
 pub fn check(s: &[u8]) -> Checked
     ensures { λ r. ⌜ r ≡ checked (now (s .entry)) ⌝ }
 {
@@ -31,7 +31,7 @@ pub fn check(s: &[u8]) -> Checked
                         place: end,
                     });
                 }
-                Checked::Accepted(layout)
+                Checked::Accepted(layout, end)
             }
         },
     }

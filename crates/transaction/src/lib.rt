@@ -77,7 +77,8 @@ pub enum UnsignedRead {
     Refused(Refusal),
 }
 
+// Where the lists of an accepted transaction stand, and how many bytes it has.
 pub enum Checked {
-    Accepted(Layout),
+    Accepted(Layout, usize),
     Refused(Refusal),
 }

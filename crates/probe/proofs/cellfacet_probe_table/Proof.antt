@@ -1,5 +1,4 @@
--- `probe::cellfacet_probe_table` meets its contract.
--- Assumes nothing.
+-- `probe::cellfacet_probe_table` meets its contract. Assumes nothing.
 use borrow.Author.Needs.{needs}
 use Rattle.probe.proofs.Telling.{telling}
 use Rattle.probe.proofs.cellfacet_probe_table.Statement.{statement}
@@ -10,11 +9,13 @@ cellfacet-probe-table-spec =
     tie.close
     (tie.spec
     (λ c κs. search needs)  -- check-table-requires
-    (λ c. search needs)  -- enum-known-n
-    (λ c. search needs)  -- enum-known-refusal
-    (λ c. search needs)  -- cast-result
+    (λ c. search needs)  -- enum-known-rows
     (λ c. search needs)  -- mul-result
     (λ c. search needs)  -- add-result
+    (λ c. search needs)  -- enum-known-refusal
+    (λ c. search needs)  -- cast-result
+    (λ c. search needs)  -- mul-result-2
+    (λ c. search needs)  -- add-result-2
     (λ c. search needs)  -- same-length
     (λ c. search telling)  -- returns
     (λ c. search needs)  -- same-length-2

@@ -15,8 +15,8 @@ check-table-spec =
     (λ c κs. search needs)  -- count-requires
     (λ c. search needs)  -- enum-told
     (λ c. search needs)  -- enum-known-n
-    (λ c κs. rows-fit (c .before .before .before .before .before .before .before .before .before .before .before .args .s .now) (c .before .before .before .before .before .before .before .before .before .before .before .args .table .now) _ _ (c .before .before .before .before .before .before .before .before .check .ensures) (c .before .before .before .before .before .before .layout .given .1) (c .before .before .before .before .before .before .before .before .before .before .shared-slice-known .given) _ (c .before .before .before .before .count .ensures) _ (c .before .before .n .given .1))  -- put-rows-requires
+    (λ c κs. rows-fit (c .before .before .before .before .before .before .before .before .before .before .before .args .s .now) (c .before .before .before .before .before .before .before .before .before .before .before .args .table .now) _ _ _ (c .before .before .before .before .before .before .before .before .check .ensures) (c .before .before .before .before .before .before .layout .given .1) (c .before .before .before .before .before .before .before .before .before .before .shared-slice-known .given) _ (c .before .before .before .before .count .ensures) _ (c .before .before .n .given .1))  -- put-rows-requires
     (λ c. on-refused (c .before .before .before .before .before .before .args .s .now) (c .before .before .before .before .before .before .args .table .now) _ _ (c .before .before .before .check .ensures) (c .before .refusal .given .1))  -- returns
-    (λ c. on-too-many (c .before .before .before .before .before .before .before .before .before .args .s .now) (c .before .before .before .before .before .before .before .before .before .args .table .now) _ _ (c .before .before .before .before .before .before .check .ensures) (c .before .before .before .before .layout .given .1) (c .before .before .before .before .before .before .before .before .shared-slice-known .given) _ (c .before .before .count .ensures) (c .enum-told .given .1))  -- returns-2
+    (λ c. on-too-many (c .before .before .before .before .before .before .before .before .before .args .s .now) (c .before .before .before .before .before .before .before .before .before .args .table .now) _ _ _ (c .before .before .before .before .before .before .check .ensures) (c .before .before .before .before .layout .given .1) (c .before .before .before .before .before .before .before .before .shared-slice-known .given) _ (c .before .before .count .ensures) (c .enum-told .given .1))  -- returns-2
     (λ c. search needs)  -- same-length
-    (λ c. on-rows (c .before .before .before .before .before .before .before .before .before .before .before .before .before .before .args .s .now) (c .before .before .before .before .before .before .before .before .before .before .before .before .before .before .args .table .now) _ _ (c .before .before .before .before .before .before .before .before .before .before .before .check .ensures) (c .before .before .before .before .before .before .before .before .before .layout .given .1) (c .before .before .before .before .before .before .before .before .before .before .before .before .before .shared-slice-known .given) _ (c .before .before .before .before .before .before .before .count .ensures) _ (c .before .before .before .before .before .n .given .1) _ (c .before .before .put-rows .ensures)))  -- returns-3
+    (λ c. on-rows (c .before .before .before .before .before .before .before .before .before .before .before .before .before .before .args .s .now) (c .before .before .before .before .before .before .before .before .before .before .before .before .before .before .args .table .now) _ _ _ (c .before .before .before .before .before .before .before .before .before .before .before .check .ensures) (c .before .before .before .before .before .before .before .before .before .layout .given .1) (c .before .before .before .before .before .before .before .before .before .before .before .before .before .shared-slice-known .given) _ (c .before .before .before .before .before .before .before .count .ensures) _ (c .before .before .before .before .before .n .given .1) _ (c .before .before .put-rows .ensures)))  -- returns-3

@@ -1,0 +1,15 @@
+-- `probe::put` meets its contract. Assumes nothing.
+use borrow.Author.Needs.{needs}
+use Rattle.probe.proofs.Putting.{put-past}
+use Rattle.probe.proofs.put.Statement.{statement}
+use Rattle.probe.proofs.put.Tie as tie
+
+pub put-spec : {M : Type 1} → statement M
+put-spec =
+    tie.close
+    (tie.spec
+    (λ c. search needs)  -- mul-numbers
+    (λ c. search needs)  -- slice-write-numbers
+    (λ c. search needs)  -- same-length
+    (λ c. search needs)  -- returns
+    (λ c. search (put-past, needs)))  -- returns-2
