@@ -7,8 +7,8 @@ use native.Mathlib.Omega.{arith}
 use native.Mathlib.Numerals.{add-one}
 use native.Mathlib.Nat.{pow-suc, pow-succ', pow-le-pow-right, lt-of-lt-of-le, mul-assoc, add-mul, add-assoc, zero-lt-suc, mod-lt, div-one, div-div-eq-div-mul, div-lt-iff-lt-mul, div-add-mod', le-refl}
 use lib.Arith.{mod-mul, digits-div, digits-mod}
-use lib.ListN.{length, getD, set, take, drop, drop-of-length-le, length-take, length-drop, length-append}
-use lib.Seq.{drop-cons, take-length, take-nil, take-all, take-suc, take-take, append-snoc, set-at, getD-drop, length-take-le}
+use lib.ListN.{length, getD, set, take, drop, drop-of-length-le, length-drop, length-append}
+use lib.Seq.{drop-cons, take-length, take-nil, take-all, take-suc, append-snoc, set-at, getD-drop, length-take-le}
 use lib.Dec.{ltb}
 use mir.Val.{Fits}
 use mir.Syntax.{w8}
@@ -203,10 +203,6 @@ key-below a b i j h g k = below-append a b (digits 4 i) (digits 4 j) h ∙ ap (�
 
 -- ---- parts
 
--- the bytes from a up to e are as many as that
-pub part-length : (a e : ℕ) (s : List ℕ) → e ≤ length s → length (part a e s) ≡ e - a
-part-length a e s h = length-take (e - a) (drop a s) ∙ (rw (length-drop a s) (omega arith))
-
 -- the bytes from a up to e where not all of that is there
 pub part-out : (a e : ℕ) (s : List ℕ) → length s < a → [] ≡ part a e s
 part-out a e s h = let o : length s ≤ a = omega arith in rw (drop-of-length-le s, take-nil)
@@ -232,10 +228,10 @@ copy-some s z h =
     let o : length z ≤ length s = omega arith in
     rw (take-length (take (length z) s), n, drop-of-length-le z {i = length z} (le-refl (length z)), drop-of-length-le z {i = length s} o)
 
--- what is left, y, where z was filled with bytes t of s, of which there are enough
-pub copy-part : (s z t y : List ℕ) (at r : ℕ) → t ≡ part at (length s) s → y ≡ take (length z) t ++ drop (length t) z → r ≡ length s - at → length z ≤ r
-    → y ≡ take (length z) (drop at s)
-copy-part s z t y at r p e q h =
-    let n : length t ≡ length s - at = ap length p ∙ part-length at (length s) s (le-refl (length s)) in
-    let o : length z ≤ length s - at = omega arith in
-    e ∙ rw (n, drop-of-length-le z {i = length s - at} o, append-nil, p) (take-take (length z) (length s - at) (drop at s) o)
+-- what is left, y, where z was filled with the bytes from at, of which there are enough, r
+pub copy-part : (s z y : List ℕ) (at r : ℕ) → y ≡ take (length z) (part at (at + length z) s) ++ drop (length (part at (at + length z) s)) z → r ≡ length s - at
+    → length z ≤ r → y ≡ take (length z) (drop at s)
+copy-part s z y at r e q h =
+    let d : at + length z - at ≡ length z = omega arith in
+    let n : length (take (length z) (drop at s)) ≡ length z = length-take-le (length z) (drop at s) (rw length-drop (omega arith)) in
+    e ∙ rw (d, n, drop-of-length-le z {i = length z} (le-refl (length z)), append-nil) (take-all (length z) (take (length z) (drop at s)) (omega arith))

@@ -1,7 +1,7 @@
 // Fields of a byte string at a place: a part of some width, a big-endian number, an identifier or an address handed over whole; the order of byte
 // strings; numbers and bytes put into a buffer.
 ghost use mathlib.Core.Path.{_≡_};
-ghost use Prim.Native.Nat.{_-_, _%_, _^_, _≤_};
+ghost use Prim.Native.Nat.{_-_, _%_, _^_, _≤_, _<_};
 ghost use mathlib.Core.List.{_++_};
 ghost use lib.ListN.{length, take, drop};
 ghost use Rattle.wire.specs.Bytes.{part, value, digits, below};
@@ -143,14 +143,16 @@ pub fn put_bytes(room: &mut [u8], from: &[u8])
     bytes::copy(&from[..room.len()], room);
 }
 
-// Fills room with the bytes from at, and leaves it where they are not all there.
+// Fills room, which has some, with the bytes from at, and leaves it where they are not all there. As many are taken as room has, so that the
+// compiler knows their number where it knows the room's: it copies them with no loop.
 fn put_part(room: &mut [u8], s: &[u8], at: usize)
+    requires { ⌜ 0 < length (now room) ⌝ }
     ensures { λ _. ⌜ now (room .exit) ≡ blob (length (now (room .entry))) .run (now (s .entry)) at (λ e. now (room .entry)) (λ b n. b) ⌝ }
 {
     if ahead(s, at) < room.len() {
         return;
     }
-    put_bytes(room, between(s, at, s.len()));
+    put_bytes(room, &s[at..at + room.len()]);
 }
 
 // The 32 bytes of an identifier, or zeros where they are not all there.

@@ -12,7 +12,10 @@ put-part-spec =
     (tie.spec
     (λ c κs. search needs)  -- ahead-requires
     (λ c. blob-cut _ _ _ _ _ _ _ (c .before .ahead .ensures) (c .if1 .taken) _ refl refl)  -- returns
-    (λ c κs. search needs)  -- between-requires
+    (λ c. search needs)  -- add-put-bytes
+    (λ c. search needs)  -- sub-put-bytes
+    (λ c. search needs)  -- part-put-bytes-start
+    (λ c. search needs)  -- part-put-bytes-end
     (λ c κs. search needs)  -- put-bytes-requires
     (λ c. search needs)  -- same-length
     (λ c. search (leaf, copy-part)))  -- returns-2
