@@ -1,2 +1,4 @@
 -- Everything that is claimed, in one place
 pub mod Cases
+pub mod Answers
+pub mod Lengths

@@ -198,11 +198,12 @@ module _ (s : List ℕ) (b : Slice s) where
       parts : (id : List ℕ) (i index k : ℕ) (w : List ℕ × (Unit {0} × (ℕ × List ℕ))) (j : ℕ) (v : Input) (m : ℕ)
           → read (blob 32) s at ≡ took id i → read (number 4) s i ≡ took index k → read spend s k ≡ took w j → spent id index w ≡ v → j ≡ m
           → (inputAt s at ≡ I.Whole (inputFields m v) m) × (behindKey s at ≡ v .asset) × (wholeAt 32 s at ≡ v .txid)
-      parts id i index k w j v m ei ek ew same there =
-          (W.run-took (blob 32) s at I.Refused _ id i ei ∙ W.run-took (number 4) s i I.Refused _ index k ek ∙ W.run-took spend s k I.Refused (spendWhole index) w j ew
-          ∙ ap₂ (λ (x : Input) (n : ℕ). I.Whole (inputFields n x) n) same there,
-          W.run-took (blob 32) s at (λ e. noId) _ id i ei ∙ W.run-took (number 4) s i (λ e. noId) _ index k ek ∙ spend-asset s k w j ew ∙ ap (λ (x : Input). x .asset) same,
-          W.whole-part 32 s at id i ei ∙ ap (λ (x : Input). x .txid) same)
+      parts id i index k w j v m ei ek ew same there = (
+        W.run-took (blob 32) s at I.Refused _ id i ei ∙ W.run-took (number 4) s i I.Refused _ index k ek ∙ W.run-took spend s k I.Refused (spendWhole index) w j ew
+            ∙ ap₂ (λ (x : Input) (n : ℕ). I.Whole (inputFields n x) n) same there,
+        W.run-took (blob 32) s at (λ e. noId) _ id i ei ∙ W.run-took (number 4) s i (λ e. noId) _ index k ek ∙ spend-asset s k w j ew ∙ ap (λ (x : Input). x .asset) same,
+        W.whole-part 32 s at id i ei ∙ ap (λ (x : Input). x .txid) same,
+      )
 
   inputs-stand : (prev : List ℕ) (at : ℕ) (v : Input) (m : ℕ) → read (input prev) s at ≡ took v m → All (inputEntry at m v)
   inputs-stand prev at v m h =
@@ -261,9 +262,10 @@ module _ (s : List ℕ) (b : Slice s) where
       let (l₁, m, el, e₅) = run-inv (pieces (signatures (w .signatures) (each ws))) s f _ l e e₄ in
       let (l′, r, room) = signatures-inv s b (w .signatures) (each ws) f l₁ m el in
       let first : f ≡ at + 8 = omega (arith, number-next s b at t i et, number-next s b i c f ec) in
-      let next : f + signatureWidth * w .signatures ≡ at + (8 + w .signatures * signatureWidth) = omega (arith, mul-comm signatureWidth (w .signatures)) in
-      (record { typed = one w at t i c f et ec (eqb-true t (credentialCode (w .type)) g) (eqb-true c (w .signatures) k) first; asset = refl; txid = refl },
-      subst (λ (x : ℕ). All (credentialEntries ws x)) next (credentials-stand ws (f + signatureWidth * w .signatures) l′ m r))
+      let next : f + signatureWidth * w .signatures ≡ at + (8 + w .signatures * signatureWidth) = omega (arith, mul-comm signatureWidth (w .signatures)) in (
+        record { typed = one w at t i c f et ec (eqb-true t (credentialCode (w .type)) g) (eqb-true c (w .signatures) k) first; asset = refl; txid = refl },
+        subst (λ (x : ℕ). All (credentialEntries ws x)) next (credentials-stand ws (f + signatureWidth * w .signatures) l′ m r),
+      )
     where
       one : (w : Want) (at t i c f : ℕ) → read (number 4) s at ≡ took t i → read (number 4) s i ≡ took c f → t ≡ credentialCode (w .type) → c ≡ w .signatures → f ≡ at + 8
           → credentialTyped s at ≡ T.Entry (E.Credential record { «type_id» = credentialCode (w .type); «signatures_at» = at + 8; «signatures_count» = w .signatures })

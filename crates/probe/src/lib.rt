@@ -62,7 +62,12 @@ fn put_output(numbers: &mut [u64], fields: OutputFields)
             put(numbers, 7, group);
             put_owners(numbers, owners);
         }
-        OutputFields::NftTransfer { group, payload_at, payload_length, owners } => {
+        OutputFields::NftTransfer {
+            group,
+            payload_at,
+            payload_length,
+            owners,
+        } => {
             put(numbers, 5, 11);
             put(numbers, 7, group);
             put(numbers, 8, payload_at as u64);
@@ -85,7 +90,10 @@ fn put_recipients(numbers: &mut [u64], recipients: Recipients)
     ensures { λ _. ⌜ now (numbers .exit) ≡ putAt (recipientsValues recipients) (now (numbers .entry)) ⌝ }
 {
     match recipients {
-        Recipients::Mint { owners_at, owners_count } => {
+        Recipients::Mint {
+            owners_at,
+            owners_count,
+        } => {
             put(numbers, 5, 12);
             put(numbers, 19, owners_at as u64);
             put(numbers, 20, owners_count);
@@ -174,7 +182,13 @@ fn put_answer(numbers: &mut [u64], answer: EntryAnswer)
 
 // Entry n: its numbers, each at its place where there is room, and its identifiers.
 #[no_mangle]
-pub extern "C" fn cellfacet_probe_entry(bytes: &[u8], n: u64, numbers: &mut [u64], asset: &mut [u8], txid: &mut [u8])
+pub extern "C" fn cellfacet_probe_entry(
+    bytes: &[u8],
+    n: u64,
+    numbers: &mut [u64],
+    asset: &mut [u8],
+    txid: &mut [u8],
+)
     ensures { λ _. ⌜ probedEntry (now (numbers .exit)) (now (asset .exit)) (now (txid .exit)) ≡ toldEntry (entryOf (now (bytes .entry)) n) (now (numbers .entry)) (now (asset .entry)) (now (txid .entry)) ⌝ }
 {
     let read = entry::entry(bytes, n);

@@ -77,7 +77,7 @@ flat-rows hi (e ∷ es) h (a, c, i) =
     let l : (e .end - e .start) % 4294967296 ≡ e .end - e .start = mod-eq-of-lt (omega arith) in
     rw (s, l, flat-rows hi es h i)
 
-length-rows : (es : List EntryAt) → length (rows es) ≡ 3 * length es
+pub length-rows : (es : List EntryAt) → length (rows es) ≡ 3 * length es
 unfolding rows
 length-rows [] = refl
 length-rows (e ∷ es) = omega (arith, length-append (row e) (rows es), length-rows es)

@@ -151,7 +151,7 @@ module _ {A : Type 0} (F : Format A) (k : ℕ) (wide : (a : A) → F .Good a →
       let (g, h) = increasing F c .sound s at l n (slice-bytes s b) t in
       (l, sym (g .0), h .ends ∙ ap (λ j. at + j) (wide-chain [] l (g .1)), t)
 
-blob-wide : (k : ℕ) (b : List ℕ) → blob k .Good b → length (blob k .write b) ≡ k
+pub blob-wide : (k : ℕ) (b : List ℕ) → blob k .Good b → length (blob k .write b) ≡ k
 unfolding blob
 blob-wide k b h = h .0
 

@@ -10,7 +10,7 @@ use cellfacet_tests::lines::answer;
 use crate::Proved;
 
 /// The kinds of requests that the proved code answers.
-pub const KINDS: [Kind; 3] = [Kind::Check, Kind::CheckNone, Kind::PhoneCheck];
+pub const KINDS: [Kind; 4] = [Kind::Check, Kind::CheckNone, Kind::Entry, Kind::PhoneCheck];
 
 /// A request that the two answer differently. No answer is a line that is no request.
 #[derive(Debug, PartialEq, Eq)]
@@ -40,6 +40,10 @@ pub struct Met {
     pub requests: usize,
     /// How many of them with a lent table.
     pub tables: usize,
+    /// How many of them for an entry.
+    pub entries: usize,
+    /// The answers to `entry`: number, and the entry's kind where it is done.
+    pub kinds: BTreeSet<(u32, Option<u32>)>,
     /// The answers to `check`: number, and the transaction's type where it is accepted.
     pub checks: BTreeSet<(u32, Option<u8>)>,
     /// The fewest and the most bytes checked.
@@ -56,13 +60,23 @@ impl Met {
             return Err(Difference { request, proved, independent });
         }
         self.requests += 1;
-        if let (["check", bytes, room], Some(answer)) =
-            (&request.split(' ').collect::<Vec<_>>()[..], proved)
-        {
-            self.tables += usize::from(*room != "none");
-            self.note(bytes, &answer);
+        match (&request.split(' ').collect::<Vec<_>>()[..], proved) {
+            (["check", bytes, room], Some(answer)) => {
+                self.tables += usize::from(*room != "none");
+                self.note(bytes, &answer);
+            }
+            (["entry", ..], Some(answer)) => self.note_entry(&answer),
+            _ => {}
         }
         Ok(())
+    }
+
+    fn note_entry(&mut self, answer: &str) {
+        let mut words = answer.split(' ');
+        let number = words.next().and_then(|number| number.parse().ok());
+        let kind = words.nth(1).and_then(|kind| kind.strip_prefix("kind=")?.parse().ok());
+        self.entries += 1;
+        self.kinds.extend(number.map(|number| (number, kind)));
     }
 
     fn note(&mut self, hex: &str, answer: &str) {

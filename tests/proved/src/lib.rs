@@ -2,9 +2,13 @@
 //! lines, and compared there with the independent program.
 
 pub mod compare;
+pub mod entry;
 pub mod library;
 
-use cellfacet_tests::lines::{Answer, Answers};
+use cellfacet_tests::lines::{Answer, Answers, EntryFields};
+
+/// The lower of the numbers that the check with a table packs have 20 bits.
+const LOW: u64 = (1 << 20) - 1;
 
 /// Answers with the proved code. What is not exported yet is `not yet`.
 pub struct Proved;
@@ -17,12 +21,13 @@ impl Answers for Proved {
     }
 
     fn rows(&self, bytes: &[u8], table: &mut [u32]) -> Option<(Answer, usize)> {
-        let answer = unpacked(library::probe_table(bytes, table));
-        if answer.number != 0 {
-            return Some((answer, 0));
-        }
-        // Accepted, and in the place's stead the number of rows.
-        Some((self.check(bytes)?, answer.place as usize))
+        let packed = library::probe_table(bytes, table);
+        let answer = Answer { number: (packed >> 40) as u32, place: packed & LOW };
+        Some((answer, (packed >> 20 & LOW) as usize))
+    }
+
+    fn entry(&self, bytes: &[u8], n: u32) -> Option<(Answer, Option<EntryFields>)> {
+        Some(entry::read(bytes, n))
     }
 
     fn phone_check(&self, bytes: &[u8]) -> Option<u64> {

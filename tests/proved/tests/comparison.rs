@@ -6,14 +6,16 @@ use std::fs;
 use std::path::{Path, PathBuf};
 
 use cellfacet_proved::compare::{compare, Difference, Met, KINDS};
+use cellfacet_proved::entry::Probed;
+use cellfacet_proved::library::probe_entry;
 use cellfacet_proved::Proved;
 use cellfacet_tests::check;
 use cellfacet_tests::encode::Encoder;
-use cellfacet_tests::generate::Requests;
-use cellfacet_tests::lines::{answer, serve, unhex, Hex};
+use cellfacet_tests::generate::{Kind, Requests};
+use cellfacet_tests::lines::{answer, serve, unhex, Answers, Hex};
 
 const SEED: u64 = 20_251_115;
-const REQUESTS: usize = 300_000;
+const REQUESTS: usize = 400_000;
 
 fn data() -> PathBuf {
     Path::new(env!("CARGO_MANIFEST_DIR")).join("../data")
@@ -37,6 +39,12 @@ fn tables(bytes: &[u8]) -> Vec<String> {
     rooms.iter().map(|room| format!("check {} {room}", Hex(bytes))).collect()
 }
 
+/// Every entry, the one behind the last, and a far one.
+fn entries(bytes: &[u8]) -> impl Iterator<Item = String> + '_ {
+    let count = check(bytes).map_or(0, |transaction| transaction.rows as u32);
+    (0..=count).chain([u32::MAX]).map(|n| format!("entry {} {n}", Hex(bytes)))
+}
+
 /// Both ways to ask for a check with no table.
 fn requests(bytes: &[u8]) -> [String; 2] {
     [format!("check {} none", Hex(bytes)), format!("phone-check {}", Hex(bytes))]
@@ -57,6 +65,11 @@ fn random_requests() {
     let accepted = (0..=4).map(|type_id| (0, Some(type_id)));
     let refused = (1..=14).map(|number| (number, None));
     assert_eq!(met.checks, accepted.chain(refused).collect::<BTreeSet<_>>());
+    // Every kind of entry is read, and every refusal of the entry reader is met.
+    assert!(met.entries >= 60_000, "{} entries", met.entries);
+    let done = (1..=7).map(|kind| (0, Some(kind)));
+    let refused = (1..=13).chain([15]).map(|number| (number, None));
+    assert_eq!(met.kinds, done.chain(refused).collect::<BTreeSet<_>>());
     let (least, most) = met.lengths.expect("some were checked");
     assert!(least == 0 && most > 65_536, "{least} to {most} bytes");
 }
@@ -75,6 +88,7 @@ fn published_examples() {
             for bytes in [bytes, coded.done(), one, two] {
                 alike(requests(&bytes));
                 alike(tables(&bytes));
+                alike(entries(&bytes));
             }
             files += 1;
         }
@@ -99,6 +113,7 @@ fn case_a_cut_and_continued() {
     let longer = [case_a(), vec![0; 3]].concat();
     alike((0..=longer.len()).flat_map(|length| requests(&longer[..length])));
     alike((0..=longer.len()).flat_map(|length| tables(&longer[..length])));
+    alike((0..=longer.len()).flat_map(|length| entries(&longer[..length])));
 }
 
 #[test]
@@ -118,28 +133,65 @@ fn the_proved_cases() {
         let request = format!("check {} {room}", Hex(&a));
         assert_eq!(answer(&Proved, &request), Some(line));
     }
+    let owners = "addresses_at=106 addresses_count=2 amount=12345 asset=";
+    let output = answer(&Proved, &format!("entry {} 0", Hex(&a))).expect("an answer");
+    assert!(output.starts_with(&format!("0 392 kind=1 {owners}")), "{output}");
+    assert_eq!(answer(&Proved, &format!("entry {} 3", Hex(&a))), Some("15 0".into()));
     let packed = (2_u64 << 32) + 327;
     assert_eq!(answer(&Proved, &requests(&a[..391])[1]), Some(packed.to_string()));
 }
 
 #[test]
+fn entries_stand_at_their_rows() {
+    let requests = Requests::new(SEED, vec![Kind::CheckNone]).take(3_000);
+    let mut found = 0;
+    for request in requests {
+        let bytes = unhex(request.split(' ').nth(1).expect("bytes")).expect("hex");
+        let mut table = [0; 9816];
+        let (_, count) = Proved.rows(&bytes, &mut table).expect("an answer");
+        let rows = table[..3 * count].chunks(3).map(|row| row.to_vec()).take(50);
+        for (n, row) in rows.enumerate() {
+            let end = row[1] + row[2];
+            let span = Some((row[1].into(), end.into()));
+            assert_eq!(Probed::new(&bytes, n as u32).span(), span, "entry {n} of {request}");
+            found += 1;
+        }
+        assert_eq!(Probed::new(&bytes, count as u32).span(), None);
+    }
+    assert!(found > 3_000, "{found} entries");
+}
+
+#[test]
+fn no_room_for_an_entry() {
+    let mut numbers = [7; 3];
+    probe_entry(&case_a(), 0, &mut numbers, &mut [], &mut []);
+    assert_eq!(numbers, [0, 392, 1]);
+    let (mut asset, mut txid) = ([9; 40], [9; 3]);
+    probe_entry(&case_a(), 1, &mut [], &mut asset, &mut txid);
+    let a = case_a();
+    assert_eq!((&asset[..32], &asset[32..]), (&a[186..218], &[9; 8][..]));
+    assert_eq!(txid, a[150..153]);
+}
+
+#[test]
 fn lines_that_are_not_answered() {
-    let input = b"check - none\ncheck - 0\nentry - 0\nmerge - - 0\nwrite 0 finish\nfoo\n";
+    let input =
+        b"check - none\ncheck - 0\nentry - 0\nfill - 0 -\nmerge - - 0\nwrite 0 finish\nfoo\n";
     let mut output = Vec::new();
     serve(&Proved, &input[..], &mut output).expect("no failing write");
-    let lines = "2 0\n2 0 0 kept\nnot yet\nnot yet\nnot yet\nbad request\n";
+    let lines = "2 0\n2 0 0 kept\n2 0\nnot yet\nnot yet\nnot yet\nbad request\n";
     assert_eq!(String::from_utf8(output).expect("text"), lines);
 }
 
 #[test]
 fn a_difference_is_found_and_shown() {
-    let difference = compare(["entry - 0".to_string()]).expect_err("a difference");
+    let difference = compare(["merge - - 0".to_string()]).expect_err("a difference");
     let expected = Difference {
-        request: "entry - 0".into(),
+        request: "merge - - 0".into(),
         proved: Some("not yet".into()),
-        independent: Some("2 0".into()),
+        independent: Some("17 0 -".into()),
     };
     assert_eq!(difference, expected);
-    let shown = "request: entry - 0\nproved: not yet\nindependent: 2 0";
+    let shown = "request: merge - - 0\nproved: not yet\nindependent: 17 0 -";
     assert_eq!(difference.to_string(), shown);
 }

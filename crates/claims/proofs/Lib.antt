@@ -1,0 +1,3 @@
+-- That the claims hold
+pub mod Answering
+pub mod Measuring
