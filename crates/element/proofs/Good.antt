@@ -163,10 +163,6 @@ pub key-good : (k : List ℕ × ℕ) → key .Good k ↔ GoodKey (k .0) (k .1)
 unfolding key blob number
 key-good k = (λ h. record { id-good = h .0; index-width = h .1 }, λ g. (g .id-good, g .index-width))
 
-pub key-bytes : (k : List ℕ × ℕ) → key .write k ≡ keyBytes (k .0) (k .1)
-unfolding key blob number
-key-bytes k = refl
-
 pub key-width : (k : List ℕ × ℕ) → GoodKey (k .0) (k .1) → length (keyBytes (k .0) (k .1)) ≡ 36
 key-width k g = omega (arith, length-append (k .0) (digits 4 (k .1)), length-digits 4 (k .1), g .id-good .0)
 
