@@ -1,0 +1,4 @@
+-- The steps of the writer, runs of them, and what is claimed of these
+pub mod Steps
+pub mod Runs
+pub mod Claims

@@ -1,0 +1,198 @@
+-- What each step of the writer answers, and what it leaves in the buffer (document 01, "Writing"), for any family. No rule is written here: what a
+-- step would add is read by the format that is due. Assumes nothing.
+use Prim.Native.Nat.{ℕ, zero, suc, _+_, _-_}
+use mathlib.Core.Bool.{Bool, true, false, _&&_}
+use mathlib.Core.List.{List, [], _∷_, _++_}
+use lib.ListN.{length, take, drop}
+use lib.Dec.{ltb, leb, eqb}
+use Rattle.wire.specs.Bytes.{digits, pick}
+use Rattle.wire.specs.Numbers.{ruleNumber, cutShort, emptyList, bytesAfterEnd, refusal, noRoom, stepNotDue}
+use Rattle.wire.specs.Format.{Format, read, Result, took, refused}
+use Rattle.transaction.specs.Credentials.{layout, credentials, blanks}
+use Rattle.transaction.specs.Signed.{mostBytes}
+use Rattle.transaction.specs.Plan.{Plan, shut, end, field, many}
+use Rattle.transaction.specs.Family.{Family, head, Unsigned, unsigned, wants}
+use Rattle.transaction.specs.declared.Segment.{Segment}
+use Rattle.transaction.specs.declared.Segment.the-variants as S
+use Rattle.writer.specs.declared.Writer.{Writer}
+use Rattle.writer.specs.declared.Step.{Step}
+use Rattle.writer.specs.declared.Written.{Written}
+use Rattle.writer.specs.declared.Written.the-variants as W
+
+-- nothing is written yet
+abbrev pub fresh : Writer
+fresh = record { kind = 0; phase = 0; at = 0; list = 0; count = 0; last = 0 }
+
+-- a step's answer, and what the buffer holds then
+pub record Turn : Type 0 where
+  pub step : Step
+  pub buffer : List ℕ
+
+abbrev pub turn : Writer → Written → List ℕ → Turn
+turn w a s = record { step = record { next = w; answer = a }; buffer = s }
+
+-- ---- verdicts: what bars a step, or nothing
+
+pub data Verdict : Type 0 where
+  fine : Verdict
+  refuse : ℕ → Verdict
+
+-- a step that is refused changes neither state nor buffer
+unfoldable pub answered : Verdict → Writer → List ℕ → Writer → List ℕ → Turn
+answered fine w s w′ s′ = turn w′ (W.Done (w′ .at)) s′
+answered (refuse n) w s w′ s′ = turn w (W.Refused (refusal n 0)) s
+
+-- 16 comes first; then 14, where the buffer is shorter than the bytes written
+abbrev pub guarded : Bool → Writer → List ℕ → Verdict → Verdict
+guarded isDue w s v = pick isDue (pick (leb (w .at) (length s)) v (refuse noRoom)) (refuse stepNotDue)
+
+-- what a step is given: the bytes that it would add, and whether they could be made: an address slice that is no multiple of 20 is cut short
+pub record Given : Type 0 where
+  pub whole : Bool
+  pub bytes : List ℕ
+
+-- the rules are those of the format; and no byte may be left over
+unfoldable pub judged : {A : Type 0} → Format A → Given → Verdict → Verdict
+judged F g v =
+    pick (g .whole)
+    (F .run (g .bytes) 0 (λ e. refuse (e .number)) λ a m. pick (eqb m (length (g .bytes))) v (refuse bytesAfterEnd))
+    (refuse (ruleNumber cutShort))
+
+-- n bytes in all pass neither the buffer's end nor 65,536
+unfoldable pub roomFor : ℕ → List ℕ → Verdict
+roomFor n s = pick (leb n (length s)) (pick (leb n mostBytes) fine (refuse noRoom)) (refuse noRoom)
+
+-- ---- the buffer
+
+-- s with ys in place of as many bytes from `at` on
+unfoldable pub overwrite : List ℕ → ℕ → List ℕ → List ℕ
+overwrite s at ys = take at s ++ (ys ++ drop (length ys) (drop at s))
+
+-- the bytes of the open list's last element, none where it has no element
+unfoldable pub prev : Writer → List ℕ → List ℕ
+prev w s = pick (eqb (w .count) 0) [] (take (w .at - w .last) (drop (w .last) s))
+
+-- the count and the last element of the open list lie inside the bytes written
+abbrev pub sane : Writer → Bool
+sane w = leb (w .list + 4) (w .at) && (leb (w .last) (w .at) && ltb (w .count) mostBytes)
+
+-- one element more, of n bytes
+unfoldable pub grown : Writer → ℕ → Writer
+grown w n = record { kind = w .kind; phase = w .phase; at = w .at + n; list = w .list; count = w .count + 1; last = w .at }
+
+-- the element stands behind the others, and the new count in its place
+unfoldable pub appended : Writer → List ℕ → List ℕ → List ℕ
+appended w s ys = overwrite (overwrite s (w .at) ys) (w .list) (digits 4 (w .count + 1))
+
+-- ---- the plan, from where the writer is
+
+abbrev pub tail : Plan → Plan
+tail shut = shut
+tail end = shut
+tail (field l F q) = q
+tail (many l E q) = q
+
+abbrev pub behind : ℕ → Plan → Plan
+behind zero p = p
+behind (suc k) p = tail (behind k p)
+
+-- before the start nothing is due but the start
+abbrev pub due : ℕ → Plan → Plan
+due zero p = shut
+due (suc k) p = behind k p
+
+-- the step before a list writes its count as 0
+abbrev pub opening : Plan → List ℕ
+opening shut = []
+opening end = []
+opening (field l F q) = []
+opening (many l E q) = digits 4 0
+
+-- q is due, and what stands before it ends at `at`
+abbrev pub opened : ℕ → ℕ → ℕ → Plan → Writer
+opened kind phase at q = record { kind = kind; phase = phase; at = at + length (opening q); list = at; count = 0; last = 0 }
+
+-- ---- the steps, by what is due
+
+abbrev pub segmentCode : Segment → ℕ
+segmentCode S.Output = 0
+segmentCode S.Input = 1
+segmentCode S.Memo = 2
+segmentCode S.Name = 3
+segmentCode S.Symbol = 4
+segmentCode S.Denomination = 5
+segmentCode S.State = 6
+segmentCode S.Operation = 7
+segmentCode S.Chain = 8
+
+abbrev pub isSegment : Segment → Segment → Bool
+isSegment l m = eqb (segmentCode l) (segmentCode m)
+
+abbrev pub notDue : Writer → List ℕ → Turn
+notDue w s = answered (refuse stepNotDue) w s w s
+
+-- a field, or one element more of the open list
+unfoldable pub putAt : Plan → Writer → List ℕ → Segment → Given → Turn
+putAt shut w s l g = notDue w s
+putAt end w s l g = notDue w s
+putAt (field m F q) w s l g =
+    answered (guarded (isSegment l m) w s (judged (F .content) g (roomFor (w .at + length (g .bytes ++ opening q)) s)))
+    w s (opened (w .kind) (suc (w .phase)) (w .at + length (g .bytes)) q) (overwrite s (w .at) (g .bytes ++ opening q))
+putAt (many m E q) w s l g =
+    answered (guarded (isSegment l m && sane w) w s (judged (E .element (prev w s)) g (roomFor (w .at + length (g .bytes)) s)))
+    w s (grown w (length (g .bytes))) (appended w s (g .bytes))
+
+-- a list that needs an element is not closed before it has one
+unfoldable pub closeAt : Plan → Writer → List ℕ → Turn
+closeAt shut w s = notDue w s
+closeAt end w s = notDue w s
+closeAt (field m F q) w s = notDue w s
+closeAt (many m E q) w s =
+    answered (guarded true w s (pick (leb (E .least) (w .count)) (roomFor (w .at + length (opening q)) s) (refuse (ruleNumber emptyList))))
+    w s (opened (w .kind) (suc (w .phase)) (w .at) q) (overwrite s (w .at) (opening q))
+
+module _ (F : Family) where
+  -- the blank credentials that an unsigned part wants
+  abbrev pub blankOf : Unsigned F → List ℕ
+  blankOf u = credentials (wants F u) .write (blanks (layout (wants F u)))
+
+  -- the unsigned part is read back from what was written
+  abbrev pub blankBehind : Result (Unsigned F) → List ℕ
+  blankBehind (took u n) = blankOf u
+  blankBehind (refused e) = []
+
+  unfoldable pub closing : Writer → List ℕ → List ℕ
+  closing w s = blankBehind (read (unsigned F) (take (w .at) s) 0)
+
+  unfoldable pub finishAt : Plan → Writer → List ℕ → Turn
+  finishAt shut w s = notDue w s
+  finishAt end w s =
+      answered (guarded true w s (judged (unsigned F) record { whole = true; bytes = take (w .at) s } (roomFor (w .at + length (closing w s)) s)))
+      w s (opened (w .kind) (suc (w .phase)) (w .at + length (closing w s)) shut) (overwrite s (w .at) (closing w s))
+  finishAt (field m C q) w s = notDue w s
+  finishAt (many m E q) w s = notDue w s
+
+  -- ---- the steps
+
+  abbrev pub planOf : ℕ → Plan
+  planOf kind = F .plan (F .kind kind)
+
+  -- codec, type, network and chain id, as they are given
+  abbrev pub headBytes : ℕ → ℕ → List ℕ → List ℕ
+  headBytes kind network chain = digits 2 0 ++ (digits 4 kind ++ (digits 4 network ++ chain))
+
+  unfoldable pub start : Writer → List ℕ → ℕ → ℕ → List ℕ → Turn
+  start w s kind network chain =
+      let ys = headBytes kind network chain in
+      let q = planOf kind in
+      answered (guarded (eqb (w .phase) 0) w s (judged (head F) record { whole = true; bytes = ys } (roomFor (length (ys ++ opening q)) s)))
+      w s (opened kind 1 (length ys) q) (overwrite s 0 (ys ++ opening q))
+
+  unfoldable pub put : Writer → List ℕ → Segment → Given → Turn
+  put w s l g = putAt (due (w .phase) (planOf (w .kind))) w s l g
+
+  unfoldable pub close : Writer → List ℕ → Turn
+  close w s = closeAt (due (w .phase) (planOf (w .kind))) w s
+
+  unfoldable pub finish : Writer → List ℕ → Turn
+  finish w s = finishAt (due (w .phase) (planOf (w .kind))) w s

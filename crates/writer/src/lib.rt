@@ -1,0 +1,24 @@
+// A writer of transactions: a state that each step hands back, over a lent buffer.
+use wire::Refusal;
+
+// How far a transaction is written: its type, how many parts are begun, the bytes written; and of the list that is open, where its count stands,
+// how many elements it has, and where the last of them starts.
+pub struct Writer {
+    pub kind: u64,
+    pub phase: u64,
+    pub at: usize,
+    pub list: usize,
+    pub count: u64,
+    pub last: usize,
+}
+
+// The bytes written, or why none were.
+pub enum Written {
+    Done(usize),
+    Refused(Refusal),
+}
+
+pub struct Step {
+    pub next: Writer,
+    pub answer: Written,
+}
