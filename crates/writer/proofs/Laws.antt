@@ -61,10 +61,10 @@ by-room n s P f r = go (leb n (length s)) (leb n mostBytes) f
 
 module _ {A : Type 0} (F : Format A) (g : Given) (v : Verdict) where
   -- what a result comes to
-  abbrev verdictOf : Result A → Verdict
+  abbrev pub verdictOf : Result A → Verdict
   verdictOf o = onResult o (λ e. refuse (e .number)) (λ a m. pick (eqb m (length (g .bytes))) v (refuse bytesAfterEnd))
 
-  judged-read : judged F g v ≡ pick (g .whole) (verdictOf (read F (g .bytes) 0)) (refuse (ruleNumber cutShort))
+  pub judged-read : judged F g v ≡ pick (g .whole) (verdictOf (read F (g .bytes) 0)) (refuse (ruleNumber cutShort))
   unfolding judged
   judged-read = ap (λ x. pick (g .whole) x (refuse (ruleNumber cutShort))) (F .same (g .bytes) 0 (λ e. refuse (e .number)) (λ a m. pick (eqb m (length (g .bytes))) v (refuse bytesAfterEnd)))
 

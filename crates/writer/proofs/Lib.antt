@@ -2,3 +2,7 @@
 pub mod Laws
 pub mod Keeping
 pub mod Finishing
+pub mod Filling
+pub mod Spelling
+pub mod Trip
+pub mod Owing
