@@ -27,7 +27,9 @@ use Rattle.transaction.specs.declared.Segment.{Segment}
 use Rattle.writer.specs.declared.Writer.{Writer}
 use Rattle.writer.specs.declared.Written.{Written}
 use Rattle.writer.specs.declared.Written.the-variants as W
-use Rattle.writer.specs.Steps.{fresh, Turn, Verdict, fine, refuse, answered, guarded, Given, judged, roomFor, overwrite, prev, sane, grown, appended, isSegment, tail, due, opening, opened, putAt, closeAt, finishAt, planOf, headBytes, blankOf, blankBehind, closing, start, put, close, finish}
+use Rattle.writer.specs.Steps.{fresh, Turn, answered, guarded, Given, judged, roomFor, overwrite, prev, sane, grown, appended, isSegment, tail, due, opening, opened, putAt, closeAt, finishAt, planOf, headBytes, blankOf, blankBehind, closing, start, put, close, finish}
+use Rattle.writer.specs.declared.Verdict.{Verdict}
+use Rattle.writer.specs.declared.Verdict.the-variants as J
 use Rattle.writer.specs.Runs.{Act, starts, puts, closes, finishes, Fair, AllFair, act, run, given}
 use Rattle.writer.specs.Claims.{finishBehind, FinishedIsAccepted}
 use Rattle.writer.proofs.Laws.{pick-fine, guarded-inv, guarded-fine, room-inv, by-room, judged-then, judged-inv, judged-own, answered-keeps, take-overwrite, length-overwrite}
@@ -82,7 +84,7 @@ module _ (F : Family) where
   put-keeps l g fair first good (many m E q) w s b kind isDue reach (es, o) =
       answered-keeps Kept _ w s _ _ (running record { first = first; good = good; kind = kind; parts = many m E q; isDue = isDue; done = b; reach = reach; stays = (es, o) }) λ e.
       let (_, _, e₁) = guarded-inv (isSegment l m && sane w) w s _ e in
-      let e₂ = subst (λ (z : List ℕ). judged (E .element z) g (roomFor (w .at + length (g .bytes)) s) ≡ fine) (o .before) e₁ in
+      let e₂ = subst (λ (z : List ℕ). judged (E .element z) g (roomFor (w .at + length (g .bytes)) s) ≡ J.Fine) (o .before) e₁ in
       let (f, k) = room-inv (w .at + length (g .bytes)) s (judged-then (E .element (leaves (E .element) [] es)) g _ e₂) in
       let (x, gx, ex) = judged-inv (E .element (leaves (E .element) [] es)) g _ e₂ (fair (omega arith)) in
       running
@@ -146,7 +148,7 @@ module _ (F : Family) where
   finish-keeps first good (many m E q) w s b kind isDue reach stays = running record { first = first; good = good; kind = kind; parts = many m E q; isDue = isDue; done = b; reach = reach; stays = stays }
 
   -- before the start nothing is due
-  by-due : (T : Plan → Writer → List ℕ → Turn) → Keeps T → ((w : Writer) (s : List ℕ) → T shut w s ≡ answered (refuse stepNotDue) w s w s) → (w : Writer) (s : List ℕ) → Kept w s
+  by-due : (T : Plan → Writer → List ℕ → Turn) → Keeps T → ((w : Writer) (s : List ℕ) → T shut w s ≡ answered (J.Refuse stepNotDue) w s w s) → (w : Writer) (s : List ℕ) → Kept w s
       → Kept (T (due (w .phase) (planOf F (w .kind))) w s .step .next) (T (due (w .phase) (planOf F (w .kind))) w s .buffer)
   unfolding answered
   by-due T keep none w s (waiting e) =

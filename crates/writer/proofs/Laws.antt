@@ -15,19 +15,21 @@ use Rattle.wire.specs.Format.{Format, Result, took, refused, onResult, read}
 use Rattle.transaction.specs.Signed.{mostBytes}
 use Rattle.writer.specs.declared.Writer.{Writer}
 use Rattle.writer.specs.declared.Written.the-variants as W
-use Rattle.writer.specs.Steps.{Verdict, fine, refuse, Given, answered, guarded, judged, roomFor, overwrite}
+use Rattle.writer.specs.Steps.{Given, answered, guarded, judged, roomFor, overwrite}
+use Rattle.writer.specs.declared.Verdict.{Verdict}
+use Rattle.writer.specs.declared.Verdict.the-variants as J
 use Rattle.writer.specs.Runs.{given}
 
 -- ---- verdicts that bar nothing
 
-pub not-fine : {P : Type 0} (n : ℕ) → refuse n ≡ fine → P
+pub not-fine : {P : Type 0} (n : ℕ) → J.Refuse n ≡ J.Fine → P
 not-fine n e = let z : _≡_ {A = ℕ} 0 1 = cc in absurd (omega arith)
 
-pub pick-fine : (t : Bool) (v : Verdict) (n : ℕ) → pick t v (refuse n) ≡ fine → (t ≡ true) × (v ≡ fine)
+pub pick-fine : (t : Bool) (v : Verdict) (n : ℕ) → pick t v (J.Refuse n) ≡ J.Fine → (t ≡ true) × (v ≡ J.Fine)
 pick-fine true v n e = (refl, e)
 pick-fine false v n e = not-fine n e
 
-pub guarded-inv : (t : Bool) (w : Writer) (s : List ℕ) (v : Verdict) → guarded t w s v ≡ fine → (t ≡ true) × (w .at ≤ length s) × (v ≡ fine)
+pub guarded-inv : (t : Bool) (w : Writer) (s : List ℕ) (v : Verdict) → guarded t w s v ≡ J.Fine → (t ≡ true) × (w .at ≤ length s) × (v ≡ J.Fine)
 guarded-inv t w s v e =
     let (a, e₁) = pick-fine t _ stepNotDue e in
     let (b, e₂) = pick-fine (leb (w .at) (length s)) v noRoom e₁ in
@@ -36,23 +38,23 @@ guarded-inv t w s v e =
 pub guarded-fine : (t : Bool) (w : Writer) (s : List ℕ) (v : Verdict) → t ≡ true → w .at ≤ length s → guarded t w s v ≡ v
 guarded-fine t w s v a b = rw (a, le-leb (w .at) (length s) b)
 
-pub room-inv : (n : ℕ) (s : List ℕ) → roomFor n s ≡ fine → (n ≤ length s) × (n ≤ mostBytes)
+pub room-inv : (n : ℕ) (s : List ℕ) → roomFor n s ≡ J.Fine → (n ≤ length s) × (n ≤ mostBytes)
 unfolding roomFor
 room-inv n s e =
     let (a, e₁) = pick-fine (leb n (length s)) _ noRoom e in
-    let (b, _) = pick-fine (leb n mostBytes) fine noRoom e₁ in
+    let (b, _) = pick-fine (leb n mostBytes) J.Fine noRoom e₁ in
     (leb-true n (length s) a, leb-true n mostBytes b)
 
-pub room-fine : (n : ℕ) (s : List ℕ) → n ≤ length s → n ≤ mostBytes → roomFor n s ≡ fine
+pub room-fine : (n : ℕ) (s : List ℕ) → n ≤ length s → n ≤ mostBytes → roomFor n s ≡ J.Fine
 unfolding roomFor
 room-fine n s h k = rw (le-leb n (length s) h, le-leb n mostBytes k)
 
 -- there is room, or it is 14
-pub by-room : (n : ℕ) (s : List ℕ) (P : Verdict → Type 0) → (roomFor n s ≡ fine → P fine) → P (refuse noRoom) → P (roomFor n s)
+pub by-room : (n : ℕ) (s : List ℕ) (P : Verdict → Type 0) → (roomFor n s ≡ J.Fine → P J.Fine) → P (J.Refuse noRoom) → P (roomFor n s)
 unfolding roomFor
 by-room n s P f r = go (leb n (length s)) (leb n mostBytes) f
   where
-    go : (a c : Bool) → (pick a (pick c fine (refuse noRoom)) (refuse noRoom) ≡ fine → P fine) → P (pick a (pick c fine (refuse noRoom)) (refuse noRoom))
+    go : (a c : Bool) → (pick a (pick c J.Fine (J.Refuse noRoom)) (J.Refuse noRoom) ≡ J.Fine → P J.Fine) → P (pick a (pick c J.Fine (J.Refuse noRoom)) (J.Refuse noRoom))
     go true true f = f refl
     go true false f = r
     go false c f = r
@@ -62,26 +64,26 @@ by-room n s P f r = go (leb n (length s)) (leb n mostBytes) f
 module _ {A : Type 0} (F : Format A) (g : Given) (v : Verdict) where
   -- what a result comes to
   abbrev pub verdictOf : Result A → Verdict
-  verdictOf o = onResult o (λ e. refuse (e .number)) (λ a m. pick (eqb m (length (g .bytes))) v (refuse bytesAfterEnd))
+  verdictOf o = onResult o (λ e. J.Refuse (e .number)) (λ a m. pick (eqb m (length (g .bytes))) v (J.Refuse bytesAfterEnd))
 
-  pub judged-read : judged F g v ≡ pick (g .whole) (verdictOf (read F (g .bytes) 0)) (refuse (ruleNumber cutShort))
+  pub judged-read : judged F g v ≡ pick (g .whole) (verdictOf (read F (g .bytes) 0)) (J.Refuse (ruleNumber cutShort))
   unfolding judged
-  judged-read = ap (λ x. pick (g .whole) x (refuse (ruleNumber cutShort))) (F .same (g .bytes) 0 (λ e. refuse (e .number)) (λ a m. pick (eqb m (length (g .bytes))) v (refuse bytesAfterEnd)))
+  judged-read = ap (λ x. pick (g .whole) x (J.Refuse (ruleNumber cutShort))) (F .same (g .bytes) 0 (λ e. J.Refuse (e .number)) (λ a m. pick (eqb m (length (g .bytes))) v (J.Refuse bytesAfterEnd)))
 
-  result-fine : (o : Result A) → verdictOf o ≡ fine → (a : A) × (o ≡ took a (length (g .bytes))) × (v ≡ fine)
+  result-fine : (o : Result A) → verdictOf o ≡ J.Fine → (a : A) × (o ≡ took a (length (g .bytes))) × (v ≡ J.Fine)
   result-fine (took a m) e =
       let (t, h) = pick-fine (eqb m (length (g .bytes))) v bytesAfterEnd e in
       (a, ap (took a) (eqb-true m (length (g .bytes)) t), h)
   result-fine (refused d) e = not-fine (d .number) e
 
-  took-fine : judged F g v ≡ fine → (a : A) × (read F (g .bytes) 0 ≡ took a (length (g .bytes))) × (v ≡ fine)
+  took-fine : judged F g v ≡ J.Fine → (a : A) × (read F (g .bytes) 0 ≡ took a (length (g .bytes))) × (v ≡ J.Fine)
   took-fine e = result-fine (read F (g .bytes) 0) (pick-fine (g .whole) _ (ruleNumber cutShort) (sym judged-read ∙ e) .1)
 
-  pub judged-then : judged F g v ≡ fine → v ≡ fine
+  pub judged-then : judged F g v ≡ J.Fine → v ≡ J.Fine
   judged-then e = took-fine e .2
 
   -- what is judged fine is the writing of a good value
-  pub judged-inv : judged F g v ≡ fine → Bytes (g .bytes) → (a : A) × F .Good a × (F .write a ≡ g .bytes)
+  pub judged-inv : judged F g v ≡ J.Fine → Bytes (g .bytes) → (a : A) × F .Good a × (F .write a ≡ g .bytes)
   judged-inv e bs =
       let (a, r, _) = took-fine e in
       let (good, st) = F .sound (g .bytes) 0 a (length (g .bytes)) bs r in
@@ -96,11 +98,11 @@ judged-own F a v h =
 -- ---- answers
 
 -- what holds of state and buffer holds after the step, if it held before and holds where the step is done
-pub answered-keeps : (P : Writer → List ℕ → Type 1) (v : Verdict) (w : Writer) (s : List ℕ) (w′ : Writer) (s′ : List ℕ) → P w s → (v ≡ fine → P w′ s′)
+pub answered-keeps : (P : Writer → List ℕ → Type 1) (v : Verdict) (w : Writer) (s : List ℕ) (w′ : Writer) (s′ : List ℕ) → P w s → (v ≡ J.Fine → P w′ s′)
     → P (answered v w s w′ s′ .step .next) (answered v w s w′ s′ .buffer)
 unfolding answered
-answered-keeps P fine w s w′ s′ h k = k refl
-answered-keeps P (refuse n) w s w′ s′ h k = h
+answered-keeps P J.Fine w s w′ s′ h k = k refl
+answered-keeps P (J.Refuse n) w s w′ s′ h k = h
 
 pub both-true : (a b : Bool) → (a && b) ≡ true → (a ≡ true) × (b ≡ true)
 both-true true b e = (refl, e)

@@ -17,17 +17,19 @@ use Rattle.transaction.specs.Family.{Family, head, unsigned}
 use Rattle.transaction.specs.declared.Segment.{Segment}
 use Rattle.writer.specs.declared.Writer.{Writer}
 use Rattle.writer.specs.declared.Written.the-variants as W
-use Rattle.writer.specs.Steps.{Turn, Verdict, fine, refuse, Given, answered, guarded, judged, roomFor, isSegment, sane, due, opening, opened, overwrite, prev, grown, appended, putAt, closeAt, finishAt, closing, planOf, headBytes, start, put, close, finish}
+use Rattle.writer.specs.Steps.{Turn, Given, answered, guarded, judged, roomFor, isSegment, sane, due, opening, opened, overwrite, prev, grown, appended, putAt, closeAt, finishAt, closing, planOf, headBytes, start, put, close, finish}
+use Rattle.writer.specs.declared.Verdict.{Verdict}
+use Rattle.writer.specs.declared.Verdict.the-variants as J
 use Rattle.writer.specs.Runs.{Act, starts, puts, closes, finishes, act, given}
 use Rattle.writer.specs.Claims.{StepsOwe}
 use Rattle.writer.proofs.Laws.{judged-read}
 
 -- a number of the table, as the writer gives them
 abbrev Tabled : Verdict → Type 0
-Tabled fine = Unit {0}
-Tabled (refuse n) = (2 ≤ n) × (n ≤ 16)
+Tabled J.Fine = Unit {0}
+Tabled (J.Refuse n) = (2 ≤ n) × (n ≤ 16)
 
-pick-tabled : (t : Bool) (v : Verdict) (n : ℕ) → Tabled v → 2 ≤ n → n ≤ 16 → Tabled (pick t v (refuse n))
+pick-tabled : (t : Bool) (v : Verdict) (n : ℕ) → Tabled v → 2 ≤ n → n ≤ 16 → Tabled (pick t v (J.Refuse n))
 pick-tabled true v n h a b = h
 pick-tabled false v n h a b = (a, b)
 
@@ -36,12 +38,12 @@ guarded-tabled t w s v h = pick-tabled t _ stepNotDue (pick-tabled (leb (w .at) 
 
 room-tabled : (n : ℕ) (s : List ℕ) → Tabled (roomFor n s)
 unfolding roomFor
-room-tabled n s = pick-tabled (leb n (length s)) _ noRoom (pick-tabled (leb n mostBytes) fine noRoom tt (omega arith) (omega arith)) (omega arith) (omega arith)
+room-tabled n s = pick-tabled (leb n (length s)) _ noRoom (pick-tabled (leb n mostBytes) J.Fine noRoom tt (omega arith) (omega arith)) (omega arith) (omega arith)
 
 judged-tabled : {A : Type 0} (F : Format A) (g : Given) (v : Verdict) → Tabled v → Tabled (judged F g v)
 judged-tabled {A} F g v h = subst Tabled (sym (judged-read F g v)) (pick-tabled (g .whole) _ (ruleNumber cutShort) (go (read F (g .bytes) 0) refl) (omega arith) (omega arith))
   where
-    go : (o : Result A) → read F (g .bytes) 0 ≡ o → Tabled (onResult o (λ e. refuse (e .number)) (λ a m. pick (eqb m (length (g .bytes))) v (refuse bytesAfterEnd)))
+    go : (o : Result A) → read F (g .bytes) 0 ≡ o → Tabled (onResult o (λ e. J.Refuse (e .number)) (λ a m. pick (eqb m (length (g .bytes))) v (J.Refuse bytesAfterEnd)))
     go (took a m) r = pick-tabled (eqb m (length (g .bytes))) v bytesAfterEnd h (omega arith) (omega arith)
     go (Format.refused e) r = let (a, b) = ruled-range (e .number) (F .ruled (g .bytes) 0 e r) in (a, omega arith)
 
@@ -53,8 +55,8 @@ pub record Owed (w : Writer) (s : List ℕ) (t : Turn) : Type 0 where
   pub buffer : List ℕ
   pub is : t ≡ answered verdict w s next buffer
 
-none-owed : (w : Writer) (s : List ℕ) → Owed w s (answered (refuse stepNotDue) w s w s)
-none-owed w s = record { verdict = refuse stepNotDue; numbered = (omega arith, omega arith); next = w; buffer = s; is = refl }
+none-owed : (w : Writer) (s : List ℕ) → Owed w s (answered (J.Refuse stepNotDue) w s w s)
+none-owed w s = record { verdict = J.Refuse stepNotDue; numbered = (omega arith, omega arith); next = w; buffer = s; is = refl }
 
 put-owed : (q : Plan) (w : Writer) (s : List ℕ) (l : Segment) (g : Given) → Owed w s (putAt q w s l g)
 unfolding putAt
@@ -84,7 +86,7 @@ close-owed end w s = none-owed w s
 close-owed (field m F q) w s = none-owed w s
 close-owed (many m E q) w s =
     record {
-      verdict = guarded true w s (pick (leb (E .least) (w .count)) (roomFor (w .at + length (opening q)) s) (refuse (ruleNumber emptyList)));
+      verdict = guarded true w s (pick (leb (E .least) (w .count)) (roomFor (w .at + length (opening q)) s) (J.Refuse (ruleNumber emptyList)));
       numbered = guarded-tabled true w s _ (pick-tabled (leb (E .least) (w .count)) _ (ruleNumber emptyList) (room-tabled (w .at + length (opening q)) s) (omega arith) (omega arith));
       next = opened (w .kind) (suc (w .phase)) (w .at) q;
       buffer = overwrite s (w .at) (opening q);
@@ -125,8 +127,8 @@ module _ (F : Family) where
 answered-refused : (v : Verdict) → Tabled v → (w : Writer) (s : List ℕ) (w′ : Writer) (s′ : List ℕ) (e : Refusal) → answered v w s w′ s′ .step .answer ≡ W.Refused e
     → ((answered v w s w′ s′ .step .next ≡ w) × (answered v w s w′ s′ .buffer ≡ s)) × ((2 ≤ e .number) × (e .number ≤ 16) × (e .place ≡ 0))
 unfolding answered
-answered-refused fine t w s w′ s′ e h = let z : _≡_ {A = ℕ} 0 1 = cc in absurd (omega arith)
-answered-refused (refuse n) (a, b) w s w′ s′ e h =
+answered-refused J.Fine t w s w′ s′ e h = let z : _≡_ {A = ℕ} 0 1 = cc in absurd (omega arith)
+answered-refused (J.Refuse n) (a, b) w s w′ s′ e h =
     let i : refusal n 0 ≡ e = cc in
     ((refl, refl), subst (λ (r : Refusal). (2 ≤ r .number) × (r .number ≤ 16) × (r .place ≡ 0)) i (a, b, refl))
 

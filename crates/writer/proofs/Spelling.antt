@@ -19,7 +19,9 @@ use Rattle.transaction.specs.Family.{Family}
 use Rattle.transaction.specs.declared.Segment.{Segment}
 use Rattle.writer.specs.declared.Writer.{Writer}
 use Rattle.writer.specs.declared.Written.the-variants as W
-use Rattle.writer.specs.Steps.{turn, Verdict, fine, answered, guarded, judged, roomFor, overwrite, prev, sane, grown, appended, segmentCode, isSegment, tail, due, opening, opened, putAt, closeAt, planOf, put, close}
+use Rattle.writer.specs.Steps.{turn, answered, guarded, judged, roomFor, overwrite, prev, sane, grown, appended, segmentCode, isSegment, tail, due, opening, opened, putAt, closeAt, planOf, put, close}
+use Rattle.writer.specs.declared.Verdict.{Verdict}
+use Rattle.writer.specs.declared.Verdict.the-variants as J
 use Rattle.writer.specs.Runs.{Act, puts, closes, act, run, AllDone, given, elementActs, planActs}
 use Rattle.writer.proofs.Laws.{guarded-fine, room-fine, judged-own, length-overwrite}
 use Rattle.writer.proofs.Keeping.{leaves, leaves-snoc, listed, list-inv, list-write, Here, here-at, Open, Begun, open-at, open-few, open-more, closed, begin, due-next}
@@ -30,7 +32,7 @@ module _ (l : Segment) (w : Writer) (s b : List ℕ) where
   put-field : (C : Field) (q : Plan) (v : C .Content) → C .content .Good v → Here w s b
       → w .at + length (C .content .write v ++ opening q) ≤ length s → w .at + length (C .content .write v ++ opening q) ≤ mostBytes
       → putAt (field l C q) w s l (given (C .content .write v))
-      ≡ answered fine w s (opened (w .kind) (suc (w .phase)) (w .at + length (C .content .write v)) q) (overwrite s (w .at) (C .content .write v ++ opening q))
+      ≡ answered J.Fine w s (opened (w .kind) (suc (w .phase)) (w .at + length (C .content .write v)) q) (overwrite s (w .at) (C .content .write v ++ opening q))
   unfolding putAt
   put-field C q v g h f k =
       ap (λ (x : Verdict). answered x w s (opened (w .kind) (suc (w .phase)) (w .at + length (C .content .write v)) q) (overwrite s (w .at) (C .content .write v ++ opening q)))
@@ -45,7 +47,7 @@ module _ (l : Segment) (w : Writer) (s b : List ℕ) where
     put-element : (v : E .Element) → E .element (leaves (E .element) [] es) .Good v
         → w .at + length (E .element (leaves (E .element) [] es) .write v) ≤ length s → w .at + length (E .element (leaves (E .element) [] es) .write v) ≤ mostBytes
         → putAt (many l E q) w s l (given (E .element (leaves (E .element) [] es) .write v))
-        ≡ answered fine w s (grown w (length (E .element (leaves (E .element) [] es) .write v))) (appended w s (E .element (leaves (E .element) [] es) .write v))
+        ≡ answered J.Fine w s (grown w (length (E .element (leaves (E .element) [] es) .write v))) (appended w s (E .element (leaves (E .element) [] es) .write v))
     unfolding putAt
     put-element v g f k =
         let ys : List ℕ = E .element (leaves (E .element) [] es) .write v in
@@ -56,7 +58,7 @@ module _ (l : Segment) (w : Writer) (s b : List ℕ) where
         ∙ room-fine (w .at + length ys) s f k)
 
     close-list : E .least ≤ w .count → w .at + length (opening q) ≤ length s → w .at + length (opening q) ≤ mostBytes
-        → closeAt (many l E q) w s ≡ answered fine w s (opened (w .kind) (suc (w .phase)) (w .at) q) (overwrite s (w .at) (opening q))
+        → closeAt (many l E q) w s ≡ answered J.Fine w s (opened (w .kind) (suc (w .phase)) (w .at) q) (overwrite s (w .at) (opening q))
     unfolding closeAt
     close-list n f k =
         ap (λ (x : Verdict). answered x w s (opened (w .kind) (suc (w .phase)) (w .at) q) (overwrite s (w .at) (opening q)))
@@ -145,7 +147,7 @@ module _ (F : Family) where
   added w s l E q es v p ys b ep ey d o g f k =
       ap₂ (λ (r : Plan) (z : List ℕ). putAt r w s l (given (E .element z .write v))) d (sym ep)
       ∙ put-element l w s b E q es o v g (subst (λ (z : List ℕ). w .at + length z ≤ length s) (sym ey) f) (subst (λ (z : List ℕ). w .at + length z ≤ mostBytes) (sym ey) k)
-      ∙ ap (λ (z : List ℕ). answered fine w s (grown w (length z)) (appended w s z)) ey
+      ∙ ap (λ (z : List ℕ). answered J.Fine w s (grown w (length z)) (appended w s z)) ey
 
   module _ (l : Segment) (E : Elements) (q : Plan) (b : List ℕ) where
     abbrev Grew : List (E .Element) → List Act → Writer → List ℕ → Type 1

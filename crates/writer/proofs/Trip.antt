@@ -21,7 +21,9 @@ use Rattle.transaction.proofs.CredentialLaws.{same-length}
 use Rattle.transaction.proofs.Signed.{parts-took}
 use Rattle.writer.specs.declared.Writer.{Writer}
 use Rattle.writer.specs.declared.Written.the-variants as W
-use Rattle.writer.specs.Steps.{fresh, Turn, turn, Verdict, fine, answered, guarded, judged, roomFor, overwrite, due, opening, opened, finishAt, planOf, headBytes, blankOf, start, finish}
+use Rattle.writer.specs.Steps.{fresh, Turn, turn, answered, guarded, judged, roomFor, overwrite, due, opening, opened, finishAt, planOf, headBytes, blankOf, start, finish}
+use Rattle.writer.specs.declared.Verdict.{Verdict}
+use Rattle.writer.specs.declared.Verdict.the-variants as J
 use Rattle.writer.specs.Runs.{Act, starts, act, run, AllDone, given, planActs, spelled}
 use Rattle.writer.specs.Claims.{finishBehind, RoundTrip}
 use Rattle.writer.proofs.Laws.{guarded-fine, room-fine, judged-own, length-overwrite}
@@ -100,7 +102,7 @@ module _ (F : Family) (ends : (k : F .Kind) → Ends (F .plan k)) where
       ended : (u : Unsigned F) (w : Writer) (t : List ℕ) (n : ℕ) → AllDone F (spelled F u) fresh s → run F (spelled F u) fresh s ≡ (w, t) → due (w .phase) (planOf F (w .kind)) ≡ end
           → w .at + length (blankOf F u) ≡ n
           → finishAt F end w t ≡ answered (roomFor (w .at + length (blankOf F u)) t) w t (opened (w .kind) (suc (w .phase)) (w .at + length (blankOf F u)) shut) (overwrite t (w .at) (blankOf F u))
-          → roomFor (w .at + length (blankOf F u)) t ≡ fine
+          → roomFor (w .at + length (blankOf F u)) t ≡ J.Fine
           → Any.Parts (unsigned F) (wants F) (take (w .at + length (blankOf F u)) (overwrite t (w .at) (blankOf F u))) u (blankSigned F u) → Finishes u s n
       ended u w t n all r d there is fits p =
           let x : ℕ = w .at + length (blankOf F u) in

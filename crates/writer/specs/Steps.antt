@@ -18,6 +18,8 @@ use Rattle.writer.specs.declared.Writer.{Writer}
 use Rattle.writer.specs.declared.Step.{Step}
 use Rattle.writer.specs.declared.Written.{Written}
 use Rattle.writer.specs.declared.Written.the-variants as W
+use Rattle.writer.specs.declared.Verdict.{Verdict}
+use Rattle.writer.specs.declared.Verdict.the-variants as J
 
 -- nothing is written yet
 abbrev pub fresh : Writer
@@ -33,18 +35,14 @@ turn w a s = record { step = record { next = w; answer = a }; buffer = s }
 
 -- ---- verdicts: what bars a step, or nothing
 
-pub data Verdict : Type 0 where
-  fine : Verdict
-  refuse : ℕ → Verdict
-
 -- a step that is refused changes neither state nor buffer
 unfoldable pub answered : Verdict → Writer → List ℕ → Writer → List ℕ → Turn
-answered fine w s w′ s′ = turn w′ (W.Done (w′ .at)) s′
-answered (refuse n) w s w′ s′ = turn w (W.Refused (refusal n 0)) s
+answered J.Fine w s w′ s′ = turn w′ (W.Done (w′ .at)) s′
+answered (J.Refuse n) w s w′ s′ = turn w (W.Refused (refusal n 0)) s
 
 -- 16 comes first; then 14, where the buffer is shorter than the bytes written
 abbrev pub guarded : Bool → Writer → List ℕ → Verdict → Verdict
-guarded isDue w s v = pick isDue (pick (leb (w .at) (length s)) v (refuse noRoom)) (refuse stepNotDue)
+guarded isDue w s v = pick isDue (pick (leb (w .at) (length s)) v (J.Refuse noRoom)) (J.Refuse stepNotDue)
 
 -- what a step is given: the bytes that it would add, and whether they could be made: an address slice that is no multiple of 20 is cut short
 pub record Given : Type 0 where
@@ -55,12 +53,12 @@ pub record Given : Type 0 where
 unfoldable pub judged : {A : Type 0} → Format A → Given → Verdict → Verdict
 judged F g v =
     pick (g .whole)
-    (F .run (g .bytes) 0 (λ e. refuse (e .number)) λ a m. pick (eqb m (length (g .bytes))) v (refuse bytesAfterEnd))
-    (refuse (ruleNumber cutShort))
+    (F .run (g .bytes) 0 (λ e. J.Refuse (e .number)) λ a m. pick (eqb m (length (g .bytes))) v (J.Refuse bytesAfterEnd))
+    (J.Refuse (ruleNumber cutShort))
 
 -- n bytes in all pass neither the buffer's end nor 65,536
 unfoldable pub roomFor : ℕ → List ℕ → Verdict
-roomFor n s = pick (leb n (length s)) (pick (leb n mostBytes) fine (refuse noRoom)) (refuse noRoom)
+roomFor n s = pick (leb n (length s)) (pick (leb n mostBytes) J.Fine (J.Refuse noRoom)) (J.Refuse noRoom)
 
 -- ---- the buffer
 
@@ -129,7 +127,7 @@ abbrev pub isSegment : Segment → Segment → Bool
 isSegment l m = eqb (segmentCode l) (segmentCode m)
 
 abbrev pub notDue : Writer → List ℕ → Turn
-notDue w s = answered (refuse stepNotDue) w s w s
+notDue w s = answered (J.Refuse stepNotDue) w s w s
 
 -- a field, or one element more of the open list
 unfoldable pub putAt : Plan → Writer → List ℕ → Segment → Given → Turn
@@ -148,7 +146,7 @@ closeAt shut w s = notDue w s
 closeAt end w s = notDue w s
 closeAt (field m F q) w s = notDue w s
 closeAt (many m E q) w s =
-    answered (guarded true w s (pick (leb (E .least) (w .count)) (roomFor (w .at + length (opening q)) s) (refuse (ruleNumber emptyList))))
+    answered (guarded true w s (pick (leb (E .least) (w .count)) (roomFor (w .at + length (opening q)) s) (J.Refuse (ruleNumber emptyList))))
     w s (opened (w .kind) (suc (w .phase)) (w .at) q) (overwrite s (w .at) (opening q))
 
 module _ (F : Family) where

@@ -4,11 +4,11 @@ use wire::Refusal;
 // How far a transaction is written: its type, how many parts are begun, the bytes written; and of the list that is open, where its count stands,
 // how many elements it has, and where the last of them starts.
 pub struct Writer {
-    pub kind: u64,
-    pub phase: u64,
+    pub kind: u32,
+    pub phase: u32,
     pub at: usize,
     pub list: usize,
-    pub count: u64,
+    pub count: u32,
     pub last: usize,
 }
 
@@ -16,6 +16,12 @@ pub struct Writer {
 pub enum Written {
     Done(usize),
     Refused(Refusal),
+}
+
+// What bars a step, if anything does.
+pub enum Verdict {
+    Fine,
+    Refuse(u32),
 }
 
 pub struct Step {
