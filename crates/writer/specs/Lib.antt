@@ -2,3 +2,5 @@
 pub mod Steps
 pub mod Runs
 pub mod Claims
+pub mod Fields
+pub mod Code

@@ -1,4 +1,5 @@
 // A writer of transactions: a state that each step hands back, over a lent buffer.
+use transaction::Segment;
 use wire::Refusal;
 
 // How far a transaction is written: its type, how many parts are begun, the bytes written; and of the list that is open, where its count stands,
@@ -22,6 +23,14 @@ pub enum Written {
 pub enum Verdict {
     Fine,
     Refuse(u32),
+}
+
+// What is due: nothing, the finish, a field, or an element or the close of a list that needs so many elements.
+pub enum Due {
+    Nothing,
+    End,
+    Field(Segment),
+    List(Segment, u32),
 }
 
 pub struct Step {

@@ -1,0 +1,55 @@
+-- What the functions below the steps answer: what is due, by type and phase; and a step once its rules are judged. Assumes nothing.
+use Prim.Native.Nat.{ℕ, suc, _+_}
+use mathlib.Core.Bool.{Bool, true, false}
+use mathlib.Core.List.{List, [], _++_}
+use lib.ListN.{length}
+use Rattle.wire.specs.Bytes.{digits, pick}
+use Rattle.wire.specs.Numbers.{stepNotDue}
+use Rattle.transaction.specs.Plan.{Plan, shut, end, field, many}
+use Rattle.transaction.specs.declared.Segment.{Segment}
+use Rattle.writer.specs.declared.Writer.{Writer}
+use Rattle.writer.specs.declared.Step.{Step}
+use Rattle.writer.specs.declared.Due.{Due}
+use Rattle.writer.specs.declared.Due.the-variants as D
+use Rattle.writer.specs.declared.Verdict.{Verdict}
+use Rattle.writer.specs.declared.Verdict.the-variants as J
+use Rattle.writer.specs.Steps.{Turn, answered, roomFor, overwrite, sane, grown, appended}
+
+-- what code answers, and what the buffer holds then
+abbrev pub after : Step → List ℕ → Turn
+after r s = record { step = r; buffer = s }
+
+-- the first part of a plan: its name, and how many elements it needs
+abbrev pub dueOf : Plan → Due
+dueOf shut = D.Nothing
+dueOf end = D.End
+dueOf (field l F q) = D.Field l
+dueOf (many l E q) = D.List l (E .least)
+
+abbrev pub isList : Due → Bool
+isList D.Nothing = false
+isList D.End = false
+isList (D.Field l) = false
+isList (D.List l n) = true
+
+-- the count that is written as 0, where a list is due next
+abbrev pub countOf : Bool → List ℕ
+countOf opens = pick opens (digits 4 0) []
+
+-- v, and then u
+abbrev pub onFine : Verdict → Verdict → Verdict
+onFine J.Fine u = u
+onFine (J.Refuse n) u = J.Refuse n
+
+-- a field of the bytes ys, with the next list's count behind it, once its rules are judged
+abbrev pub fieldStep : Writer → List ℕ → Verdict → List ℕ → Bool → Turn
+fieldStep w s v ys opens =
+    answered (onFine v (roomFor (w .at + length (ys ++ countOf opens)) s))
+    w s (record { kind = w .kind; phase = suc (w .phase); at = w .at + length ys + length (countOf opens); list = w .at + length ys; count = 0; last = 0 })
+    (overwrite s (w .at) (ys ++ countOf opens))
+
+-- an element of the bytes ys, once its rules are judged
+abbrev pub elementStep : Writer → List ℕ → Verdict → List ℕ → Turn
+elementStep w s v ys =
+    answered (onFine v (pick (sane w) (roomFor (w .at + length ys) s) (J.Refuse stepNotDue)))
+    w s (grown w (length ys)) (appended w s ys)
