@@ -201,7 +201,7 @@ module _ (F : Family) where
           w₂,
           s₂,
           does-append m (closes ∷ []) w s w₁ s₁ w₂ s₂ does
-          (w₂, s₂, ap (λ (r : Plan). closeAt r w₁ s₁) d ∙ close-list l w₁ s₁ b E q es o (omega (arith, o .number)) fits small, (refl, refl)),
+              (w₂, s₂, ap (λ (r : Plan). closeAt r w₁ s₁) d ∙ close-list l w₁ s₁ b E q es o (omega (arith, o .number)) fits small, (refl, refl)),
           next,
           due-next (w₁ .phase) (planOf F (w₁ .kind)) (many l E q) tt d,
           length-overwrite s₁ (opening q) (w₁ .at) fits ∙ el,

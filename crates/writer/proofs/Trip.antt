@@ -109,9 +109,11 @@ module _ (F : Family) (ends : (k : F .Kind) → Ends (F .plan k)) where
           let w′ : Writer = opened (w .kind) (suc (w .phase)) x shut in
           let s′ : List ℕ = overwrite t (w .at) (blankOf F u) in
           let last : finishBehind F (spelled F u) s ≡ turn w′ (W.Done (x + 0)) s′ =
-          ap (λ (z : Writer × List ℕ). finish F (z .0) (z .1)) r ∙ ap (λ (z : Plan). finishAt F z w t) d ∙ is ∙ ap (λ (v : Verdict). answered v w t w′ s′) fits in
-          (all, ap (λ (z : Turn). z .step .answer) last ∙ ap W.Done (add-zero x ∙ there),
-          subst (λ (z : Turn). Any.Parts (unsigned F) (wants F) (take n (z .buffer)) u (blankSigned F u)) (sym last) (subst (λ (i : ℕ). Any.Parts (unsigned F) (wants F) (take i s′) u (blankSigned F u)) there p))
+          ap (λ (z : Writer × List ℕ). finish F (z .0) (z .1)) r ∙ ap (λ (z : Plan). finishAt F z w t) d ∙ is ∙ ap (λ (v : Verdict). answered v w t w′ s′) fits in (
+            all,
+            ap (λ (z : Turn). z .step .answer) last ∙ ap W.Done (add-zero x ∙ there),
+            subst (λ (z : Turn). Any.Parts (unsigned F) (wants F) (take n (z .buffer)) u (blankSigned F u)) (sym last) (subst (λ (i : ℕ). Any.Parts (unsigned F) (wants F) (take i s′) u (blankSigned F u)) there p),
+          )
 
   -- d is accepted, and v is its reading
   module _ (d : List ℕ) (v : Signed F) (n : ℕ) (bs : Bytes d) (e : check F d ≡ took v n) (s : List ℕ) (room : length d ≤ length s) where
