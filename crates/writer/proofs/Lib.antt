@@ -6,3 +6,5 @@ pub mod Filling
 pub mod Spelling
 pub mod Trip
 pub mod Owing
+pub mod Rows
+pub mod Storing

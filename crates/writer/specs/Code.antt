@@ -4,11 +4,12 @@ use mathlib.Core.Bool.{Bool, true, false}
 use mathlib.Core.List.{List, [], _++_}
 use lib.ListN.{length}
 use Rattle.wire.specs.Bytes.{digits, pick}
-use Rattle.wire.specs.Numbers.{stepNotDue}
+use Rattle.wire.specs.Numbers.{refusal, stepNotDue}
 use Rattle.transaction.specs.Plan.{Plan, shut, end, field, many}
 use Rattle.transaction.specs.declared.Segment.{Segment}
 use Rattle.writer.specs.declared.Writer.{Writer}
 use Rattle.writer.specs.declared.Step.{Step}
+use Rattle.writer.specs.declared.Written.the-variants as W
 use Rattle.writer.specs.declared.Due.{Due}
 use Rattle.writer.specs.declared.Due.the-variants as D
 use Rattle.writer.specs.declared.Verdict.{Verdict}
@@ -18,6 +19,9 @@ use Rattle.writer.specs.Steps.{Turn, answered, roomFor, overwrite, sane,
 -- what code answers, and what the buffer holds then
 abbrev pub after : Step → List ℕ → Turn
 after r s = record { step = r; buffer = s }
+
+abbrev pub refusedStep : Writer → ℕ → Step
+refusedStep w n = record { next = w; answer = W.Refused (refusal n 0) }
 
 -- the first part of a plan: its name, and how many elements it needs
 abbrev pub dueOf : Plan → Due

@@ -57,8 +57,11 @@ judged F g v =
     (J.Refuse (ruleNumber cutShort))
 
 -- n bytes in all pass neither the buffer's end nor 65,536
+abbrev pub roomIn : ℕ → ℕ → Verdict
+roomIn n length = pick (leb n length) (pick (leb n mostBytes) J.Fine (J.Refuse noRoom)) (J.Refuse noRoom)
+
 unfoldable pub roomFor : ℕ → List ℕ → Verdict
-roomFor n s = pick (leb n (length s)) (pick (leb n mostBytes) J.Fine (J.Refuse noRoom)) (J.Refuse noRoom)
+roomFor n s = roomIn n (length s)
 
 -- ---- the buffer
 

@@ -1,4 +1,7 @@
 // A writer of transactions: a state that each step hands back, over a lent buffer.
+pub mod plans;
+pub mod store;
+
 use transaction::Segment;
 use wire::Refusal;
 

@@ -1,0 +1,20 @@
+-- `writer::plans::list_at` meets its contract. Assumes nothing.
+use borrow.Author.Needs.{needs}
+use mathlib.Core.Path.{refl}
+use Rattle.writer.proofs.Rows.{is-list}
+use Rattle.writer.proofs.plans.list_at.Statement.{statement}
+use Rattle.writer.proofs.plans.list_at.Tie as tie
+
+pub list-at-spec : {M : Type 1} → statement M
+list-at-spec =
+    tie.close
+    (tie.spec
+    (λ c κs. search needs)  -- due-at-requires
+    (λ c. search needs)  -- enum-told
+    (λ c. search needs)  -- enum-told-2
+    (λ c. search needs)  -- enum-told-3
+    (λ c. search needs)  -- enum-told-4
+    (λ c. is-list _ _ (c .before .before .due-at .ensures) _ _ (c .enum-told .given .1) refl)  -- returns
+    (λ c. is-list _ _ (c .before .before .due-at .ensures) _ _ (c .enum-told2 .given .1) refl)  -- returns-2
+    (λ c. is-list _ _ (c .before .before .due-at .ensures) _ _ (c .enum-told3 .given .1) refl)  -- returns-3
+    (λ c. is-list _ _ (c .before .before .due-at .ensures) _ _ (c .enum-told4 .given .1) refl))  -- returns-4

@@ -1,0 +1,20 @@
+-- `writer::store::put_at` meets its contract. Assumes nothing.
+use borrow.Author.Needs.{needs}
+use native.Mathlib.Omega.{arith}
+use Prim.Native.Nat.{_+_}
+use lib.ListN.{length}
+use Rattle.writer.proofs.Storing.{lent-bytes}
+use Rattle.writer.proofs.store.put_at.Statement.{statement}
+use Rattle.writer.proofs.store.put_at.Tie as tie
+
+pub put-at-spec : {M : Type 1} → statement M
+put-at-spec =
+    tie.close
+    (tie.spec
+    (λ c. search needs)  -- add-put-bytes
+    (λ c. search needs)  -- sub-put-bytes
+    (λ c. search needs)  -- part-put-bytes-start
+    (λ c. search needs)  -- part-put-bytes-end
+    (λ c κs. search needs)  -- put-bytes-requires
+    (λ c. search needs)  -- same-length
+    (λ c. lent-bytes (c .before .before .before .before .before .before .args .buf .now) _ (c .before .before .before .before .before .before .args .from .now) (c .before .before .before .before .before .before .args .at) (c .before .before .before .before .before .before .args .at + length (c .before .before .before .before .before .before .args .from .now)) (c .before .before .put-bytes .ensures) (omega arith) (omega (arith, c .before .before .before .before .before .before .pre))))  -- returns
