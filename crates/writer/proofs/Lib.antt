@@ -8,3 +8,4 @@ pub mod Trip
 pub mod Owing
 pub mod Rows
 pub mod Storing
+pub mod Settling

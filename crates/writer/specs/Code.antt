@@ -23,6 +23,9 @@ after r s = record { step = r; buffer = s }
 abbrev pub refusedStep : Writer → ℕ → Step
 refusedStep w n = record { next = w; answer = W.Refused (refusal n 0) }
 
+abbrev pub storedStep : Writer → Step
+storedStep w = record { next = w; answer = W.Done (w .at) }
+
 -- the first part of a plan: its name, and how many elements it needs
 abbrev pub dueOf : Plan → Due
 dueOf shut = D.Nothing
@@ -45,12 +48,14 @@ abbrev pub onFine : Verdict → Verdict → Verdict
 onFine J.Fine u = u
 onFine (J.Refuse n) u = J.Refuse n
 
--- a field of the bytes ys, with the next list's count behind it, once its rules are judged
-abbrev pub fieldStep : Writer → List ℕ → Verdict → List ℕ → Bool → Turn
-fieldStep w s v ys opens =
-    answered (onFine v (roomFor (w .at + length (ys ++ countOf opens)) s))
-    w s (record { kind = w .kind; phase = suc (w .phase); at = w .at + length ys + length (countOf opens); list = w .at + length ys; count = 0; last = 0 })
-    (overwrite s (w .at) (ys ++ countOf opens))
+-- the state where the bytes written end at `at`, and a list that is next has its count behind them
+abbrev pub fieldNext : Writer → ℕ → ℕ → Bool → Writer
+fieldNext w phase at opens = record { kind = w .kind; phase = phase; at = at + length (countOf opens); list = at; count = 0; last = 0 }
+
+-- a field of the bytes ys, with the next list's count behind it, once its rules are judged; and the phase that is next
+abbrev pub fieldStep : Writer → List ℕ → Verdict → List ℕ → Bool → ℕ → Turn
+fieldStep w s v ys opens phase =
+    answered (onFine v (roomFor (w .at + length (ys ++ countOf opens)) s)) w s (fieldNext w phase (w .at + length ys) opens) (overwrite s (w .at) (ys ++ countOf opens))
 
 -- an element of the bytes ys, once its rules are judged
 abbrev pub elementStep : Writer → List ℕ → Verdict → List ℕ → Turn

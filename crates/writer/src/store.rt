@@ -1,11 +1,11 @@
 // What a step stores once its rules are judged: a field or an element behind what is written, and a list's count in its place.
 ghost use mathlib.Core.Path.{_≡_};
-ghost use Prim.Native.Nat.{_+_, _*_, _%_, _^_, _≤_};
+ghost use Prim.Native.Nat.{_+_, _%_, _^_, _≤_, _<_};
 ghost use mathlib.Core.List.{_++_};
 ghost use lib.ListN.{length};
 ghost use Rattle.wire.specs.Bytes.{digits};
-ghost use Rattle.writer.specs.Steps.{roomIn, overwrite, sane};
-ghost use Rattle.writer.specs.Code.{refusedStep, countOf};
+ghost use Rattle.writer.specs.Steps.{answered, roomIn, overwrite, sane, grown, appended};
+ghost use Rattle.writer.specs.Code.{after, refusedStep, storedStep, countOf, fieldNext, fieldStep, elementStep};
 use crate::Step;
 use crate::Verdict;
 use crate::Writer;
@@ -21,6 +21,16 @@ pub fn refused(w: Writer, number: u32) -> Step
     Step {
         next: w,
         answer: Written::Refused(Refusal { number, place: 0 }),
+    }
+}
+
+pub fn stored(w: Writer) -> Step
+    ensures { λ r. ⌜ r ≡ storedStep w ⌝ }
+{
+    let at = w.at;
+    Step {
+        next: w,
+        answer: Written::Done(at),
     }
 }
 
@@ -99,4 +109,99 @@ fn room_of(at: usize, first: &[u8], second: &[u8], opens: bool, limit: usize) ->
         return room_for(at, n + 4, limit);
     }
     room_for(at, n, limit)
+}
+
+// Stores a field, for which there is room, and the next list's count as 0.
+fn store_field(w: Writer, buf: &mut [u8], first: &[u8], second: &[u8], opens: bool, phase: u32) -> Step
+    requires { ⌜ w .at + length ((now first ++ now second) ++ countOf opens) ≤ length (now buf) ⌝ }
+    ensures { λ r. ⌜ after r (now (buf .exit)) ≡ answered Verdict.Fine w (now (buf .entry)) (fieldNext w phase (w .at + length (now (first .entry) ++ now (second .entry))) opens) (overwrite (now (buf .entry)) (w .at) ((now (first .entry) ++ now (second .entry)) ++ countOf opens)) ⌝ }
+{
+    put_both(buf, w.at, first, second);
+    let list = w.at + first.len() + second.len();
+    if opens {
+        put_count(buf, list, 0);
+        return stored(Writer {
+            kind: w.kind,
+            phase,
+            at: list + 4,
+            list,
+            count: 0,
+            last: 0,
+        });
+    }
+    stored(Writer {
+        kind: w.kind,
+        phase,
+        at: list,
+        list,
+        count: 0,
+        last: 0,
+    })
+}
+
+// A field whose rules are judged.
+pub fn settle_field(
+    w: Writer,
+    buf: &mut [u8],
+    verdict: Verdict,
+    first: &[u8],
+    second: &[u8],
+    opens: bool,
+    phase: u32,
+) -> Step
+    ensures { λ r. ⌜ after r (now (buf .exit)) ≡ fieldStep w (now (buf .entry)) verdict (now (first .entry) ++ now (second .entry)) opens phase ⌝ }
+{
+    match verdict {
+        Verdict::Refuse(number) => refused(w, number),
+        Verdict::Fine => match room_of(w.at, first, second, opens, buf.len()) {
+            Verdict::Refuse(number) => refused(w, number),
+            Verdict::Fine => store_field(w, buf, first, second, opens, phase),
+        },
+    }
+}
+
+// Stores an element, for which there is room, and the new count of its list.
+fn store_element(w: Writer, buf: &mut [u8], first: &[u8], second: &[u8]) -> Step
+    requires { ⌜ (w .at + length (now first ++ now second) ≤ length (now buf)) × ((w .list + 4 ≤ w .at) × (w .count < 65536)) ⌝ }
+    ensures { λ r. ⌜ after r (now (buf .exit)) ≡ answered Verdict.Fine w (now (buf .entry)) (grown w (length (now (first .entry) ++ now (second .entry)))) (appended w (now (buf .entry)) (now (first .entry) ++ now (second .entry))) ⌝ }
+{
+    put_both(buf, w.at, first, second);
+    let count = w.count + 1;
+    put_count(buf, w.list, count as u64);
+    stored(Writer {
+        kind: w.kind,
+        phase: w.phase,
+        at: w.at + first.len() + second.len(),
+        list: w.list,
+        count,
+        last: w.at,
+    })
+}
+
+// An element whose rules are judged.
+pub fn settle_element(
+    w: Writer,
+    buf: &mut [u8],
+    verdict: Verdict,
+    first: &[u8],
+    second: &[u8],
+) -> Step
+    ensures { λ r. ⌜ after r (now (buf .exit)) ≡ elementStep w (now (buf .entry)) verdict (now (first .entry) ++ now (second .entry)) ⌝ }
+{
+    match verdict {
+        Verdict::Refuse(number) => refused(w, number),
+        Verdict::Fine => {
+            if is_sane(w) {
+                match room_of(w.at, first, second, false, buf.len()) {
+                    Verdict::Refuse(number) => {
+                        return refused(w, number);
+                    }
+                    Verdict::Fine => {
+                        return store_element(w, buf, first, second);
+                    }
+                }
+            }
+            refused(w, wire::numbers::STEP_NOT_DUE)
+        }
+    }
 }
