@@ -9,3 +9,4 @@ pub mod Owing
 pub mod Rows
 pub mod Storing
 pub mod Settling
+pub mod Fitting

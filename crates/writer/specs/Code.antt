@@ -14,7 +14,7 @@ use Rattle.writer.specs.declared.Due.{Due}
 use Rattle.writer.specs.declared.Due.the-variants as D
 use Rattle.writer.specs.declared.Verdict.{Verdict}
 use Rattle.writer.specs.declared.Verdict.the-variants as J
-use Rattle.writer.specs.Steps.{Turn, answered, roomFor, overwrite, sane, grown, appended}
+use Rattle.writer.specs.Steps.{Turn, answered, isSegment, roomFor, overwrite, sane, grown, appended}
 
 -- what code answers, and what the buffer holds then
 abbrev pub after : Step → List ℕ → Turn
@@ -38,6 +38,19 @@ isList D.Nothing = false
 isList D.End = false
 isList (D.Field l) = false
 isList (D.List l n) = true
+
+-- a field of that name is due; a list of that name is open
+abbrev pub isField : Segment → Due → Bool
+isField l D.Nothing = false
+isField l D.End = false
+isField l (D.Field m) = isSegment l m
+isField l (D.List m n) = false
+
+abbrev pub isOpen : Segment → Due → Bool
+isOpen l D.Nothing = false
+isOpen l D.End = false
+isOpen l (D.Field m) = false
+isOpen l (D.List m n) = isSegment l m
 
 -- the count that is written as 0, where a list is due next
 abbrev pub countOf : Bool → List ℕ
