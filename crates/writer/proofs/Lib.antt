@@ -10,3 +10,4 @@ pub mod Rows
 pub mod Storing
 pub mod Settling
 pub mod Fitting
+pub mod Naming

@@ -1,10 +1,10 @@
 -- What the code finds due is what the plan has there. Assumes nothing.
 use Prim.Native.Nat.{ℕ, zero, suc, _+_, _-_, _≤_}
-use mathlib.Core.Path.{_≡_, refl, sym, ap, _∙_}
-use mathlib.Core.Bool.{Bool}
+use mathlib.Core.Path.{_≡_, refl, sym, ap, _∙_, subst}
+use mathlib.Core.Bool.{Bool, true, false, false≢true}
 use native.Mathlib.Omega.{arith}
-use lib.Dec.{eqb}
-use borrow.Author.Tests.{ne-eqb}
+use lib.Dec.{eqb, leb}
+use borrow.Author.Tests.{ne-eqb, leb-true, leb-false}
 use Rattle.wire.proofs.Bytes.{found}
 use Rattle.transaction.specs.Plan.{Plan, shut}
 use Rattle.transaction.specs.Avm.{kindOf, ownPlan, plan, avm}
@@ -15,7 +15,7 @@ use Rattle.transaction.specs.declared.Segment.{Segment}
 use Rattle.writer.specs.declared.Due.{Due}
 use Rattle.writer.specs.declared.Due.the-variants as D
 use Rattle.writer.specs.Steps.{tail, behind, due, planOf}
-use Rattle.writer.specs.Code.{dueOf, isList}
+use Rattle.writer.specs.Code.{dueOf}
 
 -- the part of a number, and none behind the last
 module _ (p : Plan) (part : ℕ) where
@@ -55,7 +55,32 @@ module _ (z : Due) (kind phase : ℕ) where
       let j : phase ≡ suc (suc (suc (suc k))) = omega arith in
       h ∙ sym (ap (λ (i : ℕ). dueOf (due i p)) j ∙ ap dueOf (behind-tail (suc (suc k)) p ∙ behind-tail (suc k) (tail p) ∙ behind-tail k (tail (tail p))))
 
--- is it a list
-module _ (x y : Due) (p : x ≡ y) where
-  pub is-list : (z : Bool) (d : Due) → x ≡ d → z ≡ isList d → z ≡ isList y
-  is-list z d q h = h ∙ sym (ap isList (found p q))
+-- what is asked of it
+module _ (x y : Due) (p : x ≡ y) {R : Type 0} (f : Due → R) where
+  pub on-due : (z : R) (d : Due) → x ≡ d → z ≡ f d → z ≡ f y
+  on-due z d q h = h ∙ sym (ap f (found p q))
+
+pub same-names : (a b c d : ℕ) → a ≡ c → b ≡ d → eqb a b ≡ eqb c d
+same-names a b c d h k = rw (h, k)
+
+-- the longest plan has eight parts
+eight : (k : Kind) → behind 8 (plan memoMost k) ≡ shut
+eight K.Base = refl
+eight K.CreateAsset = refl
+eight K.Operation = refl
+eight K.Import = refl
+eight K.Export = refl
+
+pub phase-small : (kind phase : ℕ) (f : Due → Bool) → f D.Nothing ≡ false → f (dueOf (due phase (planOf (avm memoMost) kind))) ≡ true → phase ≤ 8
+phase-small kind phase f none h = go (leb phase 8) refl
+  where
+    beyond : (k : ℕ) → 8 ≤ k → f (dueOf (behind k (planOf (avm memoMost) kind))) ≡ true → ⊥
+    beyond k e h = false≢true (sym none ∙ ap f (past (planOf (avm memoMost) kind) k 8 (eight (kindOf kind)) e) ∙ h)
+
+    go : (b : Bool) → leb phase 8 ≡ b → phase ≤ 8
+    go true e = leb-true phase 8 e
+    go false e =
+        let k : ℕ = phase - 1 in
+        let l = leb-false phase 8 e in
+        let j : phase ≡ suc k = omega arith in
+        absurd (beyond k (omega arith) (subst (λ (i : ℕ). f (dueOf (due i (planOf (avm memoMost) kind))) ≡ true) j h))

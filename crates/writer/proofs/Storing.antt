@@ -13,7 +13,7 @@ use Rattle.transaction.specs.Signed.{mostBytes}
 use Rattle.writer.specs.declared.Writer.{Writer}
 use Rattle.writer.specs.declared.Verdict.{Verdict}
 use Rattle.writer.specs.declared.Verdict.the-variants as J
-use Rattle.writer.specs.Steps.{roomIn, overwrite, sane}
+use Rattle.writer.specs.Steps.{guardedIn, roomIn, overwrite, sane}
 use Rattle.writer.specs.Code.{countOf}
 use Rattle.writer.proofs.Laws.{length-overwrite}
 
@@ -35,6 +35,18 @@ module _ (n limit : ℕ) where
 
 pub same-room : (v : Verdict) (n m limit : ℕ) → v ≡ roomIn n limit → n ≡ m → v ≡ roomIn m limit
 same-room v n m limit h e = rw (← e) h
+
+-- ---- whether a step is entered
+
+module _ (t : Bool) (w : Writer) (limit : ℕ) (rules : Verdict) where
+  pub too-short : t ≡ true → limit < w .at → J.Refuse 14 ≡ guardedIn t w limit rules
+  too-short e h = rw (e, lt-leb (w .at) limit h)
+
+  pub goes-on : t ≡ true → w .at ≤ limit → rules ≡ guardedIn t w limit rules
+  goes-on e h = rw (e, le-leb (w .at) limit h)
+
+  pub not-entered : t ≡ false → J.Refuse 16 ≡ guardedIn t w limit rules
+  not-entered e = rw e
 
 -- ---- an open list
 

@@ -6,6 +6,8 @@ use lib.ListN.{length}
 use Rattle.wire.specs.Bytes.{digits, pick}
 use Rattle.wire.specs.Numbers.{refusal, stepNotDue}
 use Rattle.transaction.specs.Plan.{Plan, shut, end, field, many}
+use Rattle.transaction.specs.Avm.{avm}
+use Rattle.transaction.specs.Answer.{memoMost}
 use Rattle.transaction.specs.declared.Segment.{Segment}
 use Rattle.writer.specs.declared.Writer.{Writer}
 use Rattle.writer.specs.declared.Step.{Step}
@@ -14,7 +16,7 @@ use Rattle.writer.specs.declared.Due.{Due}
 use Rattle.writer.specs.declared.Due.the-variants as D
 use Rattle.writer.specs.declared.Verdict.{Verdict}
 use Rattle.writer.specs.declared.Verdict.the-variants as J
-use Rattle.writer.specs.Steps.{Turn, answered, isSegment, roomFor, overwrite, sane, grown, appended}
+use Rattle.writer.specs.Steps.{Turn, answered, guarded, isSegment, roomFor, overwrite, sane, grown, appended, due, planOf}
 
 -- what code answers, and what the buffer holds then
 abbrev pub after : Step → List ℕ → Turn
@@ -75,3 +77,17 @@ abbrev pub elementStep : Writer → List ℕ → Verdict → List ℕ → Turn
 elementStep w s v ys =
     answered (onFine v (pick (sane w) (roomFor (w .at + length ys) s) (J.Refuse stepNotDue)))
     w s (grown w (length ys)) (appended w s ys)
+
+-- ---- a step by the name of a part
+
+abbrev pub dueAt : Writer → Due
+dueAt w = dueOf (due (w .phase) (planOf (avm memoMost) (w .kind)))
+
+abbrev pub namedField : Writer → List ℕ → Segment → Verdict → List ℕ → Turn
+namedField w s l rules ys =
+    pick (isField l (dueAt w))
+    (fieldStep w s (guarded true w s rules) ys (isList (dueOf (due (suc (w .phase)) (planOf (avm memoMost) (w .kind))))) (suc (w .phase)))
+    (answered (J.Refuse stepNotDue) w s w s)
+
+abbrev pub namedElement : Writer → List ℕ → Segment → Verdict → List ℕ → Turn
+namedElement w s l rules ys = pick (isOpen l (dueAt w)) (elementStep w s (guarded (sane w) w s rules) ys) (answered (J.Refuse stepNotDue) w s w s)

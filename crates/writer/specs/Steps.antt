@@ -41,8 +41,11 @@ answered J.Fine w s w′ s′ = turn w′ (W.Done (w′ .at)) s′
 answered (J.Refuse n) w s w′ s′ = turn w (W.Refused (refusal n 0)) s
 
 -- 16 comes first; then 14, where the buffer is shorter than the bytes written
+abbrev pub guardedIn : Bool → Writer → ℕ → Verdict → Verdict
+guardedIn isDue w length v = pick isDue (pick (leb (w .at) length) v (J.Refuse noRoom)) (J.Refuse stepNotDue)
+
 abbrev pub guarded : Bool → Writer → List ℕ → Verdict → Verdict
-guarded isDue w s v = pick isDue (pick (leb (w .at) (length s)) v (J.Refuse noRoom)) (J.Refuse stepNotDue)
+guarded isDue w s v = guardedIn isDue w (length s) v
 
 -- what a step is given: the bytes that it would add, and whether they could be made: an address slice that is no multiple of 20 is cut short
 pub record Given : Type 0 where

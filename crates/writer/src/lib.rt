@@ -1,4 +1,5 @@
 // A writer of transactions: a state that each step hands back, over a lent buffer.
+pub mod parts;
 pub mod plans;
 pub mod store;
 

@@ -3,8 +3,8 @@ ghost use mathlib.Core.Path.{_≡_};
 ghost use Rattle.transaction.specs.Avm.{kindOf, ownPlan, avm};
 ghost use Rattle.transaction.specs.Answer.{memoMost};
 ghost use Rattle.transaction.specs.declared.Kind.the-variants as K;
-ghost use Rattle.writer.specs.Steps.{behind, due, planOf};
-ghost use Rattle.writer.specs.Code.{dueOf, isList};
+ghost use Rattle.writer.specs.Steps.{segmentCode, behind, due, planOf};
+ghost use Rattle.writer.specs.Code.{dueOf, isList, isField, isOpen};
 use crate::Due;
 use transaction::Segment;
 
@@ -126,5 +126,45 @@ pub fn list_at(kind: u32, phase: u32) -> bool
         Due::End => false,
         Due::Field(_) => false,
         Due::List(_, _) => true,
+    }
+}
+
+fn code_of(segment: Segment) -> u32
+    ensures { λ r. ⌜ r ≡ segmentCode segment ⌝ }
+{
+    match segment {
+        Segment::Output => 0,
+        Segment::Input => 1,
+        Segment::Memo => 2,
+        Segment::Name => 3,
+        Segment::Symbol => 4,
+        Segment::Denomination => 5,
+        Segment::State => 6,
+        Segment::Operation => 7,
+        Segment::Chain => 8,
+    }
+}
+
+// Is the field of this name due?
+pub fn field_at(kind: u32, phase: u32, segment: Segment) -> bool
+    ensures { λ r. ⌜ r ≡ isField segment (dueOf (due phase (planOf (avm memoMost) kind))) ⌝ }
+{
+    match due_at(kind, phase) {
+        Due::Nothing => false,
+        Due::End => false,
+        Due::List(_, _) => false,
+        Due::Field(name) => code_of(segment) == code_of(name),
+    }
+}
+
+// Is the list of this name open?
+pub fn open_at(kind: u32, phase: u32, segment: Segment) -> bool
+    ensures { λ r. ⌜ r ≡ isOpen segment (dueOf (due phase (planOf (avm memoMost) kind))) ⌝ }
+{
+    match due_at(kind, phase) {
+        Due::Nothing => false,
+        Due::End => false,
+        Due::Field(_) => false,
+        Due::List(name, _) => code_of(segment) == code_of(name),
     }
 }

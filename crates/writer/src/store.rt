@@ -4,7 +4,7 @@ ghost use Prim.Native.Nat.{_+_, _%_, _^_, _≤_, _<_};
 ghost use mathlib.Core.List.{_++_};
 ghost use lib.ListN.{length};
 ghost use Rattle.wire.specs.Bytes.{digits};
-ghost use Rattle.writer.specs.Steps.{answered, roomIn, overwrite, sane, grown, appended};
+ghost use Rattle.writer.specs.Steps.{answered, guardedIn, roomIn, overwrite, sane, grown, appended};
 ghost use Rattle.writer.specs.Code.{after, refusedStep, storedStep, countOf, fieldNext, fieldStep, elementStep};
 use crate::Step;
 use crate::Verdict;
@@ -54,7 +54,7 @@ fn room_for(at: usize, n: usize, limit: usize) -> Verdict
 }
 
 // Do the count and the last element of the open list lie inside the bytes written?
-fn is_sane(w: Writer) -> bool
+pub fn is_sane(w: Writer) -> bool
     ensures { λ r. ⌜ r ≡ sane w ⌝ }
 {
     if w.at < 4 {
@@ -67,6 +67,19 @@ fn is_sane(w: Writer) -> bool
         return false;
     }
     w.count < 65536
+}
+
+// What bars a step that is due or not: 16 comes first, then 14 where the buffer is shorter than the bytes written, then the rules.
+pub fn entered(w: Writer, limit: usize, is_due: bool, rules: Verdict) -> Verdict
+    ensures { λ r. ⌜ r ≡ guardedIn «is_due» w limit rules ⌝ }
+{
+    if is_due {
+        if limit < w.at {
+            return Verdict::Refuse(wire::numbers::NO_ROOM);
+        }
+        return rules;
+    }
+    Verdict::Refuse(wire::numbers::STEP_NOT_DUE)
 }
 
 // Puts bytes at a place, with room for them.
@@ -112,7 +125,14 @@ fn room_of(at: usize, first: &[u8], second: &[u8], opens: bool, limit: usize) ->
 }
 
 // Stores a field, for which there is room, and the next list's count as 0.
-fn store_field(w: Writer, buf: &mut [u8], first: &[u8], second: &[u8], opens: bool, phase: u32) -> Step
+fn store_field(
+    w: Writer,
+    buf: &mut [u8],
+    first: &[u8],
+    second: &[u8],
+    opens: bool,
+    phase: u32,
+) -> Step
     requires { ⌜ w .at + length ((now first ++ now second) ++ countOf opens) ≤ length (now buf) ⌝ }
     ensures { λ r. ⌜ after r (now (buf .exit)) ≡ answered Verdict.Fine w (now (buf .entry)) (fieldNext w phase (w .at + length (now (first .entry) ++ now (second .entry))) opens) (overwrite (now (buf .entry)) (w .at) ((now (first .entry) ++ now (second .entry)) ++ countOf opens)) ⌝ }
 {

@@ -1,7 +1,8 @@
 -- `writer::plans::list_at` meets its contract. Assumes nothing.
 use borrow.Author.Needs.{needs}
+use Rattle.writer.specs.Code.{isList}
 use mathlib.Core.Path.{refl}
-use Rattle.writer.proofs.Rows.{is-list}
+use Rattle.writer.proofs.Rows.{on-due}
 use Rattle.writer.proofs.plans.list_at.Statement.{statement}
 use Rattle.writer.proofs.plans.list_at.Tie as tie
 
@@ -14,7 +15,7 @@ list-at-spec =
     (λ c. search needs)  -- enum-told-2
     (λ c. search needs)  -- enum-told-3
     (λ c. search needs)  -- enum-told-4
-    (λ c. is-list _ _ (c .before .before .due-at .ensures) _ _ (c .enum-told .given .1) refl)  -- returns
-    (λ c. is-list _ _ (c .before .before .due-at .ensures) _ _ (c .enum-told2 .given .1) refl)  -- returns-2
-    (λ c. is-list _ _ (c .before .before .due-at .ensures) _ _ (c .enum-told3 .given .1) refl)  -- returns-3
-    (λ c. is-list _ _ (c .before .before .due-at .ensures) _ _ (c .enum-told4 .given .1) refl))  -- returns-4
+    (λ c. on-due _ _ (c .before .before .due-at .ensures) isList _ _ (c .enum-told .given .1) refl)  -- returns
+    (λ c. on-due _ _ (c .before .before .due-at .ensures) isList _ _ (c .enum-told2 .given .1) refl)  -- returns-2
+    (λ c. on-due _ _ (c .before .before .due-at .ensures) isList _ _ (c .enum-told3 .given .1) refl)  -- returns-3
+    (λ c. on-due _ _ (c .before .before .due-at .ensures) isList _ _ (c .enum-told4 .given .1) refl))  -- returns-4

@@ -1,0 +1,65 @@
+-- A step by the name of a part is the step that the plan has there. Assumes nothing.
+use Prim.Native.Nat.{ℕ, suc, _+_}
+use mathlib.Core.Path.{_≡_, refl, sym, ap, ap₂, _∙_}
+use mathlib.Core.Bool.{Bool, true, false, false≢true}
+use mathlib.Core.List.{List, _++_}
+use native.Mathlib.Omega.{arith}
+use lib.ListN.{length}
+use Rattle.wire.specs.Bytes.{pick}
+use Rattle.wire.specs.Numbers.{stepNotDue}
+use Rattle.transaction.specs.Plan.{Plan, shut, end, field, many}
+use Rattle.transaction.specs.Avm.{avm}
+use Rattle.transaction.specs.Answer.{memoMost}
+use Rattle.transaction.specs.declared.Segment.{Segment}
+use Rattle.writer.specs.declared.Writer.{Writer}
+use Rattle.writer.specs.declared.Step.{Step}
+use Rattle.writer.specs.declared.Verdict.{Verdict}
+use Rattle.writer.specs.declared.Verdict.the-variants as J
+use Rattle.writer.specs.Steps.{Turn, answered, guarded, guardedIn, judged, sane, tail, due, planOf, putAt, put}
+use Rattle.writer.specs.Runs.{given}
+use Rattle.writer.specs.Code.{after, refusedStep, dueOf, isList, isField, isOpen, fieldStep, elementStep, dueAt, namedField, namedElement}
+use Rattle.writer.proofs.Keeping.{Live, due-next}
+use Rattle.writer.proofs.Fitting.{fieldOf, isListName, due-proper, field-put, field-not}
+
+-- ---- as the code does it
+
+module _ (w : Writer) (s : List ℕ) (l : Segment) (rules : Verdict) (ys : List ℕ) (t : Bool) where
+  pub no-field : t ≡ isField l (dueAt w) → t ≡ false → (r : Step) → r ≡ refusedStep w stepNotDue → after r s ≡ namedField w s l rules ys
+  unfolding answered
+  no-field p q r h = rw (sym p ∙ q) (ap (λ (x : Step). after x s) h)
+
+  pub field-named : t ≡ isField l (dueAt w) → t ≡ true → (opens : Bool) → opens ≡ isList (dueOf (due (w .phase + 1) (planOf (avm memoMost) (w .kind)))) → (v : Verdict) → v ≡ guardedIn true w (length s) rules
+      → (r : Step) (u : List ℕ) → after r u ≡ fieldStep w s v ys opens (w .phase + 1) → after r u ≡ namedField w s l rules ys
+  field-named p q opens o v hv r u h =
+      let k : w .phase + 1 ≡ suc (w .phase) = omega arith in
+      rw (sym p ∙ q) (h ∙ ap₂ (λ (x : Verdict) (b : Bool). fieldStep w s x ys b (w .phase + 1)) hv o
+      ∙ ap (λ (i : ℕ). fieldStep w s (guarded true w s rules) ys (isList (dueOf (due i (planOf (avm memoMost) (w .kind))))) i) k)
+
+  pub no-list : t ≡ isOpen l (dueAt w) → t ≡ false → (r : Step) → r ≡ refusedStep w stepNotDue → after r s ≡ namedElement w s l rules ys
+  unfolding answered
+  no-list p q r h = rw (sym p ∙ q) (ap (λ (x : Step). after x s) h)
+
+  pub element-named : t ≡ isOpen l (dueAt w) → t ≡ true → (b : Bool) → b ≡ sane w → (v : Verdict) → v ≡ guardedIn b w (length s) rules
+      → (r : Step) (u : List ℕ) → after r u ≡ elementStep w s v ys → after r u ≡ namedElement w s l rules ys
+  element-named p q b hb v hv r u h = rw (sym p ∙ q) (h ∙ ap (λ (x : Verdict). elementStep w s x ys) (hv ∙ ap (λ (c : Bool). guardedIn c w (length s) rules) hb))
+
+-- ---- as the plan has it
+
+live-field : (l : Segment) (q : Plan) → isField l (dueOf q) ≡ true → Live q
+live-field l shut e = false≢true e
+live-field l end e = tt
+live-field l (field m C q) e = tt
+live-field l (many m E q) e = tt
+
+pub put-named : (w : Writer) (s : List ℕ) (l : Segment) (ys : List ℕ) (rules : Verdict) → isListName l ≡ false → judged (fieldOf l .content) (given ys) J.Fine ≡ rules
+    → namedField w s l rules ys ≡ put (avm memoMost) w s l (given ys)
+unfolding put
+put-named w s l ys rules n j = go (isField l (dueAt w)) refl
+  where
+    go : (b : Bool) → isField l (dueOf (due (w .phase) (planOf (avm memoMost) (w .kind)))) ≡ b
+        → pick b (fieldStep w s (guarded true w s rules) ys (isList (dueOf (due (suc (w .phase)) (planOf (avm memoMost) (w .kind))))) (suc (w .phase))) (answered (J.Refuse stepNotDue) w s w s)
+        ≡ putAt (due (w .phase) (planOf (avm memoMost) (w .kind))) w s l (given ys)
+    go true e =
+        field-put w s l ys rules _ (suc (w .phase)) j refl (due (w .phase) (planOf (avm memoMost) (w .kind))) (due-proper (w .phase) (w .kind)) e
+        (ap (λ (q : Plan). isList (dueOf q)) (due-next (w .phase) (planOf (avm memoMost) (w .kind)) (due (w .phase) (planOf (avm memoMost) (w .kind))) (live-field l (due (w .phase) (planOf (avm memoMost) (w .kind))) e) refl))
+    go false e = field-not w s l (given ys) n (due (w .phase) (planOf (avm memoMost) (w .kind))) (due-proper (w .phase) (w .kind)) e

@@ -1,0 +1,46 @@
+// A step by the name of a part, once its rules are judged: 16 where that part is not due.
+ghost use mathlib.Core.Path.{_≡_};
+ghost use mathlib.Core.List.{_++_};
+ghost use Rattle.writer.specs.Code.{after, namedField, namedElement};
+use crate::Step;
+use crate::Verdict;
+use crate::Writer;
+use crate::plans;
+use crate::store;
+use transaction::Segment;
+
+pub fn put_field(
+    w: Writer,
+    buf: &mut [u8],
+    segment: Segment,
+    rules: Verdict,
+    first: &[u8],
+    second: &[u8],
+) -> Step
+    ensures { λ r. ⌜ after r (now (buf .exit)) ≡ namedField w (now (buf .entry)) segment rules (now (first .entry) ++ now (second .entry)) ⌝ }
+{
+    if plans::field_at(w.kind, w.phase, segment) {
+        let phase = w.phase + 1;
+        let opens = plans::list_at(w.kind, phase);
+        let verdict = store::entered(w, buf.len(), true, rules);
+        return store::settle_field(w, buf, verdict, first, second, opens, phase);
+    }
+    store::refused(w, wire::numbers::STEP_NOT_DUE)
+}
+
+pub fn put_element(
+    w: Writer,
+    buf: &mut [u8],
+    segment: Segment,
+    rules: Verdict,
+    first: &[u8],
+    second: &[u8],
+) -> Step
+    ensures { λ r. ⌜ after r (now (buf .exit)) ≡ namedElement w (now (buf .entry)) segment rules (now (first .entry) ++ now (second .entry)) ⌝ }
+{
+    if plans::open_at(w.kind, w.phase, segment) {
+        let verdict = store::entered(w, buf.len(), store::is_sane(w), rules);
+        return store::settle_element(w, buf, verdict, first, second);
+    }
+    store::refused(w, wire::numbers::STEP_NOT_DUE)
+}
