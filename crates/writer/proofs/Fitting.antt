@@ -132,7 +132,7 @@ segmentAt-code S.State = refl
 segmentAt-code S.Operation = refl
 segmentAt-code S.Chain = refl
 
-same-segment : (l m : Segment) → isSegment l m ≡ true → m ≡ l
+pub same-segment : (l m : Segment) → isSegment l m ≡ true → m ≡ l
 same-segment l m e = sym (segmentAt-code m) ∙ ap segmentAt (sym (eqb-true (segmentCode l) (segmentCode m) e)) ∙ segmentAt-code l
 
 opening-is : (q : Plan) → opening q ≡ countOf (isList (dueOf q))

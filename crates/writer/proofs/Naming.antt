@@ -1,13 +1,14 @@
 -- A step by the name of a part is the step that the plan has there. Assumes nothing.
 use Prim.Native.Nat.{ℕ, suc, _+_}
-use mathlib.Core.Path.{_≡_, refl, sym, ap, ap₂, _∙_}
+use mathlib.Core.Path.{_≡_, refl, sym, ap, ap₂, _∙_, subst}
 use mathlib.Core.Bool.{Bool, true, false, false≢true}
 use mathlib.Core.List.{List, _++_}
 use native.Mathlib.Omega.{arith}
 use lib.ListN.{length}
+use lib.Dec.{leb}
 use Rattle.wire.specs.Bytes.{pick}
-use Rattle.wire.specs.Numbers.{stepNotDue}
-use Rattle.transaction.specs.Plan.{Plan, shut, end, field, many}
+use Rattle.wire.specs.Numbers.{noRoom, stepNotDue}
+use Rattle.transaction.specs.Plan.{Plan, shut, end, field, many, Elements}
 use Rattle.transaction.specs.Avm.{avm}
 use Rattle.transaction.specs.Answer.{memoMost}
 use Rattle.transaction.specs.declared.Segment.{Segment}
@@ -15,11 +16,11 @@ use Rattle.writer.specs.declared.Writer.{Writer}
 use Rattle.writer.specs.declared.Step.{Step}
 use Rattle.writer.specs.declared.Verdict.{Verdict}
 use Rattle.writer.specs.declared.Verdict.the-variants as J
-use Rattle.writer.specs.Steps.{Turn, answered, guarded, guardedIn, judged, sane, tail, due, planOf, putAt, put}
+use Rattle.writer.specs.Steps.{Turn, Given, answered, guarded, guardedIn, judged, prev, sane, tail, due, planOf, putAt, put}
 use Rattle.writer.specs.Runs.{given}
 use Rattle.writer.specs.Code.{after, refusedStep, dueOf, isList, isField, isOpen, fieldStep, elementStep, dueAt, namedField, namedElement}
 use Rattle.writer.proofs.Keeping.{Live, due-next}
-use Rattle.writer.proofs.Fitting.{fieldOf, isListName, due-proper, field-put, field-not}
+use Rattle.writer.proofs.Fitting.{fieldOf, isListName, Elementary, Proper, due-proper, same-segment, field-put, field-not, list-not, element-here}
 
 -- ---- as the code does it
 
@@ -63,3 +64,45 @@ put-named w s l ys rules n j = go (isField l (dueAt w)) refl
         field-put w s l ys rules _ (suc (w .phase)) j refl (due (w .phase) (planOf (avm memoMost) (w .kind))) (due-proper (w .phase) (w .kind)) e
         (ap (λ (q : Plan). isList (dueOf q)) (due-next (w .phase) (planOf (avm memoMost) (w .kind)) (due (w .phase) (planOf (avm memoMost) (w .kind))) (live-field l (due (w .phase) (planOf (avm memoMost) (w .kind))) e) refl))
     go false e = field-not w s l (given ys) n (due (w .phase) (planOf (avm memoMost) (w .kind))) (due-proper (w .phase) (w .kind)) e
+
+-- a field that is refused
+abbrev refusedBy : Verdict → Writer → List ℕ → List ℕ → Bool → Turn
+refusedBy v w s ys opens = fieldStep w s v ys opens (suc (w .phase))
+
+-- where the rules refuse, the bytes do not matter
+named-bytes : (w : Writer) (s : List ℕ) (l : Segment) (rules : Verdict) (ys zs : List ℕ) → (rules ≡ J.Fine → ys ≡ zs) → namedField w s l rules ys ≡ namedField w s l rules zs
+unfolding answered
+named-bytes w s l J.Fine ys zs e = ap (namedField w s l J.Fine) (e refl)
+named-bytes w s l (J.Refuse n) ys zs e = go (isField l (dueAt w)) (leb (w .at) (length s))
+  where
+    go : (b c : Bool) → pick b (refusedBy (pick c (J.Refuse n) (J.Refuse noRoom)) w s ys (isList (dueOf (due (suc (w .phase)) (planOf (avm memoMost) (w .kind)))))) (answered (J.Refuse stepNotDue) w s w s)
+        ≡ pick b (refusedBy (pick c (J.Refuse n) (J.Refuse noRoom)) w s zs (isList (dueOf (due (suc (w .phase)) (planOf (avm memoMost) (w .kind)))))) (answered (J.Refuse stepNotDue) w s w s)
+    go true true = refl
+    go true false = refl
+    go false c = refl
+
+-- a field by its name, from the bytes that the code has made of it
+module _ (w : Writer) (s : List ℕ) (l : Segment) (ys zs : List ℕ) (rules : Verdict) where
+  pub field-is : isListName l ≡ false → judged (fieldOf l .content) (given ys) J.Fine ≡ rules → (rules ≡ J.Fine → zs ≡ ys) → (x : Verdict) → x ≡ rules → (r : Step) (u : List ℕ)
+      → after r u ≡ namedField w s l x zs → after r u ≡ put (avm memoMost) w s l (given ys)
+  field-is n j e x hx r u h = h ∙ ap (λ (v : Verdict). namedField w s l v zs) hx ∙ named-bytes w s l rules zs ys e ∙ put-named w s l ys rules n j
+
+-- ---- elements
+
+module _ (w : Writer) (s : List ℕ) (l : Segment) (g : Given) (rules : Verdict) where
+  element-at : ((E : Elements) → Elementary l E → judged (E .element (prev w s)) g J.Fine ≡ rules) → (q : Plan) → Proper q → isOpen l (dueOf q) ≡ true
+      → elementStep w s (guarded (sane w) w s rules) (g .bytes) ≡ putAt q w s l g
+  element-at j shut h e = absurd (false≢true e)
+  element-at j end h e = absurd (false≢true e)
+  element-at j (field m C q) h e = absurd (false≢true e)
+  element-at j (many m E q) (_, el, _) e =
+      ap (λ (v : Verdict). elementStep w s (guarded (sane w) w s v) (g .bytes)) (sym (j E (subst (λ (k : Segment). Elementary k E) (same-segment l m e) el))) ∙ element-here w s l g m E q e
+
+  pub put-element-named : isListName l ≡ true → ((E : Elements) → Elementary l E → judged (E .element (prev w s)) g J.Fine ≡ rules) → namedElement w s l rules (g .bytes) ≡ put (avm memoMost) w s l g
+  unfolding put
+  put-element-named n j = go (isOpen l (dueAt w)) refl
+    where
+      go : (b : Bool) → isOpen l (dueOf (due (w .phase) (planOf (avm memoMost) (w .kind)))) ≡ b
+          → pick b (elementStep w s (guarded (sane w) w s rules) (g .bytes)) (answered (J.Refuse stepNotDue) w s w s) ≡ putAt (due (w .phase) (planOf (avm memoMost) (w .kind))) w s l g
+      go true e = element-at j (due (w .phase) (planOf (avm memoMost) (w .kind))) (due-proper (w .phase) (w .kind)) e
+      go false e = list-not w s l g n (due (w .phase) (planOf (avm memoMost) (w .kind))) (due-proper (w .phase) (w .kind)) e

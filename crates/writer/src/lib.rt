@@ -1,7 +1,13 @@
 // A writer of transactions: a state that each step hands back, over a lent buffer.
+ghost use mathlib.Core.Path.{_≡_};
+ghost use Rattle.writer.specs.Fields.{addOperation, putMemo, putName, putSymbol, putDenomination, putChain};
+ghost use Rattle.writer.specs.Code.{after};
+
+pub mod elements;
 pub mod parts;
 pub mod plans;
 pub mod store;
+pub mod texts;
 
 use transaction::Segment;
 use wire::Refusal;
@@ -40,4 +46,59 @@ pub enum Due {
 pub struct Step {
     pub next: Writer,
     pub answer: Written,
+}
+
+impl Writer {
+    pub fn memo(self, buf: &mut [u8], bytes: &[u8]) -> Step
+        ensures { λ r. ⌜ after r (now (buf .exit)) ≡ putMemo self (now (buf .entry)) (now (bytes .entry)) ⌝ }
+    {
+        let rules = texts::memo_rules(bytes.len());
+        let mut count = [0u8; 4];
+        wire::put_number(&mut count, bytes.len() as u64);
+        parts::put_field(self, buf, Segment::Memo, rules, &count, bytes)
+    }
+
+    pub fn name(self, buf: &mut [u8], bytes: &[u8]) -> Step
+        ensures { λ r. ⌜ after r (now (buf .exit)) ≡ putName self (now (buf .entry)) (now (bytes .entry)) ⌝ }
+    {
+        let rules = texts::text_rules(bytes, 128);
+        let mut count = [0u8; 2];
+        wire::put_number(&mut count, bytes.len() as u64);
+        parts::put_field(self, buf, Segment::Name, rules, &count, bytes)
+    }
+
+    pub fn symbol(self, buf: &mut [u8], bytes: &[u8]) -> Step
+        ensures { λ r. ⌜ after r (now (buf .exit)) ≡ putSymbol self (now (buf .entry)) (now (bytes .entry)) ⌝ }
+    {
+        let rules = texts::text_rules(bytes, 4);
+        let mut count = [0u8; 2];
+        wire::put_number(&mut count, bytes.len() as u64);
+        parts::put_field(self, buf, Segment::Symbol, rules, &count, bytes)
+    }
+
+    pub fn denomination(self, buf: &mut [u8], value: u8) -> Step
+        ensures { λ r. ⌜ after r (now (buf .exit)) ≡ putDenomination self (now (buf .entry)) value ⌝ }
+    {
+        let rules = texts::denomination_rules(value);
+        let mut byte = [0u8; 1];
+        wire::put_number(&mut byte, value as u64);
+        let none = [0u8; 1];
+        parts::put_field(self, buf, Segment::Denomination, rules, &byte, &none[..0])
+    }
+
+    // The source of an import, or the destination of an export.
+    pub fn chain(self, buf: &mut [u8], id: [u8; 32]) -> Step
+        ensures { λ r. ⌜ after r (now (buf .exit)) ≡ putChain self (now (buf .entry)) id ⌝ }
+    {
+        let none = [0u8; 1];
+        parts::put_field(self, buf, Segment::Chain, Verdict::Fine, &none[..0], &id)
+    }
+
+    // An operation as its own bytes.
+    pub fn operation(self, buf: &mut [u8], bytes: &[u8]) -> Step
+        ensures { λ r. ⌜ after r (now (buf .exit)) ≡ addOperation self (now (buf .entry)) (now (bytes .entry)) ⌝ }
+    {
+        let rules = elements::operation_rules(bytes);
+        parts::put_element(self, buf, Segment::Operation, rules, &bytes[..0], bytes)
+    }
 }

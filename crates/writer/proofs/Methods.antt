@@ -1,0 +1,76 @@
+-- The public steps, from what the code below them answered. Assumes nothing.
+use Prim.Native.Nat.{ℕ, suc, _+_, _%_, _^_, _≤_, _<_}
+use mathlib.Core.Path.{_≡_, refl, sym, ap, ap₂, _∙_, subst}
+use mathlib.Core.Bool.{Bool, true}
+use mathlib.Core.List.{List, [], _++_}
+use native.Mathlib.Omega.{arith}
+use native.Mathlib.Nat.{mod-eq-of-lt}
+use lib.ListN.{length}
+use lib.Dec.{ltb, leb, eqb}
+use borrow.Author.Tests.{leb-true}
+use Rattle.wire.specs.Bytes.{digits, pick}
+use Rattle.wire.specs.Numbers.{ruleNumber, badLength, notPrintable}
+use Rattle.wire.specs.Fields.{blob}
+use Rattle.element.specs.Strings.{text, unprintable}
+use Rattle.element.specs.Operations.{operation}
+use Rattle.transaction.specs.Plan.{Elements}
+use Rattle.transaction.specs.Avm.{avm, operations}
+use Rattle.transaction.specs.Answer.{memoMost}
+use Rattle.transaction.specs.declared.Segment.{Segment}
+use Rattle.transaction.specs.declared.Segment.the-variants as S
+use Rattle.writer.specs.declared.Writer.{Writer}
+use Rattle.writer.specs.declared.Step.{Step}
+use Rattle.writer.specs.declared.Verdict.{Verdict}
+use Rattle.writer.specs.declared.Verdict.the-variants as J
+use Rattle.writer.specs.Steps.{Given, judged, prev, put}
+use Rattle.writer.specs.Runs.{given}
+use Rattle.writer.specs.Fields.{addOperation, putMemo, putName, putSymbol, putDenomination, putChain}
+use Rattle.writer.specs.Texts.{memoRules, textRules, denominationRules}
+use Rattle.writer.specs.Code.{after, namedField, namedElement}
+use Rattle.writer.proofs.Laws.{pick-fine}
+use Rattle.writer.proofs.Naming.{field-is, put-element-named}
+use Rattle.writer.proofs.Judging.{string-write, text-write, string-judged, text-judged, denomination-write, denomination-judged, id-judged}
+
+-- a number that fits its digits
+fits-digits : (w n m : ℕ) → n ≤ m → m < 256 ^ w → digits w (n % 256 ^ w) ≡ digits w n
+fits-digits w n m h k = ap (digits w) (mod-eq-of-lt (omega arith))
+
+module _ (w : Writer) (s : List ℕ) (x : Verdict) (c : List ℕ) (r : Step) (u : List ℕ) where
+  pub memo-is : (b : List ℕ) → x ≡ memoRules (length b) → c ≡ digits 4 (length b % 256 ^ 4) → after r u ≡ namedField w s S.Memo x (c ++ b) → after r u ≡ putMemo w s b
+  memo-is b hx hc h =
+      field-is w s S.Memo (digits 4 (length b) ++ b) (c ++ b) (memoRules (length b)) refl (string-judged 256 b)
+      (λ e. ap (λ (z : List ℕ). z ++ b) (hc ∙ fits-digits 4 (length b) 256 (leb-true (length b) 256 (pick-fine (leb (length b) 256) J.Fine (ruleNumber badLength) e .0)) (omega arith))) x hx r u h
+      ∙ ap (λ (z : List ℕ). put (avm memoMost) w s S.Memo (given z)) (sym (string-write 4 256 b))
+
+  -- where a text's rules hold, it is not longer than allowed
+  text-short : (most : ℕ) (b : List ℕ) → textRules most b ≡ J.Fine → length b ≤ most
+  text-short most b e =
+      let (_, e₁) = pick-fine (ltb 0 (length b)) _ (ruleNumber badLength) e in
+      leb-true (length b) most (pick-fine (leb (length b) most) _ (ruleNumber badLength) e₁ .0)
+
+  pub name-is : (b : List ℕ) → x ≡ textRules 128 b → c ≡ digits 2 (length b % 256 ^ 2) → after r u ≡ namedField w s S.Name x (c ++ b) → after r u ≡ putName w s b
+  name-is b hx hc h =
+      field-is w s S.Name (digits 2 (length b) ++ b) (c ++ b) (textRules 128 b) refl (text-judged 128 b)
+      (λ e. ap (λ (z : List ℕ). z ++ b) (hc ∙ fits-digits 2 (length b) 128 (text-short 128 b e) (omega arith))) x hx r u h
+      ∙ ap (λ (z : List ℕ). put (avm memoMost) w s S.Name (given z)) (sym (text-write 128 b))
+
+  pub symbol-is : (b : List ℕ) → x ≡ textRules 4 b → c ≡ digits 2 (length b % 256 ^ 2) → after r u ≡ namedField w s S.Symbol x (c ++ b) → after r u ≡ putSymbol w s b
+  symbol-is b hx hc h =
+      field-is w s S.Symbol (digits 2 (length b) ++ b) (c ++ b) (textRules 4 b) refl (text-judged 4 b)
+      (λ e. ap (λ (z : List ℕ). z ++ b) (hc ∙ fits-digits 2 (length b) 4 (text-short 4 b e) (omega arith))) x hx r u h
+      ∙ ap (λ (z : List ℕ). put (avm memoMost) w s S.Symbol (given z)) (sym (text-write 4 b))
+
+  pub denomination-is : (n : ℕ) → x ≡ denominationRules n → c ≡ digits 1 (n % 256 ^ 1) → n < 256 → after r u ≡ namedField w s S.Denomination x (c ++ []) → after r u ≡ putDenomination w s n
+  denomination-is n hx hc f h =
+      field-is w s S.Denomination (digits 1 n ++ []) (c ++ []) (denominationRules n) refl (denomination-judged n)
+      (λ e. ap (λ (z : List ℕ). z ++ []) (hc ∙ ap (digits 1) (mod-eq-of-lt f))) x hx r u h
+      ∙ ap (λ (z : List ℕ). put (avm memoMost) w s S.Denomination (given z)) (sym (denomination-write n))
+
+  pub chain-is : length c ≡ 32 → after r u ≡ namedField w s S.Chain J.Fine c → after r u ≡ putChain w s c
+  unfolding blob
+  chain-is e h = field-is w s S.Chain c c J.Fine refl (id-judged c e) (λ i. refl) J.Fine refl r u h
+
+  pub operation-is : (b : List ℕ) → x ≡ judged operation (given b) J.Fine → after r u ≡ namedElement w s S.Operation x b → after r u ≡ addOperation w s b
+  operation-is b hx h =
+      h ∙ ap (λ (v : Verdict). namedElement w s S.Operation v b) hx
+      ∙ put-element-named w s S.Operation (given b) (judged operation (given b) J.Fine) refl (λ E e. ap (λ (F : Elements). judged (F .element (prev w s)) (given b) J.Fine) e)
