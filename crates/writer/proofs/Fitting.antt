@@ -32,7 +32,7 @@ use Rattle.writer.proofs.Laws.{judged-read}
 
 -- ---- verdicts, taken one behind the other
 
-guarded-on : (t : Bool) (w : Writer) (s : List ℕ) (v u : Verdict) → guarded t w s (onFine v u) ≡ onFine (guarded t w s v) u
+pub guarded-on : (t : Bool) (w : Writer) (s : List ℕ) (v u : Verdict) → guarded t w s (onFine v u) ≡ onFine (guarded t w s v) u
 guarded-on true w s v u = go (leb (w .at) (length s))
   where
     go : (b : Bool) → pick b (onFine v u) (J.Refuse noRoom) ≡ onFine (pick b v (J.Refuse noRoom)) u
@@ -135,7 +135,7 @@ segmentAt-code S.Chain = refl
 pub same-segment : (l m : Segment) → isSegment l m ≡ true → m ≡ l
 same-segment l m e = sym (segmentAt-code m) ∙ ap segmentAt (sym (eqb-true (segmentCode l) (segmentCode m) e)) ∙ segmentAt-code l
 
-opening-is : (q : Plan) → opening q ≡ countOf (isList (dueOf q))
+pub opening-is : (q : Plan) → opening q ≡ countOf (isList (dueOf q))
 opening-is shut = refl
 opening-is end = refl
 opening-is (field l C q) = refl

@@ -1,33 +1,38 @@
 -- The public steps, from what the code below them answered. Assumes nothing.
 use Prim.Native.Nat.{ℕ, suc, _+_, _%_, _^_, _≤_, _<_}
 use mathlib.Core.Path.{_≡_, refl, sym, ap, ap₂, _∙_, subst}
-use mathlib.Core.Bool.{Bool, true}
+use mathlib.Core.Bool.{Bool, true, false, false≢true}
 use mathlib.Core.List.{List, [], _++_}
 use native.Mathlib.Omega.{arith}
-use native.Mathlib.Nat.{mod-eq-of-lt}
+use native.Mathlib.Nat.{mod-eq-of-lt, add-zero}
 use lib.ListN.{length}
 use lib.Dec.{ltb, leb, eqb}
 use borrow.Author.Tests.{leb-true}
 use Rattle.wire.specs.Bytes.{digits, pick}
-use Rattle.wire.specs.Numbers.{ruleNumber, badLength, notPrintable}
+use Rattle.wire.specs.Numbers.{ruleNumber, badLength, notPrintable, emptyList, stepNotDue}
 use Rattle.wire.specs.Fields.{blob}
 use Rattle.element.specs.Strings.{text, unprintable}
 use Rattle.element.specs.Operations.{operation}
-use Rattle.transaction.specs.Plan.{Elements}
+use Rattle.transaction.specs.Plan.{Plan, shut, end, field, many, Elements}
 use Rattle.transaction.specs.Avm.{avm, operations}
 use Rattle.transaction.specs.Answer.{memoMost}
 use Rattle.transaction.specs.declared.Segment.{Segment}
 use Rattle.transaction.specs.declared.Segment.the-variants as S
 use Rattle.writer.specs.declared.Writer.{Writer}
 use Rattle.writer.specs.declared.Step.{Step}
+use Rattle.writer.specs.declared.Due.{Due}
+use Rattle.writer.specs.declared.Due.the-variants as D
 use Rattle.writer.specs.declared.Verdict.{Verdict}
 use Rattle.writer.specs.declared.Verdict.the-variants as J
-use Rattle.writer.specs.Steps.{Given, judged, prev, put}
+use Rattle.writer.specs.Steps.{Given, answered, guarded, guardedIn, judged, roomFor, overwrite, prev, tail, due, opening, opened, closeAt, planOf, put, close}
 use Rattle.writer.specs.Runs.{given}
 use Rattle.writer.specs.Fields.{addOperation, putMemo, putName, putSymbol, putDenomination, putChain}
-use Rattle.writer.specs.Texts.{memoRules, textRules, denominationRules}
-use Rattle.writer.specs.Code.{after, namedField, namedElement}
+use Rattle.writer.specs.Texts.{listRules, memoRules, textRules, denominationRules}
+use Rattle.writer.specs.Code.{after, refusedStep, dueOf, isList, countOf, onFine, fieldStep, dueAt, namedField, namedElement}
 use Rattle.writer.proofs.Laws.{pick-fine}
+use Rattle.writer.proofs.Keeping.{Live, due-next}
+use Rattle.writer.proofs.Rows.{phase-small}
+use Rattle.writer.proofs.Fitting.{guarded-on, opening-is}
 use Rattle.writer.proofs.Naming.{field-is, put-element-named}
 use Rattle.writer.proofs.Judging.{string-write, text-write, string-judged, text-judged, denomination-write, denomination-judged, id-judged}
 
@@ -74,3 +79,62 @@ module _ (w : Writer) (s : List ℕ) (x : Verdict) (c : List ℕ) (r : Step) (u 
   operation-is b hx h =
       h ∙ ap (λ (v : Verdict). namedElement w s S.Operation v b) hx
       ∙ put-element-named w s S.Operation (given b) (judged operation (given b) J.Fine) refl (λ E e. ap (λ (F : Elements). judged (F .element (prev w s)) (given b) J.Fine) e)
+
+-- ---- closing a list
+
+module _ (w : Writer) (s : List ℕ) where
+  close-here : (least : ℕ) (q : Plan) (m : Segment) (E : Elements) → E .least ≡ least
+      → fieldStep w s (guarded true w s (listRules (w .count) least)) [] (isList (dueOf q)) (suc (w .phase)) ≡ closeAt (many m E q) w s
+  unfolding closeAt
+  close-here least q m E e =
+      let R : Verdict = roomFor (w .at + length (opening q)) s in
+      let cnt : countOf (isList (dueOf q)) ≡ opening q = sym (opening-is q) in
+      ap₂ (λ (c : List ℕ) (i : ℕ). answered (onFine (guarded true w s (listRules (w .count) least)) (roomFor (w .at + length c) s)) w s
+      (record { kind = w .kind; phase = suc (w .phase); at = i + length c; list = i; count = 0; last = 0 }) (overwrite s (w .at) c)) cnt (add-zero (w .at))
+      ∙ ap (λ (v : Verdict). answered v w s (opened (w .kind) (suc (w .phase)) (w .at) q) (overwrite s (w .at) (opening q)))
+      (sym (guarded-on true w s (listRules (w .count) least) R) ∙ ap (guarded true w s) (go (leb least (w .count)) R) ∙ ap (λ (n : ℕ). guarded true w s (pick (leb n (w .count)) R (J.Refuse (ruleNumber emptyList)))) (sym e))
+    where
+      go : (b : Bool) (R : Verdict) → onFine (pick b J.Fine (J.Refuse (ruleNumber emptyList))) R ≡ pick b R (J.Refuse (ruleNumber emptyList))
+      go true R = refl
+      go false R = refl
+
+  closed-at : (q : Plan) (m : Segment) (least : ℕ) → dueOf q ≡ D.List m least → fieldStep w s (guarded true w s (listRules (w .count) least)) [] (isList (dueOf (tail q))) (suc (w .phase)) ≡ closeAt q w s
+  closed-at shut m least e = let z : _≡_ {A = ℕ} 0 1 = cc in absurd (omega arith)
+  closed-at end m least e = let z : _≡_ {A = ℕ} 0 1 = cc in absurd (omega arith)
+  closed-at (field l C q) m least e = let z : _≡_ {A = ℕ} 0 1 = cc in absurd (omega arith)
+  closed-at (many l E q) m least e = let i : E .least ≡ least = cc in close-here least q l E i
+
+  -- nothing that could be closed
+  module _ (x d : Due) (p : x ≡ dueAt w) (e : x ≡ d) where
+    pub close-not : (r : Step) → r ≡ refusedStep w stepNotDue → isList d ≡ false → after r s ≡ close (avm memoMost) w s
+    unfolding close closeAt answered
+    close-not r h n = go (due (w .phase) (planOf (avm memoMost) (w .kind))) (ap isList (sym p ∙ e) ∙ n)
+      where
+        go : (q : Plan) → isList (dueOf q) ≡ false → after r s ≡ closeAt q w s
+        go shut e = ap (λ (y : Step). after y s) h
+        go end e = ap (λ (y : Step). after y s) h
+        go (field l C q) e = ap (λ (y : Step). after y s) h
+        go (many l E q) e = absurd (false≢true (sym e))
+
+    pub close-small : isList d ≡ true → w .phase ≤ 8
+    close-small n = phase-small (w .kind) (w .phase) isList refl (ap isList (sym p ∙ e) ∙ n)
+
+  pub close-is : (x : Due) → x ≡ dueAt w → (m : Segment) (least : ℕ) → x ≡ D.List m least → (opens : Bool) → opens ≡ isList (dueOf (due (w .phase + 1) (planOf (avm memoMost) (w .kind))))
+      → (rules : Verdict) → rules ≡ listRules (w .count) least → (v : Verdict) → v ≡ guardedIn true w (length s) rules → (r : Step) (u : List ℕ)
+      → after r u ≡ fieldStep w s v [] opens (w .phase + 1) → after r u ≡ close (avm memoMost) w s
+  unfolding close
+  close-is x p m least e opens o rules hr v hv r u h =
+      let P : Plan = planOf (avm memoMost) (w .kind) in
+      let q : Plan = due (w .phase) P in
+      let k : w .phase + 1 ≡ suc (w .phase) = omega arith in
+      let next : isList (dueOf (due (w .phase + 1) P)) ≡ isList (dueOf (tail q)) =
+      ap (λ (i : ℕ). isList (dueOf (due i P))) k ∙ ap (λ (z : Plan). isList (dueOf z)) (due-next (w .phase) P q (live-list q (ap isList (sym p ∙ e))) refl) in
+      h ∙ ap₂ (λ (y : Verdict) (b : Bool). fieldStep w s y [] b (w .phase + 1)) (hv ∙ ap (λ (y : Verdict). guardedIn true w (length s) y) hr) (o ∙ next)
+      ∙ ap (fieldStep w s (guarded true w s (listRules (w .count) least)) [] (isList (dueOf (tail q)))) k
+      ∙ closed-at q m least (sym p ∙ e)
+    where
+      live-list : (q : Plan) → isList (dueOf q) ≡ true → Live q
+      live-list shut e = false≢true e
+      live-list end e = tt
+      live-list (field l C q) e = tt
+      live-list (many l E q) e = tt

@@ -5,10 +5,13 @@ use mathlib.Core.List.{List}
 use lib.ListN.{length}
 use lib.Dec.{ltb, leb, eqb}
 use Rattle.wire.specs.Bytes.{pick}
-use Rattle.wire.specs.Numbers.{ruleNumber, badLength, notPrintable, badDenomination}
+use Rattle.wire.specs.Numbers.{ruleNumber, badLength, emptyList, notPrintable, badDenomination}
 use Rattle.element.specs.Strings.{unprintable}
 use Rattle.writer.specs.declared.Verdict.{Verdict}
 use Rattle.writer.specs.declared.Verdict.the-variants as J
+
+abbrev pub listRules : ℕ → ℕ → Verdict
+listRules count least = pick (leb least count) J.Fine (J.Refuse (ruleNumber emptyList))
 
 abbrev pub memoRules : ℕ → Verdict
 memoRules n = pick (leb n 256) J.Fine (J.Refuse (ruleNumber badLength))

@@ -1,6 +1,9 @@
 // A writer of transactions: a state that each step hands back, over a lent buffer.
 ghost use mathlib.Core.Path.{_≡_};
 ghost use Rattle.writer.specs.Fields.{addOperation, putMemo, putName, putSymbol, putDenomination, putChain};
+ghost use Rattle.transaction.specs.Avm.{avm};
+ghost use Rattle.transaction.specs.Answer.{memoMost};
+ghost use Rattle.writer.specs.Steps.{close};
 ghost use Rattle.writer.specs.Code.{after};
 
 pub mod elements;
@@ -49,6 +52,26 @@ pub struct Step {
 }
 
 impl Writer {
+    // Closes the open list, and opens the next where one follows.
+    pub fn close(self, buf: &mut [u8]) -> Step
+        ensures { λ r. ⌜ after r (now (buf .exit)) ≡ close (avm memoMost) self (now (buf .entry)) ⌝ }
+    {
+        match plans::due_at(self.kind, self.phase) {
+            Due::Nothing => store::refused(self, wire::numbers::STEP_NOT_DUE),
+            Due::End => store::refused(self, wire::numbers::STEP_NOT_DUE),
+            Due::Field(_) => store::refused(self, wire::numbers::STEP_NOT_DUE),
+            Due::List(_, least) => {
+                let phase = self.phase + 1;
+                let opens = plans::list_at(self.kind, phase);
+                let rules = texts::list_rules(self.count, least);
+                let verdict = store::entered(self, buf.len(), true, rules);
+                let none = [0u8; 1];
+                let nothing = [0u8; 1];
+                store::settle_field(self, buf, verdict, &none[..0], &nothing[..0], opens, phase)
+            }
+        }
+    }
+
     pub fn memo(self, buf: &mut [u8], bytes: &[u8]) -> Step
         ensures { λ r. ⌜ after r (now (buf .exit)) ≡ putMemo self (now (buf .entry)) (now (bytes .entry)) ⌝ }
     {

@@ -1,8 +1,18 @@
-// The rules of fields, as tests on what a step is given.
+// The rules of fields and of a close, as tests on what a step is given.
 ghost use mathlib.Core.Path.{_≡_};
 ghost use lib.ListN.{length};
-ghost use Rattle.writer.specs.Texts.{memoRules, textRules, denominationRules};
+ghost use Rattle.writer.specs.Texts.{listRules, memoRules, textRules, denominationRules};
 use crate::Verdict;
+
+// A list that is closed has its elements.
+pub fn list_rules(count: u32, least: u32) -> Verdict
+    ensures { λ r. ⌜ r ≡ listRules count least ⌝ }
+{
+    if count < least {
+        return Verdict::Refuse(wire::numbers::EMPTY_LIST);
+    }
+    Verdict::Fine
+}
 
 pub fn memo_rules(count: usize) -> Verdict
     ensures { λ r. ⌜ r ≡ memoRules count ⌝ }
