@@ -11,5 +11,5 @@ pub mod Storing
 pub mod Settling
 pub mod Fitting
 pub mod Naming
-pub mod Judging
+pub mod FieldLaws
 pub mod Methods

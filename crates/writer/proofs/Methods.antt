@@ -1,8 +1,8 @@
 -- The public steps, from what the code below them answered. Assumes nothing.
-use Prim.Native.Nat.{ℕ, suc, _+_, _%_, _^_, _≤_, _<_}
+use Prim.Native.Nat.{ℕ, suc, _+_, _*_, _%_, _^_, _≤_, _<_}
 use mathlib.Core.Path.{_≡_, refl, sym, ap, ap₂, _∙_, subst}
 use mathlib.Core.Bool.{Bool, true, false, false≢true}
-use mathlib.Core.List.{List, [], _++_}
+use mathlib.Core.List.{List, [], _++_, append-assoc}
 use native.Mathlib.Omega.{arith}
 use native.Mathlib.Nat.{mod-eq-of-lt, add-zero}
 use lib.ListN.{length}
@@ -14,6 +14,7 @@ use Rattle.wire.specs.Fields.{blob}
 use Rattle.element.specs.Strings.{text, unprintable}
 use Rattle.element.specs.Operations.{operation}
 use Rattle.transaction.specs.Plan.{Plan, shut, end, field, many, Elements}
+use Rattle.transaction.specs.Family.{head}
 use Rattle.transaction.specs.Avm.{avm, operations}
 use Rattle.transaction.specs.Answer.{memoMost}
 use Rattle.transaction.specs.declared.Segment.{Segment}
@@ -24,17 +25,17 @@ use Rattle.writer.specs.declared.Due.{Due}
 use Rattle.writer.specs.declared.Due.the-variants as D
 use Rattle.writer.specs.declared.Verdict.{Verdict}
 use Rattle.writer.specs.declared.Verdict.the-variants as J
-use Rattle.writer.specs.Steps.{Given, answered, guarded, guardedIn, judged, roomFor, overwrite, prev, tail, due, opening, opened, closeAt, planOf, put, close}
+use Rattle.writer.specs.Steps.{Given, answered, guarded, guardedIn, judged, roomFor, overwrite, prev, tail, due, opening, opened, closeAt, planOf, headBytes, start, put, close}
 use Rattle.writer.specs.Runs.{given}
 use Rattle.writer.specs.Fields.{addOperation, putMemo, putName, putSymbol, putDenomination, putChain}
-use Rattle.writer.specs.Texts.{listRules, memoRules, textRules, denominationRules}
-use Rattle.writer.specs.Code.{after, refusedStep, dueOf, isList, countOf, onFine, fieldStep, dueAt, namedField, namedElement}
+use Rattle.writer.specs.Texts.{kindRules, listRules, memoRules, textRules, denominationRules}
+use Rattle.writer.specs.Code.{after, refusedStep, dueOf, isList, countOf, onFine, fieldStep, startStep, dueAt, namedField, namedElement}
 use Rattle.writer.proofs.Laws.{pick-fine}
 use Rattle.writer.proofs.Keeping.{Live, due-next}
 use Rattle.writer.proofs.Rows.{phase-small}
-use Rattle.writer.proofs.Fitting.{guarded-on, opening-is}
+use Rattle.writer.proofs.Fitting.{guarded-on, judged-on, opening-is}
 use Rattle.writer.proofs.Naming.{field-is, put-element-named}
-use Rattle.writer.proofs.Judging.{string-write, text-write, string-judged, text-judged, denomination-write, denomination-judged, id-judged}
+use Rattle.writer.proofs.FieldLaws.{string-write, text-write, string-judged, text-judged, denomination-write, denomination-judged, id-judged, head-judged, front-is}
 
 -- a number that fits its digits
 fits-digits : (w n m : ℕ) → n ≤ m → m < 256 ^ w → digits w (n % 256 ^ w) ≡ digits w n
@@ -138,3 +139,19 @@ module _ (w : Writer) (s : List ℕ) where
       live-list end e = tt
       live-list (field l C q) e = tt
       live-list (many l E q) e = tt
+
+-- ---- the start
+
+pub start-is : (w : Writer) (s : List ℕ) (kind network : ℕ) (chain : List ℕ) → length chain ≡ 32 → kind < 256 ^ 4 → network < 256 ^ 4 → (rules : Verdict) → rules ≡ kindRules kind
+    → (v : Verdict) → v ≡ guardedIn (eqb (w .phase) 0) w (length s) rules → (front : List ℕ) → front ≡ digits 10 ((kind * 4294967296 + network) % 256 ^ 10)
+    → (r : Step) (u : List ℕ) → after r u ≡ startStep w s v kind (front ++ chain) → after r u ≡ start (avm memoMost) w s kind network chain
+unfolding start
+start-is w s kind network chain long fk fn rules hr v hv front hf r u h =
+    let ys : List ℕ = headBytes (avm memoMost) kind network chain in
+    let R : Verdict = roomFor (length (ys ++ digits 4 0)) s in
+    let t : Bool = eqb (w .phase) 0 in
+    let same : front ++ chain ≡ ys =
+    ap (λ (z : List ℕ). z ++ chain) (hf ∙ front-is kind network fk fn) ∙ append-assoc (digits 2 0) (digits 4 kind ++ digits 4 network) chain ∙ ap (λ (z : List ℕ). digits 2 0 ++ z) (append-assoc (digits 4 kind) (digits 4 network) chain) in
+    h ∙ ap₂ (λ (x : Verdict) (z : List ℕ). startStep w s x kind z) (hv ∙ ap (λ (x : Verdict). guardedIn t w (length s) x) hr) same
+    ∙ ap (λ (x : Verdict). answered x w s (opened kind 1 (length ys) (planOf (avm memoMost) kind)) (overwrite s 0 (ys ++ digits 4 0)))
+    (sym (guarded-on t w s (kindRules kind) R) ∙ ap (λ (x : Verdict). guarded t w s (onFine x R)) (sym (head-judged kind network chain long)) ∙ ap (guarded t w s) (sym (judged-on (head (avm memoMost)) (given ys) R)))

@@ -17,7 +17,7 @@ use Rattle.writer.specs.declared.Step.{Step}
 use Rattle.writer.specs.declared.Verdict.{Verdict}
 use Rattle.writer.specs.declared.Verdict.the-variants as J
 use Rattle.writer.specs.Steps.{answered, roomIn, roomFor, overwrite, sane, grown, appended}
-use Rattle.writer.specs.Code.{after, refusedStep, storedStep, countOf, onFine, fieldNext}
+use Rattle.writer.specs.Code.{after, refusedStep, storedStep, countOf, onFine, fieldNext, startStep}
 use Rattle.writer.proofs.Laws.{both-true, room-inv, length-overwrite}
 use Rattle.writer.proofs.Storing.{overwrite-more}
 
@@ -141,3 +141,23 @@ module _ (w : Writer) (s first second : List ℕ) where
           → after r u ≡ answered (onFine v (pick (sane w) (roomFor (w .at + length element) s) (J.Refuse stepNotDue))) w s w′ s′
       unfolding roomFor
       element-done r u x p y h = rw (e, sym a ∙ q, sym (element-room x p) ∙ y) h
+
+-- ---- a start
+
+module _ (w : Writer) (s ys : List ℕ) (kind : ℕ) where
+  abbrev begun : Writer
+  begun = record { kind = kind; phase = 0; at = 0; list = 0; count = 0; last = 0 }
+
+  at-zero : 0 + length (ys ++ digits 4 0) ≡ length (ys ++ digits 4 0)
+  at-zero = omega arith
+
+  pub start-refused : (v x : Verdict) → v ≡ J.Fine → x ≡ roomIn (0 + length (ys ++ digits 4 0)) (length s) → (n : ℕ) → x ≡ J.Refuse n → (r : Step) → r ≡ refusedStep w n → after r s ≡ startStep w s v kind ys
+  unfolding answered roomFor
+  start-refused v x e p n q r h = rw (e, ← at-zero, sym p ∙ q) (ap (λ (y : Step). after y s) h)
+
+  pub start-done : (v x : Verdict) → v ≡ J.Fine → x ≡ roomIn (0 + length (ys ++ digits 4 0)) (length s) → x ≡ J.Fine → (r : Step) (u : List ℕ)
+      → after r u ≡ answered J.Fine begun s (fieldNext begun 1 (0 + length ys) true) (overwrite s 0 (ys ++ countOf true)) → after r u ≡ startStep w s v kind ys
+  unfolding answered roomFor
+  start-done v x e p q r u h =
+      let n : 0 + length ys ≡ length ys = omega arith in
+      rw (e, ← at-zero, sym p ∙ q) (h ∙ ap (λ (i : ℕ). after (storedStep record { kind = kind; phase = 1; at = i + length (digits 4 0); list = i; count = 0; last = 0 }) (overwrite s 0 (ys ++ digits 4 0))) n)

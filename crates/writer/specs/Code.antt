@@ -72,6 +72,12 @@ abbrev pub fieldStep : Writer → List ℕ → Verdict → List ℕ → Bool →
 fieldStep w s v ys opens phase =
     answered (onFine v (roomFor (w .at + length (ys ++ countOf opens)) s)) w s (fieldNext w phase (w .at + length ys) opens) (overwrite s (w .at) (ys ++ countOf opens))
 
+-- a start of the bytes ys, once its rules are judged: a list is next in every type
+abbrev pub startStep : Writer → List ℕ → Verdict → ℕ → List ℕ → Turn
+startStep w s v kind ys =
+    answered (onFine v (roomFor (length (ys ++ digits 4 0)) s))
+    w s (record { kind = kind; phase = 1; at = length ys + length (digits 4 0); list = length ys; count = 0; last = 0 }) (overwrite s 0 (ys ++ digits 4 0))
+
 -- an element of the bytes ys, once its rules are judged
 abbrev pub elementStep : Writer → List ℕ → Verdict → List ℕ → Turn
 elementStep w s v ys =

@@ -1,14 +1,17 @@
 -- What the formats of fields come to, as tests on what a step is given; that it is the same is proved (`memo-judged` and the others, of
--- proofs/Judging). Assumes nothing.
+-- proofs/FieldLaws). Assumes nothing.
 use Prim.Native.Nat.{ℕ}
 use mathlib.Core.List.{List}
 use lib.ListN.{length}
 use lib.Dec.{ltb, leb, eqb}
 use Rattle.wire.specs.Bytes.{pick}
-use Rattle.wire.specs.Numbers.{ruleNumber, badLength, emptyList, notPrintable, badDenomination}
+use Rattle.wire.specs.Numbers.{ruleNumber, unknownType, badLength, emptyList, notPrintable, badDenomination}
 use Rattle.element.specs.Strings.{unprintable}
 use Rattle.writer.specs.declared.Verdict.{Verdict}
 use Rattle.writer.specs.declared.Verdict.the-variants as J
+
+abbrev pub kindRules : ℕ → Verdict
+kindRules kind = pick (ltb kind 5) J.Fine (J.Refuse (ruleNumber unknownType))
 
 abbrev pub listRules : ℕ → ℕ → Verdict
 listRules count least = pick (leb least count) J.Fine (J.Refuse (ruleNumber emptyList))

@@ -3,7 +3,7 @@ ghost use mathlib.Core.Path.{_≡_};
 ghost use Rattle.writer.specs.Fields.{addOperation, putMemo, putName, putSymbol, putDenomination, putChain};
 ghost use Rattle.transaction.specs.Avm.{avm};
 ghost use Rattle.transaction.specs.Answer.{memoMost};
-ghost use Rattle.writer.specs.Steps.{close};
+ghost use Rattle.writer.specs.Steps.{start, close};
 ghost use Rattle.writer.specs.Code.{after};
 
 pub mod elements;
@@ -52,6 +52,17 @@ pub struct Step {
 }
 
 impl Writer {
+    // Starts a transaction: codec, type, network and chain id, and the outputs' count.
+    pub fn start(self, buf: &mut [u8], kind: u32, network: u32, chain: [u8; 32]) -> Step
+        ensures { λ r. ⌜ after r (now (buf .exit)) ≡ start (avm memoMost) self (now (buf .entry)) kind network chain ⌝ }
+    {
+        let rules = texts::kind_rules(kind);
+        let verdict = store::entered(self, buf.len(), self.phase == 0, rules);
+        let mut front = [0u8; 10];
+        wire::put_number(&mut front, kind as u64 * 4294967296 + network as u64);
+        store::settle_start(self, buf, verdict, kind, &front, &chain)
+    }
+
     // Closes the open list, and opens the next where one follows.
     pub fn close(self, buf: &mut [u8]) -> Step
         ensures { λ r. ⌜ after r (now (buf .exit)) ≡ close (avm memoMost) self (now (buf .entry)) ⌝ }

@@ -5,7 +5,7 @@ ghost use mathlib.Core.List.{_++_};
 ghost use lib.ListN.{length};
 ghost use Rattle.wire.specs.Bytes.{digits};
 ghost use Rattle.writer.specs.Steps.{answered, guardedIn, roomIn, overwrite, sane, grown, appended};
-ghost use Rattle.writer.specs.Code.{after, refusedStep, storedStep, countOf, fieldNext, fieldStep, elementStep};
+ghost use Rattle.writer.specs.Code.{after, refusedStep, storedStep, countOf, fieldNext, fieldStep, startStep, elementStep};
 use crate::Step;
 use crate::Verdict;
 use crate::Writer;
@@ -176,6 +176,40 @@ pub fn settle_field(
         Verdict::Fine => match room_of(w.at, first, second, opens, buf.len()) {
             Verdict::Refuse(number) => refused(w, number),
             Verdict::Fine => store_field(w, buf, first, second, opens, phase),
+        },
+    }
+}
+
+// A start whose rules are judged.
+pub fn settle_start(
+    w: Writer,
+    buf: &mut [u8],
+    verdict: Verdict,
+    kind: u32,
+    first: &[u8],
+    second: &[u8],
+) -> Step
+    ensures { λ r. ⌜ after r (now (buf .exit)) ≡ startStep w (now (buf .entry)) verdict kind (now (first .entry) ++ now (second .entry)) ⌝ }
+{
+    match verdict {
+        Verdict::Refuse(number) => refused(w, number),
+        Verdict::Fine => match room_of(0, first, second, true, buf.len()) {
+            Verdict::Refuse(number) => refused(w, number),
+            Verdict::Fine => store_field(
+                Writer {
+                    kind,
+                    phase: 0,
+                    at: 0,
+                    list: 0,
+                    count: 0,
+                    last: 0,
+                },
+                buf,
+                first,
+                second,
+                true,
+                1,
+            ),
         },
     }
 }

@@ -1,8 +1,17 @@
 // The rules of fields and of a close, as tests on what a step is given.
 ghost use mathlib.Core.Path.{_≡_};
 ghost use lib.ListN.{length};
-ghost use Rattle.writer.specs.Texts.{listRules, memoRules, textRules, denominationRules};
+ghost use Rattle.writer.specs.Texts.{kindRules, listRules, memoRules, textRules, denominationRules};
 use crate::Verdict;
+
+pub fn kind_rules(kind: u32) -> Verdict
+    ensures { λ r. ⌜ r ≡ kindRules kind ⌝ }
+{
+    if kind < 5 {
+        return Verdict::Fine;
+    }
+    Verdict::Refuse(wire::numbers::UNKNOWN_TYPE)
+}
 
 // A list that is closed has its elements.
 pub fn list_rules(count: u32, least: u32) -> Verdict

@@ -1,7 +1,7 @@
 -- `writer::texts::text_rules` meets its contract. Assumes nothing.
 use borrow.Author.Needs.{needs}
 use Rattle.wire.proofs.Reading.{tests}
-use Rattle.writer.proofs.Judging.{text-fine, text-unprintable}
+use Rattle.writer.proofs.FieldLaws.{text-fine, text-unprintable}
 use Rattle.writer.proofs.texts.text_rules.Statement.{statement}
 use Rattle.writer.proofs.texts.text_rules.Tie as tie
 
