@@ -6,3 +6,7 @@ pub mod Filling
 pub mod Spelling
 pub mod Trip
 pub mod Owing
+pub mod Heads
+pub mod Judging
+pub mod Pieces
+pub mod Outputs
