@@ -10,3 +10,4 @@ pub mod Heads
 pub mod Judging
 pub mod Pieces
 pub mod Outputs
+pub mod Inputs

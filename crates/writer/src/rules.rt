@@ -135,3 +135,41 @@ pub fn output_rules(
     }
     Verdict::Fine
 }
+
+// Is each index strictly above the one before?
+fn indices_rise(indices: &[u32]) -> bool
+    ensures { λ r. ⌜ r ≡ rising (now (indices .entry)) ⌝ }
+{
+    let mut i: usize = 1;
+    while i < indices.len() {
+        if indices[i] <= indices[i - 1] {
+            return false;
+        }
+        i += 1;
+    }
+    true
+}
+
+// What bars an input behind prev, the bytes of the one before it. Its key is the first 36 bytes of its head.
+pub fn input_rules(
+    prev: &[u8],
+    txid: [u8; 32],
+    index: u32,
+    asset: [u8; 32],
+    amount: u64,
+    indices: &[u32],
+) -> Verdict
+    ensures { λ r. ⌜ r ≡ judged (input (now (prev .entry))) (inputGiven txid index asset amount (now (indices .entry))) Verdict.Fine ⌝ }
+{
+    let head = input_head(txid, index, asset, amount, indices.len() as u64);
+    if !wire::is_below(wire::between(prev, 0, 36), wire::between(&head, 0, 36)) {
+        return Verdict::Refuse(wire::numbers::OUT_OF_ORDER);
+    }
+    if amount == 0 {
+        return Verdict::Refuse(wire::numbers::ZERO_AMOUNT);
+    }
+    if !indices_rise(indices) {
+        return Verdict::Refuse(wire::numbers::OUT_OF_ORDER);
+    }
+    Verdict::Fine
+}

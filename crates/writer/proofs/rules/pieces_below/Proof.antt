@@ -15,6 +15,6 @@ pieces-below-spec =
     (λ c κs. search needs)  -- between-requires-2
     (λ c κs. search needs)  -- is-below-requires
     (λ c. search needs)  -- enum-told-3
-    (λ c. search (pieces-below, pieces-equal, pieces-above))  -- returns
-    (λ c. search (pieces-below, pieces-equal, pieces-above))  -- returns-2
-    (λ c. search (pieces-below, pieces-equal, pieces-above)))  -- returns-3
+    (λ c. search pieces-below)  -- returns
+    (λ c. search pieces-equal)  -- returns-2
+    (λ c. search pieces-above))  -- returns-3
