@@ -28,7 +28,7 @@ use Rattle.writer.specs.declared.Verdict.the-variants as J
 use Rattle.writer.specs.Steps.{judged}
 use Rattle.writer.specs.Fields.{inputOf, inputGiven}
 use Rattle.writer.specs.Elements.{inputHead, numbersBytes, rising, eachAbove}
-use Rattle.writer.proofs.Judging.{barred, blob-back, number-back, rest-as, field-back, test-alike, listBytes, list-back}
+use Rattle.writer.proofs.Judging.{barred, blob-back, number-back, rest-all, rest-as, field-back, test-alike, listBytes, list-back}
 
 -- ---- numbers of 4 bytes
 
@@ -116,7 +116,7 @@ module _ (txid : List ℕ) (index : ℕ) (asset : List ℕ) (amount : ℕ) (indi
     input-run h k narrow =
         let count : ℕ = length indices in
         let w : List ℕ = listBytes (number 4) [] indices in
-        field-back (blob 32) txid (blob-back 32 txid h) written 0 _ _ _ _ (rest-as _ _ _ _ (append-assoc (blob 32 .write txid) _ _) record { there = refl; ends = omega arith }) λ r₁.
+        field-back (blob 32) txid (blob-back 32 txid h) written 0 _ _ _ _ (rest-as _ _ _ _ (append-assoc (blob 32 .write txid) _ _) (rest-all written)) λ r₁.
         field-back (number 4) index (number-back 3 index) written _ _ _ _ _ r₁ λ r₂.
         test-alike (below (take 36 prev) (key .write (txid, index))) _ _ _
         (field-back (blob 32) asset (blob-back 32 asset k) written _ _ _ _ _ r₂ λ r₃.

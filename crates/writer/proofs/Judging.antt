@@ -1,7 +1,7 @@
 -- What reading the writing of fields comes to, whether they keep the rules or not: fields are read back as they were written, and the first rule
 -- that one breaks is the verdict. So a step that is given fields is judged by tests on them. Assumes nothing.
 use Prim.Native.Nat.{ℕ, suc, _+_, _-_, _%_, _^_, _≤_}
-use mathlib.Core.Path.{_≡_, sym, ap, _∙_}
+use mathlib.Core.Path.{_≡_, refl, sym, ap, _∙_}
 use mathlib.Core.Bool.{Bool, true, false, not}
 use mathlib.Core.List.{List, [], _∷_, _++_, append-assoc}
 use native.Mathlib.Omega.{arith}
@@ -54,6 +54,9 @@ number-back w v R s at t stop go e =
 pub record Rest (s : List ℕ) (at : ℕ) (t : List ℕ) : Type 0 where
   pub there : drop at s ≡ t
   pub ends : at + length t ≡ length s
+
+pub rest-all : (s : List ℕ) → Rest s 0 s
+rest-all s = record { there = refl; ends = omega arith }
 
 pub rest-behind : (s : List ℕ) (at : ℕ) (w t : List ℕ) → Rest s at (w ++ t) → Rest s (at + length w) t
 rest-behind s at w t r = record { there = drop-step s at w t (r .there); ends = omega (arith, r .ends, length-append w t) }

@@ -29,7 +29,7 @@ use Rattle.writer.specs.declared.Verdict.the-variants as J
 use Rattle.writer.specs.Steps.{judged}
 use Rattle.writer.specs.Fields.{addressesOf, outputOf, outputGiven}
 use Rattle.writer.specs.Elements.{outputFront, outputHead, eachAbove}
-use Rattle.writer.proofs.Judging.{barred, blob-back, number-back, rest-as, field-back, test-alike, listBytes, list-back}
+use Rattle.writer.proofs.Judging.{barred, blob-back, number-back, rest-all, rest-as, field-back, test-alike, listBytes, list-back}
 
 -- ---- addresses, one behind the other
 
@@ -62,7 +62,7 @@ module _ (s : List ℕ) (x : Part) (e : x ≡ ended (increasing (blob 20) (lengt
   addresses-read : (p : ℕ) × (m : ℕ) × (x ≡ pick (eachAbove (blob 20) [] (listOf s)) (P.Next m) (P.Refused (by outOfOrder p)))
   addresses-read =
       let h : 20 * (length s / 20) ≤ length s = omega (arith, div-add-mod' (length s) 20) in
-      let (p, q) = list-back (blob 20) (λ b. length b ≡ 20) (blob-back 20) [] (listOf s) s 0 (drop (20 * (length s / 20)) s) P.Refused (λ l m. P.Next m) (addresses-sized _ s h) (addresses-written _ [] s h) in
+      let (p, q) = list-back (blob 20) (λ b. length b ≡ 20) (blob-back 20) [] (listOf s) s 0 _ P.Refused (λ l m. P.Next m) (addresses-sized _ s h) (addresses-written _ [] s h) in
       (p, _, e ∙ ap (λ n. ended (increasing (blob 20) n) s 0) (sym (length-addressesOf (length s / 20) s)) ∙ q)
 
   pub addresses-rise : (m : ℕ) → x ≡ P.Next m → true ≡ eachAbove (blob 20) [] (listOf s)
@@ -120,7 +120,7 @@ module _ (asset : List ℕ) (amount locktime threshold : ℕ) (addresses : List 
     output-run h =
         let count : ℕ = length (listOf addresses) in
         let w : List ℕ = listBytes (blob 20) [] (listOf addresses) in
-        field-back (blob 32) asset (blob-back 32 asset h) written 0 _ _ _ _ record { there = refl; ends = omega arith } λ r₁.
+        field-back (blob 32) asset (blob-back 32 asset h) written 0 _ _ _ _ (rest-all written) λ r₁.
         field-back (number 4) 7 (number-back 3 7) written _ _ _ _ _ r₁ λ r₂.
         field-back (number 8) amount (number-back 7 amount) written _ _ _ _ _ r₂ λ r₃.
         test-alike (ltb 0 amount) _ _ _
@@ -138,7 +138,8 @@ module _ (asset : List ℕ) (amount locktime threshold : ℕ) (addresses : List 
     unfolding judged
     output-judged h = ap (λ v. pick (eqb (length addresses % 20) 0) v (barred cutShort)) (output-run h) ∙ whole (eqb (length addresses % 20) 0) refl
       where
-        whole : (b : Bool) → eqb (length addresses % 20) 0 ≡ b → pick b (rules (length (listOf addresses)) written) (barred cutShort) ≡ pick b (rules (length addresses / 20) built) (barred cutShort)
+        whole : (b : Bool) → eqb (length addresses % 20) 0 ≡ b
+            → pick b (rules (length (listOf addresses)) written) (barred cutShort) ≡ pick b (rules (length addresses / 20) built) (barred cutShort)
         whole true e = rw (length-addressesOf (length addresses / 20) addresses, built-written (eqb-true (length addresses % 20) 0 e))
         whole false e = refl
 

@@ -16,23 +16,29 @@ use Rattle.wire.specs.Order.{order, keyBelow}
 use Rattle.wire.proofs.Bytes.{Slice, slice-bytes, orElse, order-key}
 use Rattle.writer.specs.Elements.{outputFront, outputHead}
 
+-- a is below b, or t where neither is below the other
+abbrev decided : List ℕ → List ℕ → Bool → Bool
+decided a b t = pick (below a b) true (pick (below b a) false t)
+
 -- the first piece decides, or else the second
-below-pieces : (a c p : List ℕ) → below (a ++ c) p ≡ pick (below a (take (length a) p)) true (pick (below (take (length a) p) a) false (below c (drop (length a) p)))
+below-pieces : (a c p : List ℕ) → below (a ++ c) p ≡ decided a (take (length a) p) (below c (drop (length a) p))
 unfolding below
 below-pieces [] c p = refl
 below-pieces (x ∷ a) c [] = refl
 below-pieces (x ∷ a) c (y ∷ p) = cases (ltb x y) (ltb y x) (below-pieces a c p)
   where
-    cases : (u v : Bool) → below (a ++ c) p ≡ pick (below a (take (length a) p)) true (pick (below (take (length a) p) a) false (below c (drop (length a) p)))
+    cases : (u v : Bool) → below (a ++ c) p ≡ decided a (take (length a) p) (below c (drop (length a) p))
         → pick u true (pick v false (below (a ++ c) p))
-        ≡ pick (pick u true (pick v false (below a (take (length a) p)))) true (pick (pick v true (pick u false (below (take (length a) p) a))) false (below c (drop (length a) p)))
+        ≡ pick (pick u true (pick v false (below a (take (length a) p)))) true
+        (pick (pick v true (pick u false (below (take (length a) p) a))) false (below c (drop (length a) p)))
     cases true v e = refl
     cases false true e = refl
     cases false false e = e
 
 -- where the second piece is below nothing, the first decides alone
 first-decides : (a c p : List ℕ) → below c (drop (length a) p) ≡ false → below a (take (length a) p) ≡ below (a ++ c) p
-first-decides a c p e = cases (below a (take (length a) p)) (below (take (length a) p) a) ∙ ap (λ t. pick (below a (take (length a) p)) true (pick (below (take (length a) p) a) false t)) (sym e) ∙ sym (below-pieces a c p)
+first-decides a c p e =
+    cases (below a (take (length a) p)) (below (take (length a) p) a) ∙ ap (decided a (take (length a) p)) (sym e) ∙ sym (below-pieces a c p)
   where
     cases : (u v : Bool) → u ≡ pick u true (pick v false false)
     cases true v = refl
@@ -40,7 +46,7 @@ first-decides a c p e = cases (below a (take (length a) p)) (below (take (length
     cases false false = refl
 
 -- the order x of a and b was found to be o
-order-then : (a b : List ℕ) (x o : Order) → x ≡ order a b → x ≡ o → (t : Bool) → orElse o t ≡ pick (below a b) true (pick (below b a) false t)
+order-then : (a b : List ℕ) (x o : Order) → x ≡ order a b → x ≡ o → (t : Bool) → orElse o t ≡ decided a b t
 unfolding keyBelow
 order-then a b x o p q true = order-key a b x o p q (orElse o true) 0 1 refl
 order-then a b x o p q false = order-key a b x o p q (orElse o false) 0 0 refl
@@ -82,8 +88,8 @@ module _ (prev asset : List ℕ) (amount locktime threshold count : ℕ) (addres
   output-few h e i = i ∙ ap (λ r. below (r ++ addresses) prev) (e ∙ ap (outputHead asset amount locktime threshold) (mod-eq-of-lt (omega arith)))
 
   -- of more addresses than four bytes count, the bytes in front of the count decide
-  pub output-many : Slice prev → length asset ≡ 32 → (f p : List ℕ) → 4294967295 < count → head ≡ outputHead asset amount locktime threshold (count % 256 ^ 4) → f ≡ part 0 56 head → p ≡ part 0 56 prev
-      → y ≡ below f p → y ≡ below (outputHead asset amount locktime threshold count ++ addresses) prev
+  pub output-many : Slice prev → length asset ≡ 32 → (f p : List ℕ) → 4294967295 < count → head ≡ outputHead asset amount locktime threshold (count % 256 ^ 4)
+      → f ≡ part 0 56 head → p ≡ part 0 56 prev → y ≡ below f p → y ≡ below (outputHead asset amount locktime threshold count ++ addresses) prev
   unfolding outputHead
   output-many b l f p h e g k i =
       let front : List ℕ = outputFront asset amount locktime threshold in
