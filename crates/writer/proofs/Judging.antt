@@ -28,7 +28,7 @@ barred x = J.Refuse (ruleNumber x)
 -- ---- F reads a back wherever it is written
 
 abbrev pub Back : {A : Type 0} → Format A → A → Type 1
-Back F a = (R : Type 0) (s : List ℕ) (at : ℕ) (t : List ℕ) (stop : Refusal → R) (go : _ → ℕ → R) → drop at s ≡ F .write a ++ t
+Back {A} F a = (R : Type 0) (s : List ℕ) (at : ℕ) (t : List ℕ) (stop : Refusal → R) (go : A → ℕ → R) → drop at s ≡ F .write a ++ t
     → F .run s at stop go ≡ go a (at + length (F .write a))
 
 pub blob-back : (n : ℕ) (b : List ℕ) → length b ≡ n → Back (blob n) b
@@ -71,7 +71,7 @@ module _ {A R : Type 0} (F : Format A) (a : A) (back : Back F a) (s : List ℕ) 
 pub test-alike : {R : Type 0} (b : Bool) (x y z : R) → x ≡ y → pick b x z ≡ pick b y z
 test-alike b x y z e = ap (λ r. pick b r z) e
 
--- ---- a list whose elements strictly increase
+-- ---- a list whose elements strictly increase: it goes on where each is above the one before, and is refused as out of order at some place else
 
 -- a test, and those behind it
 tested : {R : Type 0} (b c : Bool) (at : ℕ) (x y z : R) (stop : Refusal → R) → z ≡ pick b x (stop (by outOfOrder at))

@@ -1,7 +1,7 @@
 // The rules of the steps that are given an output or an input as fields, in the order in which the reading of its bytes judges them; and the bytes
 // in front of its addresses or indices.
 ghost use mathlib.Core.Path.{_≡_};
-ghost use Prim.Native.Nat.{_+_, _*_, _/_, _%_, _^_, _≤_};
+ghost use Prim.Native.Nat.{_+_, _/_, _%_, _^_, _≤_};
 ghost use mathlib.Core.List.{[], _++_};
 ghost use lib.ListN.{length, take};
 ghost use Rattle.wire.specs.Bytes.{digits, below};
