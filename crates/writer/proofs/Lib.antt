@@ -13,3 +13,8 @@ pub mod Fitting
 pub mod Naming
 pub mod FieldLaws
 pub mod Methods
+pub mod Heads
+pub mod Judging
+pub mod Pieces
+pub mod Outputs
+pub mod Inputs

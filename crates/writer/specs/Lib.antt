@@ -5,3 +5,4 @@ pub mod Claims
 pub mod Fields
 pub mod Code
 pub mod Texts
+pub mod Elements

@@ -9,6 +9,7 @@ ghost use Rattle.writer.specs.Code.{after};
 pub mod elements;
 pub mod parts;
 pub mod plans;
+pub mod rules;
 pub mod store;
 pub mod texts;
 
