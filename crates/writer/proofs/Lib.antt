@@ -6,3 +6,4 @@ pub mod Filling
 pub mod Spelling
 pub mod Trip
 pub mod Owing
+pub mod Blanks

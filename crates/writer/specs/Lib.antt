@@ -4,3 +4,4 @@ pub mod Runs
 pub mod Claims
 pub mod Fields
 pub mod Code
+pub mod Closing

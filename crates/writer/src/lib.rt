@@ -1,4 +1,6 @@
 // A writer of transactions: a state that each step hands back, over a lent buffer.
+pub mod finish;
+
 use transaction::Segment;
 use wire::Refusal;
 
