@@ -19,8 +19,12 @@ use Rattle.wire.specs.declared.Number.the-variants as N
 use Rattle.wire.specs.declared.Part.{Part}
 use Rattle.wire.specs.declared.Part.the-variants as P
 use Rattle.transaction.specs.Signed.{mostBytes}
+use Rattle.transaction.specs.Answer.{ownWants}
+use Rattle.transaction.specs.declared.Kind.{Kind}
+use Rattle.transaction.specs.declared.Kind.the-variants as K
+use Rattle.transaction.specs.declared.Layout.{Layout}
 use Rattle.writer.specs.Steps.{overwrite}
-use Rattle.writer.specs.Closing.{askedAt, blankCredential, blanksFrom, onNumber, fitted, Blanks}
+use Rattle.writer.specs.Closing.{askedAt, blankCredential, blanksFrom, onNumber, ownType, closingOf, counted, fitted, Blanks, Room}
 use Rattle.writer.proofs.Laws.{length-overwrite}
 
 -- ---- zeros
@@ -247,3 +251,107 @@ module _ (b : List ℕ) (end t n q at : ℕ) (B : Blanks t n (take end b) q end 
               same = ap length e ∙ length-stays s k (blankCredential t c) (omega arith) ∙ w .same;
               ends = omega (arith, more, w .ends);
             }
+
+-- ---- all credentials
+
+closing-long : (l : Layout) (s : List ℕ)
+    → length (closingOf l s) ≡ 4 + (length (blanksFrom 9 (l .«inputs_count») s (l .«inputs_at»)) + length (blanksFrom (ownType (l .kind)) (ownWants (l .kind) (l .«own_count»)) s (l .«own_at»)))
+unfolding closingOf
+closing-long l s =
+    let a : List ℕ = blanksFrom 9 (l .«inputs_count») s (l .«inputs_at») in
+    let b : List ℕ = blanksFrom (ownType (l .kind)) (ownWants (l .kind) (l .«own_count»)) s (l .«own_at») in
+    omega (arith, length-append (digits 4 (counted l)) (a ++ b), length-append a b, length-digits 4 (counted l))
+
+-- the place behind them
+module _ (l : Layout) (s : List ℕ) (at most : ℕ) where
+  pub closing-full : most < at + 4 → P.Refused (refusal noRoom 0) ≡ fitted at (length (closingOf l s)) most
+  closing-full h = fitted-full at (length (closingOf l s)) most (omega (arith, closing-long l s))
+
+  module _ (z : Part) (e : z ≡ fitted (at + 4) (length (blanksFrom 9 (l .«inputs_count») s (l .«inputs_at»))) most) where
+    moved : (b : ℕ) → fitted at (4 + b) most ≡ fitted (at + 4) b most
+    unfolding fitted
+    moved b = let i : at + (4 + b) ≡ at + 4 + b = omega arith in rw i
+
+    pub closing-off : (r : Refusal) → z ≡ P.Refused r → P.Refused r ≡ fitted at (length (closingOf l s)) most
+    closing-off r f =
+        sym
+        (ap (λ (n : ℕ). fitted at n most) (closing-long l s)
+        ∙ moved _
+        ∙ fitted-off z (at + 4) (length (blanksFrom 9 (l .«inputs_count») s (l .«inputs_at»))) most e r _ f)
+
+    pub closing-on : (m t w : ℕ) (y : Part) → z ≡ P.Next m → t ≡ ownType (l .kind) → w ≡ ownWants (l .kind) (l .«own_count») → y ≡ fitted m (length (blanksFrom t w s (l .«own_at»))) most
+        → y ≡ fitted at (length (closingOf l s)) most
+    closing-on m t w y f et ew ey =
+        ey
+        ∙ ap₂ (λ (a b : ℕ). fitted m (length (blanksFrom a b s (l .«own_at»))) most) et ew
+        ∙ sym
+        (ap (λ (n : ℕ). fitted at n most) (closing-long l s)
+        ∙ moved _
+        ∙ fitted-on z (at + 4) (length (blanksFrom 9 (l .«inputs_count») s (l .«inputs_at»))) most e m _ f)
+
+ownType-fits : (k : Kind) → ownType k < 256 ^ 4
+ownType-fits K.Base = omega arith
+ownType-fits K.CreateAsset = omega arith
+ownType-fits K.Operation = omega arith
+ownType-fits K.Import = omega arith
+ownType-fits K.Export = omega arith
+
+-- their writing: the count, those that the inputs want, those that the own part wants
+module _ (l : Layout) (s : List ℕ) (at w : ℕ) (R : Room l s at) (ew : w ≡ ownWants (l .kind) (l .«own_count»)) where
+  pub count-small : l .«inputs_count» + w < 256 ^ 4
+  count-small = omega (arith, R .short, R .counts)
+
+  pub count-room : at + 4 ≤ length s
+  count-room = omega (arith, R .fits, closing-long l (take at s))
+
+  module _ (a : List ℕ) (ea : a ≡ overwrite s at (digits 4 (l .«inputs_count» + w))) where
+    front-a : take at a ≡ take at s
+    front-a = ap (take at) ea ∙ front-stays s at (digits 4 (l .«inputs_count» + w)) at (omega arith) (omega (arith, count-room))
+
+    long-a : length a ≡ length s
+    long-a = ap length ea ∙ length-stays s at (digits 4 (l .«inputs_count» + w)) (omega (arith, count-room, length-digits 4 (l .«inputs_count» + w)))
+
+    inputs-a : blanksFrom 9 (l .«inputs_count») (take at a) (l .«inputs_at») ≡ blanksFrom 9 (l .«inputs_count») (take at s) (l .«inputs_at»)
+    inputs-a = ap (λ (f : List ℕ). blanksFrom 9 (l .«inputs_count») f (l .«inputs_at»)) front-a
+
+    pub closing-inputs : Blanks 9 (l .«inputs_count») (take at a) (l .«inputs_at») at (at + 4) (length a)
+    closing-inputs =
+        let e = ap length inputs-a in
+        let n = closing-long l (take at s) in
+        record { type = omega arith; behind = omega arith; room = omega (arith, R .fits, long-a); short = omega (arith, R .short) }
+
+    module _ (b : List ℕ) (m : ℕ) (em : m ≡ at + 4 + length (blanksFrom 9 (l .«inputs_count») (take at a) (l .«inputs_at»)))
+        (eb : b ≡ overwrite a (at + 4) (blanksFrom 9 (l .«inputs_count») (take at a) (l .«inputs_at»))) where
+      front-b : take at b ≡ take at s
+      front-b = ap (take at) eb ∙ front-stays a (at + 4) (blanksFrom 9 (l .«inputs_count») (take at a) (l .«inputs_at»)) at (omega arith) (omega (arith, count-room, long-a)) ∙ front-a
+
+      long-b : length b ≡ length s
+      long-b = ap length eb ∙ length-stays a (at + 4) (blanksFrom 9 (l .«inputs_count») (take at a) (l .«inputs_at»)) (closing-inputs .room) ∙ long-a
+
+      module _ (t : ℕ) (et : t ≡ ownType (l .kind)) where
+        own-b : blanksFrom t w (take at b) (l .«own_at») ≡ blanksFrom (ownType (l .kind)) (ownWants (l .kind) (l .«own_count»)) (take at s) (l .«own_at»)
+        own-b = ap (λ (f : List ℕ). blanksFrom t w f (l .«own_at»)) front-b ∙ ap₂ (λ (x y : ℕ). blanksFrom x y (take at s) (l .«own_at»)) et ew
+
+        pub closing-own : Blanks t w (take at b) (l .«own_at») at m (length b)
+        closing-own =
+            let e = ap length own-b in
+            let f = ap length inputs-a in
+            let n = closing-long l (take at s) in
+            record { type = omega (arith, ownType-fits (l .kind)); behind = omega arith; room = omega (arith, R .fits, long-b); short = omega (arith, R .short) }
+
+        pub closing-written : (c : List ℕ) → c ≡ overwrite b m (blanksFrom t w (take at b) (l .«own_at»)) → c ≡ overwrite s at (closingOf l (take at s))
+        unfolding closingOf
+        closing-written c ec =
+            let x : List ℕ = digits 4 (l .«inputs_count» + w) in
+            let y : List ℕ = blanksFrom 9 (l .«inputs_count») (take at s) (l .«inputs_at») in
+            let z : List ℕ = blanksFrom (ownType (l .kind)) (ownWants (l .kind) (l .«own_count»)) (take at s) (l .«own_at») in
+            let four = length-digits 4 (l .«inputs_count» + w) in
+            let h = count-room in
+            let f = ap length inputs-a in
+            let two : b ≡ overwrite s at (x ++ y) =
+            eb ∙ ap₂ (λ (r i : List ℕ). overwrite r (at + 4) i) ea inputs-a ∙ overwrite-more s at x y (at + 4) (omega arith) (omega arith) in
+            ec
+            ∙ ap₂ (λ (r i : List ℕ). overwrite r m i) two own-b
+            ∙ overwrite-more s at (x ++ y) z m (omega (arith, length-append x y)) (omega arith)
+            ∙ ap (overwrite s at) (append-assoc x y z)
+            ∙ ap (λ (i : ℕ). overwrite s at (digits 4 (l .«inputs_count» + i) ++ (y ++ z))) ew

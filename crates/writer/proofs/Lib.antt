@@ -7,3 +7,5 @@ pub mod Spelling
 pub mod Trip
 pub mod Owing
 pub mod Blanks
+pub mod Wanted
+pub mod Ending

@@ -1,8 +1,8 @@
 -- The blank credentials that finish writes, as code makes them: each from the element that wants it. Assumes nothing.
 use Prim.Native.Nat.{ℕ, zero, suc, _+_, _*_, _^_, _≤_, _<_}
 use mathlib.Core.List.{List, [], _++_}
-use lib.ListN.{length, replicate}
-use lib.Dec.{leb, eqb}
+use lib.ListN.{length, take, replicate}
+use lib.Dec.{leb, ltb, eqb}
 use Rattle.wire.specs.Bytes.{digits, pick}
 use Rattle.wire.specs.Numbers.{refusal, noRoom}
 use Rattle.wire.specs.Fields.{number, blob}
@@ -13,9 +13,14 @@ use Rattle.wire.specs.declared.Part.the-variants as P
 use Rattle.element.specs.Operations.{operation}
 use Rattle.transaction.specs.Signed.{mostBytes}
 use Rattle.transaction.specs.Answer.{ownWants}
+use Rattle.transaction.specs.Plan.{shut}
 use Rattle.transaction.specs.declared.Kind.{Kind}
 use Rattle.transaction.specs.declared.Kind.the-variants as K
 use Rattle.transaction.specs.declared.Layout.{Layout}
+use Rattle.writer.specs.declared.Writer.{Writer}
+use Rattle.writer.specs.declared.Step.{Step}
+use Rattle.writer.specs.declared.Written.the-variants as W
+use Rattle.writer.specs.Steps.{Turn, answered, roomFor, overwrite, opened}
 
 -- how many signatures the element at q wants, and where it ends. Behind the 80 bytes of an input's key, asset id, type and amount stand its
 -- indices' count and these
@@ -71,3 +76,37 @@ pub record Blanks (t n : ℕ) (s : List ℕ) (q end at k : ℕ) : Type 0 where
   pub behind : end ≤ at
   pub room : at + length (blanksFrom t n s q) ≤ k
   pub short : at + length (blanksFrom t n s q) ≤ mostBytes
+
+-- how many the code counts
+abbrev pub counted : Layout → ℕ
+counted l = l .«inputs_count» + ownWants (l .kind) (l .«own_count»)
+
+-- all credentials have room behind the unsigned part, which ends at `at`; and they are as many as are counted, so that the count has 32 bits
+pub record Room (l : Layout) (s : List ℕ) (at : ℕ) : Type 0 where
+  pub fits : at + length (closingOf l (take at s)) ≤ length s
+  pub short : at + length (closingOf l (take at s)) ≤ mostBytes
+  pub counts : 8 * counted l ≤ length (closingOf l (take at s))
+
+-- ---- the step
+
+abbrev pub refusedStep : ℕ → Writer → Step
+refusedStep n w = record { next = w; answer = W.Refused (refusal n 0) }
+
+-- the most bytes that a transaction has in a buffer of n
+abbrev pub mostIn : ℕ → ℕ
+mostIn n = pick (ltb n mostBytes) n mostBytes
+
+-- the highest number that a phase can have: none follows it
+abbrev pub lastPhase : ℕ
+lastPhase = 4294967295
+
+-- the credentials of l behind the unsigned part, where there is room
+unfoldable pub closeStep : Layout → Writer → List ℕ → Turn
+closeStep l w s =
+    let ys = closingOf l (take (w .at) s) in
+    answered (roomFor (w .at + length ys) s) w s (opened (w .kind) (suc (w .phase)) (w .at + length ys) shut) (overwrite s (w .at) ys)
+
+pub record Closable (l : Layout) (w : Writer) (s : List ℕ) : Type 0 where
+  pub phase : w .phase < lastPhase
+  pub inside : w .at ≤ length s
+  pub counts : 8 * counted l ≤ length (closingOf l (take (w .at) s))

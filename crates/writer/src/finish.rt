@@ -2,14 +2,29 @@
 ghost use mathlib.Core.Path.{_≡_};
 ghost use Prim.Native.Nat.{_+_, _*_, _^_, _≤_, _<_};
 ghost use lib.ListN.{length, take, replicate};
-ghost use Rattle.wire.specs.Bytes.{digits};
-ghost use Rattle.writer.specs.Steps.{overwrite};
-ghost use Rattle.writer.specs.Closing.{Blanks, askedByInput, askedByOperation, askedAt, blankCredential, blanksFrom, ownType, closingOf, fitted};
+ghost use mathlib.Core.Bool.{_&&_};
+ghost use lib.Dec.{ltb};
+ghost use Rattle.wire.specs.Bytes.{digits, pick};
+ghost use Rattle.transaction.specs.Plan.{end};
+ghost use Rattle.transaction.specs.Avm.{avm};
+ghost use Rattle.transaction.specs.Answer.{memoMost};
+ghost use Rattle.writer.specs.Steps.{overwrite, notDue, finishAt};
+ghost use Rattle.writer.specs.Code.{after};
+ghost use Rattle.writer.specs.Closing.{Blanks, Room, Closable, askedByInput, askedByOperation, askedAt, blankCredential, blanksFrom, ownType, closingOf, fitted, refusedStep, mostIn, closeStep, lastPhase};
+use crate::Step;
+use crate::Writer;
+use crate::Written;
 use element::OperationRead;
 use transaction::Kind;
+use transaction::Layout;
+use transaction::UnsignedRead;
 use wire::Number;
 use wire::Part;
 use wire::Refusal;
+
+const MOST_BYTES: usize = 65536;
+
+const LAST_PHASE: u32 = 4294967295;
 
 // How many indices the input at q has, and the place behind it.
 fn asked_by_input(s: &[u8], q: usize) -> Number
@@ -172,4 +187,111 @@ fn put_blanks(
         left -= 1;
     }
     at
+}
+
+// The place behind all credentials from at on, which end by most.
+fn closing_end(s: &[u8], layout: Layout, at: usize, most: usize) -> Part
+    ensures { λ r. ⌜ r ≡ fitted at (length (closingOf layout (now (s .entry)))) most ⌝ }
+{
+    let kind = layout.kind;
+    let full = Part::Refused(Refusal {
+        number: wire::numbers::NO_ROOM,
+        place: 0,
+    });
+    if most < at {
+        return full;
+    }
+    if most - at < 4 {
+        return full;
+    }
+    match blanks_end(s, 9, layout.inputs_count, layout.inputs_at, at + 4, most) {
+        Part::Refused(refusal) => Part::Refused(refusal),
+        Part::Next(m) => {
+            let wanted = transaction::credentials::own_wants(kind, layout.own_count);
+            blanks_end(s, own_type(kind), wanted, layout.own_at, m, most)
+        }
+    }
+}
+
+// Writes all credentials behind the unsigned part, which ends at at.
+fn put_closing(buf: &mut [u8], at: usize, layout: Layout)
+    requires { ⌜ Room layout (now buf) at ⌝ }
+    ensures { λ _. ⌜ now (buf .exit) ≡ overwrite (now (buf .entry)) at (closingOf layout (take at (now (buf .entry)))) ⌝ }
+{
+    let kind = layout.kind;
+    let inputs = layout.inputs_count;
+    let wanted = transaction::credentials::own_wants(kind, layout.own_count);
+    put_u32(buf, at, inputs + wanted);
+    let m = put_blanks(buf, at, 9, inputs, layout.inputs_at, at + 4);
+    put_blanks(buf, at, own_type(kind), wanted, layout.own_at, m);
+}
+
+fn refused(w: Writer, number: u32) -> Step
+    ensures { λ r. ⌜ r ≡ refusedStep number w ⌝ }
+{
+    Step {
+        next: w,
+        answer: Written::Refused(Refusal { number, place: 0 }),
+    }
+}
+
+// The most bytes that a transaction has in a buffer of that length.
+fn most_in(length: usize) -> usize
+    ensures { λ r. ⌜ r ≡ mostIn length ⌝ }
+{
+    if length < MOST_BYTES {
+        return length;
+    }
+    MOST_BYTES
+}
+
+// Writes the credentials behind the unsigned part, where there is room.
+fn close(w: Writer, buf: &mut [u8], layout: Layout) -> Step
+    requires { ⌜ Closable layout w (now buf) ⌝ }
+    ensures { λ r. ⌜ after r (now (buf .exit)) ≡ closeStep layout w (now (buf .entry)) ⌝ }
+{
+    let at = w.at;
+    let most = most_in(buf.len());
+    match closing_end(&buf[..at], layout, at, most) {
+        Part::Refused(_) => refused(w, wire::numbers::NO_ROOM),
+        Part::Next(end) => {
+            put_closing(buf, at, layout);
+            Step {
+                next: Writer {
+                    kind: w.kind,
+                    phase: w.phase + 1,
+                    at: end,
+                    list: end,
+                    count: 0,
+                    last: 0,
+                },
+                answer: Written::Done(end),
+            }
+        }
+    }
+}
+
+// The last step, where it is due: the unsigned part is read back, and its credentials are written blank. No phase follows the last number.
+pub fn finish(w: Writer, buf: &mut [u8], is_end: bool) -> Step
+    ensures { λ r. ⌜ after r (now (buf .exit)) ≡ pick («is_end» && ltb (w .phase) lastPhase) (finishAt (avm memoMost) end w (now (buf .entry))) (notDue w (now (buf .entry))) ⌝ }
+{
+    let at = w.at;
+    if !is_end {
+        return refused(w, wire::numbers::STEP_NOT_DUE);
+    }
+    if LAST_PHASE <= w.phase {
+        return refused(w, wire::numbers::STEP_NOT_DUE);
+    }
+    if buf.len() < at {
+        return refused(w, wire::numbers::NO_ROOM);
+    }
+    match transaction::body::unsigned_at(&buf[..at]) {
+        UnsignedRead::Refused(refusal) => refused(w, refusal.number),
+        UnsignedRead::Whole(layout, end) => {
+            if end != at {
+                return refused(w, wire::numbers::BYTES_AFTER_END);
+            }
+            close(w, buf, layout)
+        }
+    }
 }
