@@ -1,6 +1,6 @@
 -- Laws of the blank credentials that finish writes, and of the buffer that it writes them to. Assumes nothing.
 use Prim.Native.Nat.{ℕ, zero, suc, _+_, _-_, _*_, _%_, _^_, _≤_, _<_}
-use mathlib.Core.Path.{_≡_, refl, sym, ap, ap₂, _∙_, subst}
+use mathlib.Core.Path.{_≡_, refl, sym, ap, ap₂, _∙_}
 use mathlib.Core.Bool.{Bool, true, false}
 use mathlib.Core.List.{List, [], _∷_, _++_, append-assoc, append-nil}
 use native.Mathlib.Omega.{arith}
@@ -24,7 +24,7 @@ use Rattle.transaction.specs.declared.Kind.{Kind}
 use Rattle.transaction.specs.declared.Kind.the-variants as K
 use Rattle.transaction.specs.declared.Layout.{Layout}
 use Rattle.writer.specs.Steps.{overwrite}
-use Rattle.writer.specs.Closing.{askedAt, blankCredential, blanksFrom, onNumber, ownType, closingOf, counted, fitted, Blanks, Room}
+use Rattle.writer.specs.Closing.{askedAt, blankCredential, blanksFrom, ownType, closingOf, counted, fitted, Blanks, Room}
 use Rattle.writer.proofs.Laws.{length-overwrite}
 
 -- ---- zeros

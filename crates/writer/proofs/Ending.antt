@@ -8,10 +8,10 @@ use native.Mathlib.Omega.{arith}
 use native.Mathlib.Numerals.{add-one}
 use lib.ListN.{length, take}
 use lib.Seq.{length-take-le}
-use lib.Dec.{leb, ltb, eqb}
-use borrow.Author.Tests.{ltb-true, ltb-false, lt-ltb, le-ltb, lt-leb, le-leb, eq-eqb, ne-eqb}
+use lib.Dec.{leb, ltb}
+use borrow.Author.Tests.{ltb-true, ltb-false, lt-ltb, le-ltb, lt-leb, eq-eqb, ne-eqb}
 use Rattle.wire.specs.Bytes.{Bytes, bytes-take, pick}
-use Rattle.wire.specs.Numbers.{refusal, bytesAfterEnd, noRoom, stepNotDue}
+use Rattle.wire.specs.Numbers.{bytesAfterEnd, noRoom, stepNotDue}
 use Rattle.wire.specs.Format.{took, read}
 use Rattle.wire.specs.declared.Refusal.{Refusal}
 use Rattle.wire.specs.declared.Part.{Part}
@@ -19,11 +19,13 @@ use Rattle.wire.specs.declared.Part.the-variants as P
 use Rattle.wire.proofs.Bytes.{Slice, slice-bytes}
 use Rattle.element.proofs.Reading.{answer-took}
 use Rattle.transaction.specs.Signed.{mostBytes}
-use Rattle.transaction.specs.Plan.{shut, end}
+use Rattle.transaction.specs.Plan.{Plan, shut, end, field, many}
 use Rattle.transaction.specs.Family.{Family, Unsigned, unsigned}
-use Rattle.transaction.specs.Avm.{avm}
+use Rattle.transaction.specs.Avm.{plan, avm}
 use Rattle.transaction.specs.Answer.{memoMost, unsignedAt}
 use Rattle.transaction.specs.Answer as A
+use Rattle.transaction.specs.declared.Kind.{Kind}
+use Rattle.transaction.specs.declared.Kind.the-variants as K
 use Rattle.transaction.specs.declared.Layout.{Layout}
 use Rattle.transaction.specs.declared.UnsignedRead.{UnsignedRead}
 use Rattle.transaction.specs.declared.UnsignedRead.the-variants as U
@@ -33,10 +35,11 @@ use Rattle.writer.specs.declared.Step.{Step}
 use Rattle.writer.specs.declared.Written.the-variants as W
 use Rattle.writer.specs.declared.Verdict.{Verdict}
 use Rattle.writer.specs.declared.Verdict.the-variants as J
-use Rattle.writer.specs.Steps.{Turn, answered, guarded, judged, roomFor, overwrite, opened, notDue, blankBehind, closing, finishAt}
+use Rattle.writer.specs.Steps.{Turn, answered, judged, roomFor, overwrite, opened, tail, behind, due, notDue, blankBehind, closing, finishAt, planOf, finish}
 use Rattle.writer.specs.Runs.{given}
-use Rattle.writer.specs.Code.{after}
-use Rattle.writer.specs.Closing.{closingOf, counted, fitted, Room, refusedStep, mostIn, lastPhase, closeStep, Closable}
+use Rattle.writer.specs.declared.Due.the-variants as D
+use Rattle.writer.specs.Code.{after, dueOf}
+use Rattle.writer.specs.Closing.{closingOf, counted, fitted, Room, refusedStep, mostIn, lastPhase, isEnd, closeStep, Closable}
 use Rattle.writer.proofs.Laws.{guarded-fine, room-fine}
 use Rattle.writer.proofs.Blanks.{fitted-next, fitted-refused}
 use Rattle.writer.proofs.Wanted.{closing-blank}
@@ -197,3 +200,55 @@ module _ (w : Writer) (s : List ℕ) where
   pub when-due : (t : Bool) → not t ≡ false → w .phase < lastPhase → (z : Turn) → z ≡ finishAt F end w s → z ≡ Due t
   when-due true e h z ez = rw (lt-ltb (w .phase) lastPhase h) ez
   when-due false e h z ez = let y : _≡_ {A = ℕ} 0 1 = cc in absurd (omega arith)
+
+-- ---- the finish is due only behind the parts of a plan, which are few
+
+abbrev parts : Plan → ℕ
+parts shut = 0
+parts end = 0
+parts (field l C q) = suc (parts q)
+parts (many l E q) = suc (parts q)
+
+behind-tail : (k : ℕ) (p : Plan) → behind (suc k) p ≡ behind k (tail p)
+behind-tail zero p = refl
+behind-tail (suc k) p = ap tail (behind-tail k p)
+
+behind-shut : (k : ℕ) → behind k shut ≡ shut
+behind-shut zero = refl
+behind-shut (suc k) = ap tail (behind-shut k)
+
+never-end : {A : Type 0} (k : ℕ) → dueOf (behind k shut) ≡ D.End → A
+never-end k e =
+    let i : D.Nothing ≡ D.End = sym (ap dueOf (behind-shut k)) ∙ e in
+    let z : _≡_ {A = ℕ} 0 1 = cc in
+    absurd (omega arith)
+
+behind-end : (p : Plan) (k : ℕ) → dueOf (behind k p) ≡ D.End → k ≤ parts p
+behind-end p zero e = omega arith
+behind-end shut (suc k) e = never-end (suc k) e
+behind-end end (suc k) e = never-end k (sym (ap dueOf (behind-tail k end)) ∙ e)
+behind-end (field l C q) (suc k) e = omega (arith, behind-end q k (sym (ap dueOf (behind-tail k (field l C q))) ∙ e))
+behind-end (many l E q) (suc k) e = omega (arith, behind-end q k (sym (ap dueOf (behind-tail k (many l E q))) ∙ e))
+
+few-parts : (k : Kind) → parts (plan memoMost k) ≤ 7
+few-parts K.Base = omega arith
+few-parts K.CreateAsset = omega arith
+few-parts K.Operation = omega arith
+few-parts K.Import = omega arith
+few-parts K.Export = omega arith
+
+pub end-phase : (phase kind : ℕ) → dueOf (due phase (planOf F kind)) ≡ D.End → phase < lastPhase
+end-phase zero kind e = omega arith
+end-phase (suc k) kind e = omega (arith, behind-end (planOf F kind) k e, few-parts (F .kind kind))
+
+-- what `finish` ensures, by what is due, is the step
+pub finish-by-due : (w : Writer) (s : List ℕ)
+    → pick (isEnd (dueOf (due (w .phase) (planOf F (w .kind)))) && ltb (w .phase) lastPhase) (finishAt F end w s) (notDue w s) ≡ finish F w s
+unfolding finish finishAt
+finish-by-due w s = cases (due (w .phase) (planOf F (w .kind))) (end-phase (w .phase) (w .kind))
+  where
+    cases : (p : Plan) → (dueOf p ≡ D.End → w .phase < lastPhase) → pick (isEnd (dueOf p) && ltb (w .phase) lastPhase) (finishAt F end w s) (notDue w s) ≡ finishAt F p w s
+    cases shut h = refl
+    cases end h = rw (lt-ltb (w .phase) lastPhase (h refl))
+    cases (field l C q) h = refl
+    cases (many l E q) h = refl

@@ -4,8 +4,8 @@ use mathlib.Core.Path.{_≡_, refl, sym, ap, ap₂, _∙_, subst}
 use mathlib.Core.List.{List, [], _∷_, _++_, append-assoc, append-nil}
 use native.Mathlib.Omega.{arith}
 use native.Mathlib.Numerals.{sub-one}
-use lib.ListN.{length, replicate, length-append, length-replicate, replicate-append-replicate}
-use Rattle.wire.specs.Bytes.{digits, length-digits}
+use lib.ListN.{length, replicate, length-append, replicate-append-replicate}
+use Rattle.wire.specs.Bytes.{digits}
 use Rattle.wire.specs.Format.{took, refused, read, run-inv}
 use Rattle.wire.specs.Fields.{blob, number}
 use Rattle.wire.specs.Series.{items, listRun, list-inv, left, notBelow}
@@ -13,7 +13,7 @@ use Rattle.wire.specs.declared.Number.the-variants as N
 use Rattle.wire.proofs.Bytes.{Slice}
 use Rattle.wire.proofs.Reading.{run-took}
 use Rattle.element.specs.Strings.{memo}
-use Rattle.element.specs.Outputs.{transferableOutput}
+use Rattle.element.specs.Outputs.{TransferableOutput, transferableOutput}
 use Rattle.element.specs.Inputs.{Input, input}
 use Rattle.element.specs.Operations.{Operation, operation}
 use Rattle.transaction.specs.Slots.{signatureWidth, blank}
@@ -176,29 +176,39 @@ own-blank K.Export s o (c, (l, u)) n b h = ap (λ (ws : List Want). blankEach (w
 Closes : Layout → List ℕ → List Want → Type 0
 Closes w s ws = (closingOf w s ≡ digits 4 (length ws) ++ blankEach ws) × (counted w ≡ length ws)
 
--- those of a body that starts at `at` and was read up to n
+closes : (w : Layout) (s : List ℕ) (a b : List Want) → counted w ≡ length (a ++ b) → blanksFrom 9 (w .«inputs_count») s (w .«inputs_at») ≡ blankEach a
+    → blanksFrom (ownType (w .kind)) (ownWants (w .kind) (w .«own_count»)) s (w .«own_at») ≡ blankEach b → Closes w s (a ++ b)
+unfolding closingOf Closes
+closes w s a b count first second =
+    (ap₂ (λ (j : ℕ) (r : List ℕ). digits 4 j ++ r) count (ap₂ (λ (x y : List ℕ). x ++ y) first second ∙ sym (blank-append a b)), count)
+
+-- those of a body that starts at `at`, whose parts were read
+body-parts : (k : Kind) (s : List ℕ) (at : ℕ) (outs : List TransferableOutput) (i : ℕ) (ins : List Input) (m : ℕ) (note : List ℕ) (o : ℕ) (own : Value (ownPlan k)) (n : ℕ) → Slice s
+    → read (atLeast 0 (notBelow transferableOutput)) s at ≡ took outs i → read (atLeast 0 input) s i ≡ took ins m → read (memo memoMost) s m ≡ took note o → read (form (ownPlan k)) s o ≡ took own n
+    → Closes (layoutFrom k at (outs, (ins, (note, own)))) s (wanted (plan memoMost k) (outs, (ins, (note, own))))
+unfolding wanted
+body-parts k s at outs i ins m note o own n b eo ei en ew =
+    let a : List Want = asked inputAsks ins in
+    let d : List Want = wanted (ownPlan k) own in
+    let pi : at + length (atLeast 0 (notBelow transferableOutput) .write outs) ≡ i = sym (written-next (atLeast 0 (notBelow transferableOutput)) s at outs i b eo) in
+    let po : at + length (atLeast 0 (notBelow transferableOutput) .write outs) + length (atLeast 0 input .write ins) + length (memo memoMost .write note) ≡ o =
+    omega (arith, written-next (atLeast 0 input) s i ins m b ei, written-next (memo memoMost) s m note o b en) in
+    subst (Closes (layoutFrom k at (outs, (ins, (note, own)))) s) (ap (λ (w : List Want). w ++ (a ++ d)) (sym (asked-none outs)))
+    (closes (layoutFrom k at (outs, (ins, (note, own)))) s a d
+    (omega (arith, length-append a d, asked-length inputWant ins, own-length k own))
+    (ap (λ (q : ℕ). blanksFrom 9 (length ins) s (q + 4)) pi ∙ inputs-blank (length ins) [] s (i + 4) ins m b (at-least-inv 0 input s i ins m b ei))
+    (ap (λ (q : ℕ). ownBlanks k s q own) po ∙ own-blank k s o own n b ew))
+
 body-blank : (k : Kind) (s : List ℕ) (at : ℕ) (v : Value (plan memoMost k)) (n : ℕ) → Slice s → read (form (plan memoMost k)) s at ≡ took v n
     → Closes (layoutFrom k at v) s (wanted (plan memoMost k) v)
-unfolding form wanted closingOf Closes
+unfolding form
 body-blank k s at v n b h =
     let (outs, i, eo, e₁) = run-inv (atLeast 0 (notBelow transferableOutput)) s at _ v n h in
     let (ins, m, ei, e₂) = run-inv (atLeast 0 input) s i _ v n e₁ in
     let (note, o, en, e₃) = run-inv (memo memoMost) s m _ v n e₂ in
     let (own, c, ew, e₄) = run-inv (form (ownPlan k)) s o _ v n e₃ in
     let same : (outs, (ins, (note, own))) ≡ v = cc in
-    let pi : at + length (atLeast 0 (notBelow transferableOutput) .write outs) ≡ i = sym (written-next (atLeast 0 (notBelow transferableOutput)) s at outs i b eo) in
-    let po : at + length (atLeast 0 (notBelow transferableOutput) .write outs) + length (atLeast 0 input .write ins) + length (memo memoMost .write note) ≡ o =
-    omega (arith, written-next (atLeast 0 (notBelow transferableOutput)) s at outs i b eo, written-next (atLeast 0 input) s i ins m b ei, written-next (memo memoMost) s m note o b en) in
-    let ws : List Want = asked inputAsks ins ++ wanted (ownPlan k) own in
-    let count : length ins + ownWants k (ownCount k own) ≡ length ws = omega (arith, length-append (asked inputAsks ins) (wanted (ownPlan k) own), asked-length inputWant ins, own-length k own) in
-    let list : ws ≡ asked asksNothing outs ++ ws = ap (λ (w : List Want). w ++ ws) (sym (asked-none outs)) in
-    let first : blanksFrom 9 (length ins) s (at + length (atLeast 0 (notBelow transferableOutput) .write outs) + 4) ≡ blankEach (asked inputAsks ins) =
-    ap (λ (q : ℕ). blanksFrom 9 (length ins) s (q + 4)) pi ∙ inputs-blank (length ins) [] s (i + 4) ins m b (at-least-inv 0 input s i ins m b ei) in
-    let second : ownBlanks k s (at + length (atLeast 0 (notBelow transferableOutput) .write outs) + length (atLeast 0 input .write ins) + length (memo memoMost .write note)) own ≡ blankEach (wanted (ownPlan k) own) =
-    ap (λ (q : ℕ). ownBlanks k s q own) po ∙ own-blank k s o own c b ew in
-    subst (λ (w : Value (plan memoMost k)). Closes (layoutFrom k at w) s (wanted (plan memoMost k) w)) same
-    (subst (Closes (layoutFrom k at (outs, (ins, (note, own)))) s) list
-    (ap₂ (λ (j : ℕ) (r : List ℕ). digits 4 j ++ r) count (ap₂ (λ (x y : List ℕ). x ++ y) first second ∙ sym (blank-append (asked inputAsks ins) (wanted (ownPlan k) own))), count))
+    subst (λ (w : Value (plan memoMost k)). Closes (layoutFrom k at w) s (wanted (plan memoMost k) w)) same (body-parts k s at outs i ins m note o own c b eo ei en ew)
 
 -- what the code makes is what is wanted, and at least 8 bytes for each
 pub closing-blank : (s : List ℕ) (u : Unsigned (avm memoMost)) (n : ℕ) → Slice s → read (unsigned (avm memoMost)) s 0 ≡ took u n
@@ -209,14 +219,14 @@ closing-blank s u n b h =
     let (v, c, ev, e₂) = run-inv (form (plan memoMost (d .kind))) s a _ u n e₁ in
     let same : (d, v) ≡ u = cc in
     let place : a ≡ length (head (avm memoMost) .write d) = omega (arith, written-next (head (avm memoMost)) s 0 d a b ed) in
-    let closes : Closes (A.layout u) s (wants (avm memoMost) u) =
+    let all : Closes (A.layout u) s (wants (avm memoMost) u) =
     subst (λ (w : Unsigned (avm memoMost)). Closes (A.layout w) s (wants (avm memoMost) w)) same
     (subst (λ (j : ℕ). Closes (layoutFrom (d .kind) j v) s (wanted (plan memoMost (d .kind)) v)) place (body-blank (d .kind) s a v c b ev)) in (
-      closes .0 ∙ sym (all-blank u),
+      all .0 ∙ sym (all-blank u),
       omega (
         arith,
-        closes .1,
-        ap length (closes .0),
+        all .1,
+        ap length (all .0),
         blank-long (wants (avm memoMost) u),
         length-append (digits 4 (length (wants (avm memoMost) u))) (blankEach (wants (avm memoMost) u)),
       ),

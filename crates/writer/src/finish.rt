@@ -174,17 +174,17 @@ fn put_blanks(
     ensures { λ r. ⌜ r ≡ start + length (blanksFrom kind count (take end (now (buf .entry))) first) ⌝ }
     ensures { λ _. ⌜ now (buf .exit) ≡ overwrite (now (buf .entry)) start (blanksFrom kind count (take end (now (buf .entry))) first) ⌝ }
 {
-    let mut left = count;
+    let mut owed = count;
     let mut q = first;
     let mut at = start;
-    while 0 < left {
+    while 0 < owed {
         let Number::Value(signatures, next) = asked_at(&buf[..end], q, kind) else {
             return at;
         };
         put_blank(buf, at, kind, signatures);
         q = next;
         at = at + 8 + 65 * signatures as usize;
-        left -= 1;
+        owed -= 1;
     }
     at
 }

@@ -2,9 +2,9 @@
 use borrow.Author.Needs.{needs}
 use native.Mathlib.Omega.{arith}
 use Prim.Native.Nat.{_-_, _≤_}
-use mathlib.Core.Path.{_≡_, refl, ap, _∙_}
-use mathlib.Core.List.{List, _++_}
-use lib.ListN.{length, drop, set, replicate, length-set}
+use mathlib.Core.Path.{_≡_, refl, _∙_}
+use mathlib.Core.List.{_++_}
+use lib.ListN.{length, drop, replicate, length-set}
 use Rattle.writer.proofs.Blanks.{zero-more, zeros-all}
 use Rattle.writer.proofs.finish.clear.Statement.{statement}
 use Rattle.writer.proofs.finish.clear.Tie as tie

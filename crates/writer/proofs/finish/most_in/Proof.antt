@@ -1,5 +1,4 @@
 -- `writer::finish::most_in` meets its contract. Assumes nothing.
-use borrow.Author.Needs.{needs}
 use Rattle.wire.proofs.Reading.{if-lt, if-not-lt}
 use Rattle.writer.proofs.finish.most_in.Statement.{statement}
 use Rattle.writer.proofs.finish.most_in.Tie as tie
