@@ -252,3 +252,8 @@ finish-by-due w s = cases (due (w .phase) (planOf F (w .kind))) (end-phase (w .p
     cases end h = rw (lt-ltb (w .phase) lastPhase (h refl))
     cases (field l C q) h = refl
     cases (many l E q) h = refl
+
+-- the same, of a bool t that tells what is due
+pub finish-when : (t : Bool) (w : Writer) (s : List ℕ) → t ≡ isEnd (dueOf (due (w .phase) (planOf F (w .kind))))
+    → pick (t && ltb (w .phase) lastPhase) (finishAt F end w s) (notDue w s) ≡ finish F w s
+finish-when t w s e = ap (λ (b : Bool). pick (b && ltb (w .phase) lastPhase) (finishAt F end w s) (notDue w s)) e ∙ finish-by-due w s

@@ -226,6 +226,7 @@ fn put_closing(buf: &mut [u8], at: usize, layout: Layout)
     put_blanks(buf, at, own_type(kind), wanted, layout.own_at, m);
 }
 
+// The answer of a step that changes nothing.
 fn refused(w: Writer, number: u32) -> Step
     ensures { λ r. ⌜ r ≡ refusedStep number w ⌝ }
 {
