@@ -18,3 +18,6 @@ pub mod Judging
 pub mod Pieces
 pub mod Outputs
 pub mod Inputs
+pub mod Blanks
+pub mod Wanted
+pub mod Ending

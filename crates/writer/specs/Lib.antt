@@ -6,3 +6,4 @@ pub mod Fields
 pub mod Code
 pub mod Texts
 pub mod Elements
+pub mod Closing

@@ -12,6 +12,7 @@ pub mod plans;
 pub mod rules;
 pub mod store;
 pub mod texts;
+pub mod finish;
 
 use transaction::Segment;
 use wire::Refusal;
