@@ -1,16 +1,18 @@
 -- The public steps, from what the code below them answered. Assumes nothing.
-use Prim.Native.Nat.{ℕ, suc, _+_, _*_, _%_, _^_, _≤_, _<_}
+use Prim.Native.Nat.{ℕ, suc, _+_, _*_, _/_, _%_, _^_, _≤_, _<_}
 use mathlib.Core.Path.{_≡_, refl, sym, ap, ap₂, _∙_, subst}
 use mathlib.Core.Bool.{Bool, true, false, false≢true}
 use mathlib.Core.List.{List, [], _++_, append-assoc}
 use native.Mathlib.Omega.{arith}
-use native.Mathlib.Nat.{mod-eq-of-lt, add-zero}
-use lib.ListN.{length}
+use native.Mathlib.Nat.{mod-eq-of-lt, add-zero, div-le-self}
+use lib.ListN.{length, length-append}
 use lib.Dec.{ltb, leb, eqb}
-use borrow.Author.Tests.{leb-true}
-use Rattle.wire.specs.Bytes.{digits, pick}
-use Rattle.wire.specs.Numbers.{ruleNumber, badLength, notPrintable, emptyList, stepNotDue}
+use borrow.Author.Tests.{leb-true, eqb-true}
+use Rattle.wire.specs.Bytes.{digits, length-digits, pick}
+use Rattle.wire.specs.Numbers.{ruleNumber, cutShort, badLength, notPrintable, emptyList, stepNotDue}
 use Rattle.wire.specs.Fields.{blob}
+use Rattle.wire.specs.Series.{notBelow}
+use Rattle.element.specs.Outputs.{transferableOutput}
 use Rattle.element.specs.Strings.{text, unprintable}
 use Rattle.element.specs.Operations.{operation}
 use Rattle.transaction.specs.Plan.{Plan, shut, end, field, many, Elements}
@@ -27,14 +29,16 @@ use Rattle.writer.specs.declared.Verdict.{Verdict}
 use Rattle.writer.specs.declared.Verdict.the-variants as J
 use Rattle.writer.specs.Steps.{Given, answered, guarded, guardedIn, judged, roomFor, overwrite, prev, tail, due, opening, opened, closeAt, planOf, headBytes, start, put, close}
 use Rattle.writer.specs.Runs.{given}
-use Rattle.writer.specs.Fields.{addOperation, putMemo, putName, putSymbol, putDenomination, putChain}
+use Rattle.writer.specs.Fields.{outputGiven, addOutput, addOperation, putMemo, putName, putSymbol, putDenomination, putChain}
+use Rattle.writer.specs.Elements.{outputFront, outputHead}
 use Rattle.writer.specs.Texts.{kindRules, listRules, memoRules, textRules, denominationRules}
 use Rattle.writer.specs.Code.{after, refusedStep, dueOf, isList, countOf, onFine, fieldStep, startStep, dueAt, namedField, namedElement}
-use Rattle.writer.proofs.Laws.{pick-fine}
+use Rattle.writer.proofs.Laws.{pick-fine, judged-read}
 use Rattle.writer.proofs.Keeping.{Live, due-next}
 use Rattle.writer.proofs.Rows.{phase-small}
 use Rattle.writer.proofs.Fitting.{guarded-on, judged-on, opening-is}
-use Rattle.writer.proofs.Naming.{field-is, put-element-named}
+use Rattle.writer.proofs.Naming.{field-is, put-element-named, element-bytes, refused-bytes}
+use Rattle.writer.proofs.Outputs.{built-written, output-bytes}
 use Rattle.writer.proofs.FieldLaws.{string-write, text-write, string-judged, text-judged, denomination-write, denomination-judged, id-judged, head-judged, front-is}
 
 -- a number that fits its digits
@@ -155,3 +159,48 @@ start-is w s kind network chain long fk fn rules hr v hv front hf r u h =
     h ∙ ap₂ (λ (x : Verdict) (z : List ℕ). startStep w s x kind z) (hv ∙ ap (λ (x : Verdict). guardedIn t w (length s) x) hr) same
     ∙ ap (λ (x : Verdict). answered x w s (opened kind 1 (length ys) (planOf (avm memoMost) kind)) (overwrite s 0 (ys ++ digits 4 0)))
     (sym (guarded-on t w s (kindRules kind) R) ∙ ap (λ (x : Verdict). guarded t w s (onFine x R)) (sym (head-judged kind network chain long)) ∙ ap (guarded t w s) (sym (judged-on (head (avm memoMost)) (given ys) R)))
+
+-- ---- elements given as fields
+
+-- a head is as long for every count
+head-long : (asset : List ℕ) (amount locktime threshold m n : ℕ) → length (outputHead asset amount locktime threshold m) ≡ length (outputHead asset amount locktime threshold n)
+unfolding outputHead
+head-long asset amount locktime threshold m n =
+    omega (arith, length-append (outputFront asset amount locktime threshold) (digits 4 m), length-append (outputFront asset amount locktime threshold) (digits 4 n), length-digits 4 m, length-digits 4 n)
+
+module _ (w : Writer) (s : List ℕ) (asset : List ℕ) (amount locktime threshold : ℕ) (addresses : List ℕ) where
+  abbrev outputRules : List ℕ → Verdict
+  outputRules last = judged (notBelow transferableOutput last) (outputGiven asset amount locktime threshold addresses) J.Fine
+
+  -- where the rules hold the addresses are whole
+  whole-addresses : (last : List ℕ) → outputRules last ≡ J.Fine → length addresses % 20 ≡ 0
+  whole-addresses last e =
+      eqb-true (length addresses % 20) 0
+      (pick-fine (eqb (length addresses % 20) 0) _ (ruleNumber cutShort) (sym (judged-read (notBelow transferableOutput last) (outputGiven asset amount locktime threshold addresses) J.Fine) ∙ e) .0)
+
+  pub output-is : (last : List ℕ) → last ≡ prev w s → (x : Verdict) → x ≡ outputRules last → (head : List ℕ) → head ≡ outputHead asset amount locktime threshold (length addresses / 20 % 256 ^ 4)
+      → (r : Step) (u : List ℕ) → after r u ≡ namedElement w s S.Output x (head ++ addresses) → after r u ≡ addOutput w s asset amount locktime threshold addresses
+  output-is last hl x hx head hh r u h = go (outputRules (prev w s)) refl
+    where
+      rules : x ≡ outputRules (prev w s)
+      rules = hx ∙ ap outputRules hl
+
+      named : namedElement w s S.Output (outputRules (prev w s)) (outputGiven asset amount locktime threshold addresses .bytes) ≡ addOutput w s asset amount locktime threshold addresses
+      named =
+          put-element-named w s S.Output (outputGiven asset amount locktime threshold addresses) (outputRules (prev w s)) refl
+          (λ E (e, i). ap (λ (F : Elements). judged (F .element (prev w s)) (outputGiven asset amount locktime threshold addresses) J.Fine) i)
+
+      heads : length head ≡ length (outputHead asset amount locktime threshold (length addresses / 20))
+      heads = ap length hh ∙ head-long asset amount locktime threshold (length addresses / 20 % 256 ^ 4) (length addresses / 20)
+
+      go : (v : Verdict) → outputRules (prev w s) ≡ v → after r u ≡ addOutput w s asset amount locktime threshold addresses
+      go J.Fine f =
+          let whole = whole-addresses (prev w s) f in
+          let b = built-written asset amount locktime threshold addresses whole in
+          let long : length (head ++ addresses) ≡ length (outputGiven asset amount locktime threshold addresses .bytes) =
+          omega (arith, length-append head addresses, heads, ap length b, length-append (outputHead asset amount locktime threshold (length addresses / 20)) addresses) in
+          h ∙ ap (λ (y : Verdict). namedElement w s S.Output y (head ++ addresses)) rules
+          ∙ element-bytes w s S.Output (head ++ addresses) (outputGiven asset amount locktime threshold addresses .bytes) (outputRules (prev w s)) long
+          (λ g k. output-bytes asset amount locktime threshold addresses head hh whole (omega (arith, length-append head addresses, div-le-self (length addresses) 20)))
+          ∙ named
+      go (J.Refuse n) f = h ∙ ap (λ (y : Verdict). namedElement w s S.Output y (head ++ addresses)) rules ∙ refused-bytes w s S.Output (head ++ addresses) (outputGiven asset amount locktime threshold addresses .bytes) (outputRules (prev w s)) n f ∙ named

@@ -1,5 +1,5 @@
 -- A step by the name of a part is the step that the plan has there. Assumes nothing.
-use Prim.Native.Nat.{ℕ, suc, _+_}
+use Prim.Native.Nat.{ℕ, suc, _+_, _≤_}
 use mathlib.Core.Path.{_≡_, refl, sym, ap, ap₂, _∙_, subst}
 use mathlib.Core.Bool.{Bool, true, false, false≢true}
 use mathlib.Core.List.{List, _++_}
@@ -8,6 +8,7 @@ use lib.ListN.{length}
 use lib.Dec.{leb}
 use Rattle.wire.specs.Bytes.{pick}
 use Rattle.wire.specs.Numbers.{noRoom, stepNotDue}
+use Rattle.transaction.specs.Signed.{mostBytes}
 use Rattle.transaction.specs.Plan.{Plan, shut, end, field, many, Elements}
 use Rattle.transaction.specs.Avm.{avm}
 use Rattle.transaction.specs.Answer.{memoMost}
@@ -16,9 +17,10 @@ use Rattle.writer.specs.declared.Writer.{Writer}
 use Rattle.writer.specs.declared.Step.{Step}
 use Rattle.writer.specs.declared.Verdict.{Verdict}
 use Rattle.writer.specs.declared.Verdict.the-variants as J
-use Rattle.writer.specs.Steps.{Turn, Given, answered, guarded, guardedIn, judged, prev, sane, tail, due, planOf, putAt, put}
+use Rattle.writer.specs.Steps.{Turn, Given, answered, guarded, guardedIn, judged, roomFor, prev, sane, grown, appended, tail, due, planOf, putAt, put}
 use Rattle.writer.specs.Runs.{given}
-use Rattle.writer.specs.Code.{after, refusedStep, dueOf, isList, isField, isOpen, fieldStep, elementStep, dueAt, namedField, namedElement}
+use Rattle.writer.specs.Code.{after, refusedStep, onFine, dueOf, isList, isField, isOpen, fieldStep, elementStep, dueAt, namedField, namedElement}
+use Rattle.writer.proofs.Laws.{not-fine, room-inv}
 use Rattle.writer.proofs.Keeping.{Live, due-next}
 use Rattle.writer.proofs.Fitting.{fieldOf, isListName, Elementary, Proper, due-proper, same-segment, field-put, field-not, list-not, element-here}
 
@@ -106,3 +108,62 @@ module _ (w : Writer) (s : List ℕ) (l : Segment) (g : Given) (rules : Verdict)
           → pick b (elementStep w s (guarded (sane w) w s rules) (g .bytes)) (answered (J.Refuse stepNotDue) w s w s) ≡ putAt (due (w .phase) (planOf (avm memoMost) (w .kind))) w s l g
       go true e = element-at j (due (w .phase) (planOf (avm memoMost) (w .kind))) (due-proper (w .phase) (w .kind)) e
       go false e = list-not w s l g n (due (w .phase) (planOf (avm memoMost) (w .kind))) (due-proper (w .phase) (w .kind)) e
+
+-- a refusal leaves nothing of what would be written
+refused-same : (v : Verdict) → (v ≡ J.Fine → ⊥) → (w : Writer) (s : List ℕ) (a : Writer) (b : List ℕ) (c : Writer) (d : List ℕ) → answered v w s a b ≡ answered v w s c d
+unfolding answered
+refused-same J.Fine n w s a b c d = absurd (n refl)
+refused-same (J.Refuse k) n w s a b c d = refl
+
+-- the bytes of an element matter only where its rules hold and it is not longer than a transaction
+module _ (w : Writer) (s : List ℕ) (l : Segment) (ys zs : List ℕ) where
+  bars : Verdict → List ℕ → Verdict
+  bars rules xs = onFine (guarded (sane w) w s rules) (pick (sane w) (roomFor (w .at + length xs) s) (J.Refuse stepNotDue))
+
+  not-fine-rules : (rules : Verdict) (xs : List ℕ) → bars rules xs ≡ J.Fine → rules ≡ J.Fine
+  unfolding bars
+  not-fine-rules rules xs = go (sane w) (leb (w .at) (length s)) rules
+    where
+      go : (a b : Bool) (rules : Verdict) → onFine (pick a (pick b rules (J.Refuse noRoom)) (J.Refuse stepNotDue)) (pick a (roomFor (w .at + length xs) s) (J.Refuse stepNotDue)) ≡ J.Fine → rules ≡ J.Fine
+      go true true J.Fine e = refl
+      go true true (J.Refuse n) e = not-fine n e
+      go true false rules e = not-fine noRoom e
+      go false b rules e = not-fine stepNotDue e
+
+  not-fine-room : (rules : Verdict) (xs : List ℕ) → bars rules xs ≡ J.Fine → w .at + length xs ≤ mostBytes
+  unfolding bars
+  not-fine-room rules xs = go (sane w) (leb (w .at) (length s)) rules
+    where
+      go : (a b : Bool) (rules : Verdict) → onFine (pick a (pick b rules (J.Refuse noRoom)) (J.Refuse stepNotDue)) (pick a (roomFor (w .at + length xs) s) (J.Refuse stepNotDue)) ≡ J.Fine → w .at + length xs ≤ mostBytes
+      go true true J.Fine e = room-inv (w .at + length xs) s e .1
+      go true true (J.Refuse n) e = not-fine n e
+      go true false rules e = not-fine noRoom e
+      go false b rules e = not-fine stepNotDue e
+
+  pub element-bytes : (rules : Verdict) → length ys ≡ length zs → (rules ≡ J.Fine → length ys ≤ mostBytes → ys ≡ zs) → namedElement w s l rules ys ≡ namedElement w s l rules zs
+  unfolding bars
+  element-bytes rules long e = ap (λ (t : Turn). pick (isOpen l (dueAt w)) t (answered (J.Refuse stepNotDue) w s w s)) (go (bars rules ys) refl)
+    where
+      same : bars rules ys ≡ bars rules zs
+      same = ap (λ (n : ℕ). onFine (guarded (sane w) w s rules) (pick (sane w) (roomFor (w .at + n) s) (J.Refuse stepNotDue))) long
+
+      go : (v : Verdict) → bars rules ys ≡ v → answered (bars rules ys) w s (grown w (length ys)) (appended w s ys) ≡ answered (bars rules zs) w s (grown w (length zs)) (appended w s zs)
+      go J.Fine f =
+          let i : ys ≡ zs = e (not-fine-rules rules ys f) (omega (arith, not-fine-room rules ys f)) in
+          ap (λ (x : List ℕ). answered (bars rules x) w s (grown w (length x)) (appended w s x)) i
+      go (J.Refuse n) f =
+          refused-same (bars rules ys) (λ g. not-fine n (sym f ∙ g)) w s (grown w (length ys)) (appended w s ys) (grown w (length zs)) (appended w s zs)
+          ∙ ap (λ (v : Verdict). answered v w s (grown w (length zs)) (appended w s zs)) same
+
+  pub refused-bytes : (rules : Verdict) (n : ℕ) → rules ≡ J.Refuse n → namedElement w s l rules ys ≡ namedElement w s l rules zs
+  unfolding bars
+  refused-bytes rules n e =
+      ap (λ (t : Turn). pick (isOpen l (dueAt w)) t (answered (J.Refuse stepNotDue) w s w s))
+      (refused-same (bars rules ys) (λ g. not-fine n (sym e ∙ not-fine-rules rules ys g)) w s (grown w (length ys)) (appended w s ys) (grown w (length zs)) (appended w s zs)
+      ∙ ap (λ (v : Verdict). answered v w s (grown w (length zs)) (appended w s zs)) (ap (λ (v : Verdict). bars v ys) e ∙ go (sane w) (leb (w .at) (length s)) ∙ ap (λ (v : Verdict). bars v zs) (sym e)))
+    where
+      go : (a b : Bool) → onFine (pick a (pick b (J.Refuse n) (J.Refuse noRoom)) (J.Refuse stepNotDue)) (pick a (roomFor (w .at + length ys) s) (J.Refuse stepNotDue))
+          ≡ onFine (pick a (pick b (J.Refuse n) (J.Refuse noRoom)) (J.Refuse stepNotDue)) (pick a (roomFor (w .at + length zs) s) (J.Refuse stepNotDue))
+      go true true = refl
+      go true false = refl
+      go false b = refl

@@ -82,13 +82,13 @@ module _ (s : List ℕ) (x : Part) (e : x ≡ ended (increasing (blob 20) (lengt
 -- ---- an output
 
 module _ (asset : List ℕ) (amount locktime threshold : ℕ) (addresses : List ℕ) where
-  abbrev written : List ℕ
+  abbrev pub written : List ℕ
   written = transferableOutput .write (outputOf asset amount locktime threshold addresses)
 
-  abbrev built : List ℕ
+  abbrev pub built : List ℕ
   built = outputHead asset amount locktime threshold (length addresses / 20) ++ addresses
 
-  built-written : length addresses % 20 ≡ 0 → built ≡ written
+  pub built-written : length addresses % 20 ≡ 0 → built ≡ written
   unfolding transferableOutput output transferBody Outputs.amount owners guard items number blob outputFront outputHead
   built-written h =
       let w : List ℕ = listBytes (blob 20) [] (listOf addresses) in

@@ -7,13 +7,13 @@ use native.Mathlib.Omega.{arith}
 use lib.ListN.{length, take, drop, length-append, length-drop}
 use lib.Seq.{length-take-le, take-length, drop-length, take-at, drop-at, drop-drop}
 use lib.Dec.{leb, ltb}
-use borrow.Author.Tests.{le-leb, lt-leb, lt-ltb, le-ltb}
-use Rattle.wire.specs.Bytes.{pick, digits, length-digits}
+use borrow.Author.Tests.{le-leb, lt-leb, lt-ltb, le-ltb, ne-eqb}
+use Rattle.wire.specs.Bytes.{pick, part, digits, length-digits}
 use Rattle.transaction.specs.Signed.{mostBytes}
 use Rattle.writer.specs.declared.Writer.{Writer}
 use Rattle.writer.specs.declared.Verdict.{Verdict}
 use Rattle.writer.specs.declared.Verdict.the-variants as J
-use Rattle.writer.specs.Steps.{guardedIn, roomIn, overwrite, sane}
+use Rattle.writer.specs.Steps.{guardedIn, roomIn, overwrite, prev, sane}
 use Rattle.writer.specs.Code.{countOf}
 use Rattle.writer.proofs.Laws.{length-overwrite}
 
@@ -35,6 +35,17 @@ module _ (n limit : ℕ) where
 
 pub same-room : (v : Verdict) (n m limit : ℕ) → v ≡ roomIn n limit → n ≡ m → v ≡ roomIn m limit
 same-room v n m limit h e = rw (← e) h
+
+-- ---- the element before
+
+module _ (w : Writer) (s : List ℕ) where
+  pub no-last : w .count ≡ 0 → [] ≡ prev w s
+  unfolding prev
+  no-last e = rw e
+
+  pub last-there : (t : List ℕ) → t ≡ part (w .last) (w .at) s → (w .count ≡ 0 → ⊥) → t ≡ prev w s
+  unfolding prev
+  last-there t h e = rw (ne-eqb (w .count) 0 e) h
 
 -- ---- whether a step is entered
 

@@ -1,18 +1,18 @@
 // A writer of transactions: a state that each step hands back, over a lent buffer.
 ghost use mathlib.Core.Path.{_≡_};
-ghost use Rattle.writer.specs.Fields.{addOperation, putMemo, putName, putSymbol, putDenomination, putChain};
+ghost use Rattle.writer.specs.Fields.{addOutput, addOperation, putMemo, putName, putSymbol, putDenomination, putChain};
 ghost use Rattle.transaction.specs.Avm.{avm};
 ghost use Rattle.transaction.specs.Answer.{memoMost};
-ghost use Rattle.writer.specs.Steps.{start, close};
+ghost use Rattle.writer.specs.Steps.{start, close, finish};
 ghost use Rattle.writer.specs.Code.{after};
 
 pub mod elements;
+pub mod finish;
 pub mod parts;
 pub mod plans;
 pub mod rules;
 pub mod store;
 pub mod texts;
-pub mod finish;
 
 use transaction::Segment;
 use wire::Refusal;
@@ -130,11 +130,37 @@ impl Writer {
         parts::put_field(self, buf, Segment::Chain, Verdict::Fine, &none[..0], &id)
     }
 
+    // A transferable output; its addresses stand one behind the other.
+    pub fn output(
+        self,
+        buf: &mut [u8],
+        asset: [u8; 32],
+        amount: u64,
+        locktime: u64,
+        threshold: u32,
+        addresses: &[u8],
+    ) -> Step
+        ensures { λ r. ⌜ after r (now (buf .exit)) ≡ addOutput self (now (buf .entry)) asset amount locktime threshold (now (addresses .entry)) ⌝ }
+    {
+        let last = store::last_of(self, &buf[..]);
+        let rules = rules::output_rules(last, asset, amount, locktime, threshold, addresses);
+        let count = (addresses.len() / 20) as u64;
+        let head = rules::output_head(asset, amount, locktime, threshold, count);
+        parts::put_element(self, buf, Segment::Output, rules, &head, addresses)
+    }
+
     // An operation as its own bytes.
     pub fn operation(self, buf: &mut [u8], bytes: &[u8]) -> Step
         ensures { λ r. ⌜ after r (now (buf .exit)) ≡ addOperation self (now (buf .entry)) (now (bytes .entry)) ⌝ }
     {
         let rules = elements::operation_rules(bytes);
         parts::put_element(self, buf, Segment::Operation, rules, &bytes[..0], bytes)
+    }
+
+    // Writes the blank credentials: every signature is zero bytes.
+    pub fn finish(self, buf: &mut [u8]) -> Step
+        ensures { λ r. ⌜ after r (now (buf .exit)) ≡ finish (avm memoMost) self (now (buf .entry)) ⌝ }
+    {
+        finish::finish(self, buf, plans::end_at(self.kind, self.phase))
     }
 }

@@ -5,6 +5,7 @@ ghost use Rattle.transaction.specs.Answer.{memoMost};
 ghost use Rattle.transaction.specs.declared.Kind.the-variants as K;
 ghost use Rattle.writer.specs.Steps.{segmentCode, behind, due, planOf};
 ghost use Rattle.writer.specs.Code.{dueOf, isList, isField, isOpen};
+ghost use Rattle.writer.specs.Closing.{isEnd};
 use crate::Due;
 use transaction::Segment;
 
@@ -126,6 +127,18 @@ pub fn list_at(kind: u32, phase: u32) -> bool
         Due::End => false,
         Due::Field(_) => false,
         Due::List(_, _) => true,
+    }
+}
+
+// Is only the finish due?
+pub fn end_at(kind: u32, phase: u32) -> bool
+    ensures { λ r. ⌜ r ≡ isEnd (dueOf (due phase (planOf (avm memoMost) kind))) ⌝ }
+{
+    match due_at(kind, phase) {
+        Due::Nothing => false,
+        Due::End => true,
+        Due::Field(_) => false,
+        Due::List(_, _) => false,
     }
 }
 

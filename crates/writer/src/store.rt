@@ -4,7 +4,7 @@ ghost use Prim.Native.Nat.{_+_, _%_, _^_, _≤_, _<_};
 ghost use mathlib.Core.List.{_++_};
 ghost use lib.ListN.{length};
 ghost use Rattle.wire.specs.Bytes.{digits};
-ghost use Rattle.writer.specs.Steps.{answered, guardedIn, roomIn, overwrite, sane, grown, appended};
+ghost use Rattle.writer.specs.Steps.{answered, guardedIn, roomIn, overwrite, prev, sane, grown, appended};
 ghost use Rattle.writer.specs.Code.{after, refusedStep, storedStep, countOf, fieldNext, fieldStep, startStep, elementStep};
 use crate::Step;
 use crate::Verdict;
@@ -67,6 +67,16 @@ pub fn is_sane(w: Writer) -> bool
         return false;
     }
     w.count < 65536
+}
+
+// The last element of the open list, no bytes where it has none.
+pub fn last_of(w: Writer, buf: &[u8]) -> &[u8]
+    ensures { λ r. ⌜ now r ≡ prev w (now (buf .entry)) ⌝ }
+{
+    if w.count == 0 {
+        return &buf[..0];
+    }
+    wire::between(buf, w.last, w.at)
 }
 
 // What bars a step that is due or not: 16 comes first, then 14 where the buffer is shorter than the bytes written, then the rules.
