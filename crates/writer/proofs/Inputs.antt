@@ -90,15 +90,18 @@ pub ruleset rise = (rising-on, rising-not, rising-end)
 -- ---- an input
 
 module _ (txid : List ℕ) (index : ℕ) (asset : List ℕ) (amount : ℕ) (indices : List ℕ) where
-  abbrev written : List ℕ
+  abbrev pub written : List ℕ
   written = input [] .write (inputOf txid index asset amount indices)
+
+  -- an input is its head and its indices
+  pub written-input : written ≡ inputHead txid index asset amount (length indices) ++ numbersBytes indices
+  unfolding inputAfter key spend constant Outputs.amount Inputs.indices guard items number blob inputHead
+  written-input = simp append-assoc (rw (numbers-written [] indices))
 
   -- a head that was built stands before the indices
   pub input-bytes : (head : List ℕ) → head ≡ inputHead txid index asset amount (length indices % 256 ^ 4) → length indices < 256 ^ 4
       → inputGiven txid index asset amount indices .bytes ≡ head ++ numbersBytes indices
-  unfolding inputAfter key spend constant Outputs.amount Inputs.indices guard items number blob inputHead
-  input-bytes head e h =
-      rw (e, mod-eq-of-lt h) (simp append-assoc (rw (numbers-written [] indices)))
+  input-bytes head e h = written-input ∙ ap (λ r. r ++ numbersBytes indices) (sym (e ∙ ap (inputHead txid index asset amount) (mod-eq-of-lt h)))
 
   module _ (prev : List ℕ) where
     -- the rules, in the order of judging

@@ -21,3 +21,4 @@ pub mod Inputs
 pub mod Blanks
 pub mod Wanted
 pub mod Ending
+pub mod Numbering

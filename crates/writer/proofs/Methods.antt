@@ -14,6 +14,7 @@ use Rattle.wire.specs.Fields.{blob}
 use Rattle.wire.specs.Series.{notBelow}
 use Rattle.element.specs.Outputs.{transferableOutput}
 use Rattle.element.specs.Strings.{text, unprintable}
+use Rattle.element.specs.Inputs.{input}
 use Rattle.element.specs.Operations.{operation}
 use Rattle.transaction.specs.Plan.{Plan, shut, end, field, many, Elements}
 use Rattle.transaction.specs.Family.{head}
@@ -29,8 +30,8 @@ use Rattle.writer.specs.declared.Verdict.{Verdict}
 use Rattle.writer.specs.declared.Verdict.the-variants as J
 use Rattle.writer.specs.Steps.{Given, answered, guarded, guardedIn, judged, roomFor, overwrite, prev, tail, due, opening, opened, closeAt, planOf, headBytes, start, put, close}
 use Rattle.writer.specs.Runs.{given}
-use Rattle.writer.specs.Fields.{outputGiven, addOutput, addOperation, putMemo, putName, putSymbol, putDenomination, putChain}
-use Rattle.writer.specs.Elements.{outputFront, outputHead}
+use Rattle.writer.specs.Fields.{outputGiven, inputGiven, addOutput, addInput, addOperation, putMemo, putName, putSymbol, putDenomination, putChain}
+use Rattle.writer.specs.Elements.{outputFront, outputHead, inputHead, numbersBytes}
 use Rattle.writer.specs.Texts.{kindRules, listRules, memoRules, textRules, denominationRules}
 use Rattle.writer.specs.Code.{after, refusedStep, dueOf, isList, countOf, onFine, fieldStep, startStep, dueAt, namedField, namedElement}
 use Rattle.writer.proofs.Laws.{pick-fine, judged-read}
@@ -39,6 +40,8 @@ use Rattle.writer.proofs.Rows.{phase-small}
 use Rattle.writer.proofs.Fitting.{guarded-on, judged-on, opening-is}
 use Rattle.writer.proofs.Naming.{field-is, put-element-named, element-bytes, refused-bytes}
 use Rattle.writer.proofs.Outputs.{built-written, output-bytes}
+use Rattle.writer.proofs.Inputs.{written-input, input-bytes}
+use Rattle.writer.proofs.Numbering.{length-numbers}
 use Rattle.writer.proofs.FieldLaws.{string-write, text-write, string-judged, text-judged, denomination-write, denomination-judged, id-judged, head-judged, front-is}
 
 -- a number that fits its digits
@@ -204,3 +207,24 @@ module _ (w : Writer) (s : List ℕ) (asset : List ℕ) (amount locktime thresho
           (λ g k. output-bytes asset amount locktime threshold addresses head hh whole (omega (arith, length-append head addresses, div-le-self (length addresses) 20)))
           ∙ named
       go (J.Refuse n) f = h ∙ ap (λ (y : Verdict). namedElement w s S.Output y (head ++ addresses)) rules ∙ refused-bytes w s S.Output (head ++ addresses) (outputGiven asset amount locktime threshold addresses .bytes) (outputRules (prev w s)) n f ∙ named
+
+input-head-long : (txid : List ℕ) (index : ℕ) (asset : List ℕ) (amount m n : ℕ) → length (inputHead txid index asset amount m) ≡ length (inputHead txid index asset amount n)
+unfolding inputHead
+input-head-long txid index asset amount m n =
+    let front : List ℕ = txid ++ digits 4 index ++ asset ++ digits 4 5 ++ digits 8 amount in
+    omega (arith, length-append front (digits 4 m), length-append front (digits 4 n), length-digits 4 m, length-digits 4 n)
+
+module _ (w : Writer) (s : List ℕ) (txid : List ℕ) (index : ℕ) (asset : List ℕ) (amount : ℕ) (indices : List ℕ) where
+  abbrev inputRules : List ℕ → Verdict
+  inputRules last = judged (input last) (inputGiven txid index asset amount indices) J.Fine
+
+  pub input-is : (last : List ℕ) → last ≡ prev w s → (x : Verdict) → x ≡ inputRules last → (head : List ℕ) → head ≡ inputHead txid index asset amount (length indices % 256 ^ 4)
+      → (r : Step) (u : List ℕ) → after r u ≡ namedElement w s S.Input x (head ++ numbersBytes indices) → after r u ≡ addInput w s txid index asset amount indices
+  input-is last hl x hx head hh r u h =
+      let g : Given = inputGiven txid index asset amount indices in
+      let long : length (head ++ numbersBytes indices) ≡ length (g .bytes) =
+      omega (arith, length-append head (numbersBytes indices), ap length hh, input-head-long txid index asset amount (length indices % 256 ^ 4) (length indices), ap length (written-input txid index asset amount indices), length-append (inputHead txid index asset amount (length indices)) (numbersBytes indices)) in
+      h ∙ ap (λ (y : Verdict). namedElement w s S.Input y (head ++ numbersBytes indices)) (hx ∙ ap inputRules hl)
+      ∙ element-bytes w s S.Input (head ++ numbersBytes indices) (g .bytes) (inputRules (prev w s)) long
+      (λ e k. sym (input-bytes txid index asset amount indices head hh (omega (arith, length-append head (numbersBytes indices), length-numbers indices))))
+      ∙ put-element-named w s S.Input g (inputRules (prev w s)) refl (λ E (e, i). ap (λ (F : Elements). judged (F .element (prev w s)) g J.Fine) i)

@@ -1,6 +1,6 @@
 // A writer of transactions: a state that each step hands back, over a lent buffer.
 ghost use mathlib.Core.Path.{_≡_};
-ghost use Rattle.writer.specs.Fields.{addOutput, addOperation, putMemo, putName, putSymbol, putDenomination, putChain};
+ghost use Rattle.writer.specs.Fields.{addOutput, addInput, addOperation, putMemo, putName, putSymbol, putDenomination, putChain};
 ghost use Rattle.transaction.specs.Avm.{avm};
 ghost use Rattle.transaction.specs.Answer.{memoMost};
 ghost use Rattle.writer.specs.Steps.{start, close, finish};
@@ -147,6 +147,24 @@ impl Writer {
         let count = (addresses.len() / 20) as u64;
         let head = rules::output_head(asset, amount, locktime, threshold, count);
         parts::put_element(self, buf, Segment::Output, rules, &head, addresses)
+    }
+
+    // A transferable input, base or imported.
+    pub fn input(
+        self,
+        buf: &mut [u8],
+        txid: [u8; 32],
+        index: u32,
+        asset: [u8; 32],
+        amount: u64,
+        indices: &[u32],
+    ) -> Step
+        ensures { λ r. ⌜ after r (now (buf .exit)) ≡ addInput self (now (buf .entry)) txid index asset amount (now (indices .entry)) ⌝ }
+    {
+        let last = store::last_of(self, &buf[..]);
+        let rules = rules::input_rules(last, txid, index, asset, amount, indices);
+        let head = rules::input_head(txid, index, asset, amount, indices.len() as u64);
+        parts::put_numbers(self, buf, Segment::Input, rules, &head, indices)
     }
 
     // An operation as its own bytes.

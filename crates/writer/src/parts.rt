@@ -1,6 +1,7 @@
 // A step by the name of a part, once its rules are judged: 16 where that part is not due.
 ghost use mathlib.Core.Path.{_≡_};
 ghost use mathlib.Core.List.{_++_};
+ghost use Rattle.writer.specs.Elements.{numbersBytes};
 ghost use Rattle.writer.specs.Code.{after, namedField, namedElement};
 use crate::Step;
 use crate::Verdict;
@@ -41,6 +42,24 @@ pub fn put_element(
     if plans::open_at(w.kind, w.phase, segment) {
         let verdict = store::entered(w, buf.len(), store::is_sane(w), rules);
         return store::settle_element(w, buf, verdict, first, second);
+    }
+    store::refused(w, wire::numbers::STEP_NOT_DUE)
+}
+
+// An element that ends in numbers.
+pub fn put_numbers(
+    w: Writer,
+    buf: &mut [u8],
+    segment: Segment,
+    rules: Verdict,
+    first: &[u8],
+    numbers: &[u32],
+) -> Step
+    ensures { λ r. ⌜ after r (now (buf .exit)) ≡ namedElement w (now (buf .entry)) segment rules (now (first .entry) ++ numbersBytes (now (numbers .entry))) ⌝ }
+{
+    if plans::open_at(w.kind, w.phase, segment) {
+        let verdict = store::entered(w, buf.len(), store::is_sane(w), rules);
+        return store::settle_numbers(w, buf, verdict, first, numbers);
     }
     store::refused(w, wire::numbers::STEP_NOT_DUE)
 }

@@ -1,10 +1,12 @@
 // What a step stores once its rules are judged: a field or an element behind what is written, and a list's count in its place.
 ghost use mathlib.Core.Path.{_≡_};
-ghost use Prim.Native.Nat.{_+_, _%_, _^_, _≤_, _<_};
+ghost use Prim.Native.Nat.{_+_, _*_, _%_, _^_, _≤_, _<_};
 ghost use mathlib.Core.List.{_++_};
 ghost use lib.ListN.{length};
 ghost use Rattle.wire.specs.Bytes.{digits};
 ghost use Rattle.writer.specs.Steps.{answered, guardedIn, roomIn, overwrite, prev, sane, grown, appended};
+ghost use Rattle.writer.specs.Elements.{numbersBytes};
+ghost use mathlib.Core.Bool.{false};
 ghost use Rattle.writer.specs.Code.{after, refusedStep, storedStep, countOf, fieldNext, fieldStep, startStep, elementStep};
 use crate::Step;
 use crate::Verdict;
@@ -221,6 +223,80 @@ pub fn settle_start(
                 1,
             ),
         },
+    }
+}
+
+// Puts numbers of four bytes, one behind the other.
+fn put_numbers(buf: &mut [u8], start: usize, numbers: &[u32])
+    requires { ⌜ start + 4 * length (now numbers) ≤ length (now buf) ⌝ }
+    ensures { λ _. ⌜ now (buf .exit) ≡ overwrite (now (buf .entry)) start (numbersBytes (now (numbers .entry))) ⌝ }
+{
+    let mut i: usize = 0;
+    let mut at = start;
+    while i < numbers.len() {
+        put_count(buf, at, numbers[i] as u64);
+        i += 1;
+        at += 4;
+    }
+}
+
+// Do bytes and numbers of four bytes fit behind what is written?
+fn room_of_numbers(at: usize, first: &[u8], numbers: &[u32], limit: usize) -> Verdict
+    ensures { λ r. ⌜ r ≡ roomIn (at + length ((now (first .entry) ++ numbersBytes (now (numbers .entry))) ++ countOf false)) limit ⌝ }
+{
+    if MOST_BYTES < first.len() {
+        return Verdict::Refuse(wire::numbers::NO_ROOM);
+    }
+    if MOST_BYTES < numbers.len() {
+        return Verdict::Refuse(wire::numbers::NO_ROOM);
+    }
+    room_for(at, first.len() + 4 * numbers.len(), limit)
+}
+
+// Stores an element that ends in numbers, for which there is room, and the new count of its list.
+fn store_numbers(w: Writer, buf: &mut [u8], first: &[u8], numbers: &[u32]) -> Step
+    requires { ⌜ (w .at + length (now first ++ numbersBytes (now numbers)) ≤ length (now buf)) × ((w .list + 4 ≤ w .at) × (w .count < 65536)) ⌝ }
+    ensures { λ r. ⌜ after r (now (buf .exit)) ≡ answered Verdict.Fine w (now (buf .entry)) (grown w (length (now (first .entry) ++ numbersBytes (now (numbers .entry))))) (appended w (now (buf .entry)) (now (first .entry) ++ numbersBytes (now (numbers .entry)))) ⌝ }
+{
+    put_at(buf, w.at, first);
+    put_numbers(buf, w.at + first.len(), numbers);
+    let count = w.count + 1;
+    put_count(buf, w.list, count as u64);
+    stored(Writer {
+        kind: w.kind,
+        phase: w.phase,
+        at: w.at + first.len() + 4 * numbers.len(),
+        list: w.list,
+        count,
+        last: w.at,
+    })
+}
+
+// An element that ends in numbers, whose rules are judged.
+pub fn settle_numbers(
+    w: Writer,
+    buf: &mut [u8],
+    verdict: Verdict,
+    first: &[u8],
+    numbers: &[u32],
+) -> Step
+    ensures { λ r. ⌜ after r (now (buf .exit)) ≡ elementStep w (now (buf .entry)) verdict (now (first .entry) ++ numbersBytes (now (numbers .entry))) ⌝ }
+{
+    match verdict {
+        Verdict::Refuse(number) => refused(w, number),
+        Verdict::Fine => {
+            if is_sane(w) {
+                match room_of_numbers(w.at, first, numbers, buf.len()) {
+                    Verdict::Refuse(number) => {
+                        return refused(w, number);
+                    }
+                    Verdict::Fine => {
+                        return store_numbers(w, buf, first, numbers);
+                    }
+                }
+            }
+            refused(w, wire::numbers::STEP_NOT_DUE)
+        }
     }
 }
 

@@ -1,0 +1,17 @@
+-- `writer::Writer::input` meets its contract. Assumes nothing.
+use borrow.Author.Needs.{needs}
+use Rattle.writer.proofs.Methods.{input-is}
+use Rattle.writer.proofs.Writer.input.Statement.{statement}
+use Rattle.writer.proofs.Writer.input.Tie as tie
+
+pub input-spec : {M : Type 1} → statement M
+input-spec =
+    tie.close
+    (tie.spec
+    (λ c κs. search needs)  -- last-of-requires
+    (λ c κs. search needs)  -- input-rules-requires
+    (λ c κs. search needs)  -- input-head-requires
+    (λ c. search needs)  -- slice-aggregate-put-numbers
+    (λ c κs. search needs)  -- put-numbers-requires
+    (λ c. search needs)  -- same-length
+    (λ c. input-is (c .before .before .before .before .before .before .before .before .before .before .before .args .self) (c .before .before .before .before .before .before .before .before .before .before .before .args .buf .now) _ (c .before .before .before .before .before .before .before .before .before .before .before .args .index) _ (c .before .before .before .before .before .before .before .before .before .before .before .args .amount) (c .before .before .before .before .before .before .before .before .before .before .before .args .indices .now) _ (c .before .before .before .before .before .before .before .last-of .ensures) _ (c .before .before .before .before .before .before .input-rules .ensures) _ (c .before .before .before .before .before .input-head .ensures) _ _ (c .before .before .put-numbers .ensures)))  -- returns

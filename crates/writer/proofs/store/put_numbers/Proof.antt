@@ -1,0 +1,37 @@
+-- `writer::store::put_numbers` meets its contract. The invariant: putting the numbers that are left is putting them all.
+-- Assumes nothing.
+use borrow.Author.Needs.{needs}
+use Prim.Native.Nat.{_+_, _-_, _*_, _≤_}
+use mathlib.Core.Path.{_≡_, refl, ap}
+use native.Mathlib.Omega.{arith}
+use lib.ListN.{length, drop}
+use Rattle.writer.specs.Steps.{overwrite}
+use Rattle.writer.specs.Elements.{numbersBytes}
+use Rattle.writer.proofs.Numbering.{numbers-end, numbers-on, number-long}
+use Rattle.writer.proofs.store.put_numbers.Statement.{statement}
+use Rattle.writer.proofs.store.put_numbers.Tie as tie
+
+abbrev Inv-loop : tie.InvT-loop
+Inv-loop buf₀ start numbers i₀ at₀ buf i at =
+    (length buf ≡ length buf₀) × (at ≡ start + 4 * i) × (i ≤ length numbers) × (overwrite buf at (numbersBytes (drop i numbers)) ≡ overwrite buf₀ start (numbersBytes numbers))
+
+abbrev μ-loop : tie.MeasureT-loop
+μ-loop buf₀ start numbers i₀ at₀ buf i at = length numbers - i
+
+pub put-numbers-spec : {M : Type 1} → statement M
+put-numbers-spec =
+    tie.close
+    (tie.spec
+    Inv-loop
+    μ-loop
+    (λ c. (refl, omega arith, omega arith, refl))  -- loop-holds
+    (λ c. search needs)  -- mul-put-count
+    (λ c. search needs)  -- shared-slice-read-put-count
+    (λ c. omega (arith, c .before .before .before .before .shared-slice-known .given (c .before .before .before .loop .i)))  -- cast-put-count
+    (λ c κs. omega (arith, c .before .before .before .loop .inv .0, c .before .before .before .loop .inv .1, c .before .before .loop-test .taken, c .before .before .before .before .before .before .pre))  -- put-count-requires
+    (λ c. search needs)  -- add-i
+    (λ c. search needs)  -- add-at
+    (λ c. search needs)  -- loop-less
+    (λ c. let inv = c .before .before .before .before .before .before .loop .inv in let fits : c .before .before .before .before .before .before .loop .at + 4 ≤ length (c .before .before .before .before .before .before .loop .buf) = omega (arith, inv .0, inv .1, c .before .before .before .before .before .before .before .before .before .pre) in (omega (arith, inv .0, number-long (c .before .before .before .before .before .before .loop .buf) _ (c .before .before .before .before .before .before .loop .at) _ fits (c .before .before .put-count .ensures)), omega (arith, inv .1), omega arith, numbers-on (c .before .before .before .before .before .before .before .before .before .args .numbers .now) (c .before .before .before .before .before .before .loop .i) (c .before .before .before .before .before .before .loop .at) (c .before .before .before .before .before .before .loop .buf) _ (inv .3) (c .before .before .before .before .before .before .before .shared-slice-known .given) (c .before .before .before .before .before .loop-test .taken) fits _ (c .before .before .put-count .ensures)))  -- loop-again
+    (λ c. search needs)  -- same-length
+    (λ c. numbers-end (c .before .before .before .before .args .numbers .now) (c .before .loop .i) (c .before .loop .at) _ _ (c .before .loop .inv .3) (c .loop-test .left)))  -- returns
