@@ -467,7 +467,7 @@ module _ (fx c : ℕ) (s : List ℕ) (at : ℕ) (z : Part) where
   pub on-nft : (fx ≡ 0 → ⊥) → z ≡ ended (nondecreasing (output (fxOutputs nftFx)) c) s at → z ≡ ended (nondecreasing (output (fxOutputs (fxOf fx))) c) s at
   on-nft h e = rw (ne-eqb fx 0 h) e
 
-fxOf-write : (n : ℕ) → n ≤ 1 → fxId .write (fxOf n) ≡ number 4 .write n
+pub fxOf-write : (n : ℕ) → n ≤ 1 → fxId .write (fxOf n) ≡ number 4 .write n
 unfolding fxId
 fxOf-write zero h = refl
 fxOf-write (suc zero) h = refl

@@ -22,3 +22,4 @@ pub mod Blanks
 pub mod Wanted
 pub mod Ending
 pub mod Numbering
+pub mod States

@@ -15,7 +15,7 @@ use Rattle.wire.specs.Series.{notBelow}
 use Rattle.element.specs.Outputs.{transferableOutput}
 use Rattle.element.specs.Strings.{text, unprintable}
 use Rattle.element.specs.Inputs.{input}
-use Rattle.element.specs.Operations.{operation}
+use Rattle.element.specs.Operations.{operation, initialState}
 use Rattle.transaction.specs.Plan.{Plan, shut, end, field, many, Elements}
 use Rattle.transaction.specs.Family.{head}
 use Rattle.transaction.specs.Avm.{avm, operations}
@@ -30,7 +30,7 @@ use Rattle.writer.specs.declared.Verdict.{Verdict}
 use Rattle.writer.specs.declared.Verdict.the-variants as J
 use Rattle.writer.specs.Steps.{Given, answered, guarded, guardedIn, judged, roomFor, overwrite, prev, tail, due, opening, opened, closeAt, planOf, headBytes, start, put, close}
 use Rattle.writer.specs.Runs.{given}
-use Rattle.writer.specs.Fields.{outputGiven, inputGiven, addOutput, addInput, addOperation, putMemo, putName, putSymbol, putDenomination, putChain}
+use Rattle.writer.specs.Fields.{outputGiven, inputGiven, addOutput, addInput, addOperation, addState, putMemo, putName, putSymbol, putDenomination, putChain}
 use Rattle.writer.specs.Elements.{outputFront, outputHead, inputHead, numbersBytes}
 use Rattle.writer.specs.Texts.{kindRules, listRules, memoRules, textRules, denominationRules}
 use Rattle.writer.specs.Code.{after, refusedStep, dueOf, isList, countOf, onFine, fieldStep, startStep, dueAt, namedField, namedElement}
@@ -228,3 +228,11 @@ module _ (w : Writer) (s : List ℕ) (txid : List ℕ) (index : ℕ) (asset : Li
       ∙ element-bytes w s S.Input (head ++ numbersBytes indices) (g .bytes) (inputRules (prev w s)) long
       (λ e k. sym (input-bytes txid index asset amount indices head hh (omega (arith, length-append head (numbersBytes indices), length-numbers indices))))
       ∙ put-element-named w s S.Input g (inputRules (prev w s)) refl (λ E (e, i). ap (λ (F : Elements). judged (F .element (prev w s)) g J.Fine) i)
+
+-- ---- initial states
+
+pub state-is : (w : Writer) (s last b : List ℕ) → last ≡ prev w s → (x : Verdict) → x ≡ judged (initialState last) (given b) J.Fine → (r : Step) (u : List ℕ)
+    → after r u ≡ namedElement w s S.State x b → after r u ≡ addState w s b
+state-is w s last b hl x hx r u h =
+    h ∙ ap (λ (v : Verdict). namedElement w s S.State v b) (hx ∙ ap (λ (z : List ℕ). judged (initialState z) (given b) J.Fine) hl)
+    ∙ put-element-named w s S.State (given b) (judged (initialState (prev w s)) (given b) J.Fine) refl (λ E e. ap (λ (F : Elements). judged (F .element (prev w s)) (given b) J.Fine) e)

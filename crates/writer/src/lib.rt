@@ -1,6 +1,6 @@
 // A writer of transactions: a state that each step hands back, over a lent buffer.
 ghost use mathlib.Core.Path.{_≡_};
-ghost use Rattle.writer.specs.Fields.{addOutput, addInput, addOperation, putMemo, putName, putSymbol, putDenomination, putChain};
+ghost use Rattle.writer.specs.Fields.{addOutput, addInput, addOperation, addState, putMemo, putName, putSymbol, putDenomination, putChain};
 ghost use Rattle.transaction.specs.Avm.{avm};
 ghost use Rattle.transaction.specs.Answer.{memoMost};
 ghost use Rattle.writer.specs.Steps.{start, close, finish};
@@ -173,6 +173,15 @@ impl Writer {
     {
         let rules = elements::operation_rules(bytes);
         parts::put_element(self, buf, Segment::Operation, rules, &bytes[..0], bytes)
+    }
+
+    // An initial state as its own bytes.
+    pub fn state(self, buf: &mut [u8], bytes: &[u8]) -> Step
+        ensures { λ r. ⌜ after r (now (buf .exit)) ≡ addState self (now (buf .entry)) (now (bytes .entry)) ⌝ }
+    {
+        let last = store::last_of(self, &buf[..]);
+        let rules = elements::state_rules(last, bytes);
+        parts::put_element(self, buf, Segment::State, rules, &bytes[..0], bytes)
     }
 
     // Writes the blank credentials: every signature is zero bytes.
