@@ -23,3 +23,4 @@ pub mod Wanted
 pub mod Ending
 pub mod Numbering
 pub mod States
+pub mod Theorems
