@@ -32,7 +32,7 @@ use Rattle.writer.specs.declared.Verdict.{Verdict}
 use Rattle.writer.specs.declared.Verdict.the-variants as J
 use Rattle.writer.specs.Runs.{Act, starts, puts, closes, finishes, Fair, AllFair, act, run, given}
 use Rattle.writer.specs.Claims.{finishBehind, FinishedIsAccepted}
-use Rattle.writer.proofs.Laws.{pick-fine, guarded-inv, guarded-fine, room-inv, by-room, judged-then, judged-inv, judged-own, answered-keeps, take-overwrite, length-overwrite}
+use Rattle.writer.proofs.Laws.{pick-fine, guarded-inv, guarded-fine, room-inv, by-room, judged-whole, judged-then, judged-inv, judged-own, answered-keeps, take-overwrite, length-overwrite}
 use Rattle.writer.proofs.Keeping.{leaves, Here, here-at, Open, Stays, Begun, begun-stays, open-more, closed, begin, Reach, reach-field, reach-list, reach-shut, Live, due-next}
 
 module _ (F : Family) where
@@ -59,7 +59,7 @@ module _ (F : Family) where
       (first : Head (F .Kind)) → head F .Good first → (q : Plan) (w : Writer) (s b : List ℕ) → F .kind (w .kind) ≡ first .kind → due (w .phase) (planOf F (w .kind)) ≡ q
       → Reach (F .plan (first .kind)) (head F .write first) q b → Stays q w s b → Kept (T q w s .step .next) (T q w s .buffer)
 
-  put-keeps : (l : Segment) (g : Given) → (length (g .bytes) ≤ mostBytes → Bytes (g .bytes)) → Keeps (λ q w s. putAt q w s l g)
+  put-keeps : (l : Segment) (g : Given) → (g .whole ≡ true → length (g .bytes) ≤ mostBytes → Bytes (g .bytes)) → Keeps (λ q w s. putAt q w s l g)
   unfolding putAt answered grown
   put-keeps l g fair first good shut w s b kind isDue reach stays = running record { first = first; good = good; kind = kind; parts = shut; isDue = isDue; done = b; reach = reach; stays = stays }
   put-keeps l g fair first good end w s b kind isDue reach stays = running record { first = first; good = good; kind = kind; parts = end; isDue = isDue; done = b; reach = reach; stays = stays }
@@ -69,7 +69,7 @@ module _ (F : Family) where
       let H = head F .write first in
       let (_, _, e₁) = guarded-inv (isSegment l m) w s _ e in
       let (f, k) = room-inv (w .at + length (g .bytes ++ opening q)) s (judged-then (C .content) g _ e₁) in
-      let (x, gx, ex) = judged-inv (C .content) g _ e₁ (fair (omega (arith, length-append (g .bytes) (opening q)))) in
+      let (x, gx, ex) = judged-inv (C .content) g _ e₁ (fair (judged-whole (C .content) g _ e₁) (omega (arith, length-append (g .bytes) (opening q)))) in
       running
       record {
         first = first;
@@ -86,7 +86,7 @@ module _ (F : Family) where
       let (_, _, e₁) = guarded-inv (isSegment l m && sane w) w s _ e in
       let e₂ = subst (λ (z : List ℕ). judged (E .element z) g (roomFor (w .at + length (g .bytes)) s) ≡ J.Fine) (o .before) e₁ in
       let (f, k) = room-inv (w .at + length (g .bytes)) s (judged-then (E .element (leaves (E .element) [] es)) g _ e₂) in
-      let (x, gx, ex) = judged-inv (E .element (leaves (E .element) [] es)) g _ e₂ (fair (omega arith)) in
+      let (x, gx, ex) = judged-inv (E .element (leaves (E .element) [] es)) g _ e₂ (fair (judged-whole (E .element (leaves (E .element) [] es)) g _ e₂) (omega arith)) in
       running
       record {
         first = first;

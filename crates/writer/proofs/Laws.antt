@@ -79,6 +79,9 @@ module _ {A : Type 0} (F : Format A) (g : Given) (v : Verdict) where
   took-fine : judged F g v ≡ J.Fine → (a : A) × (read F (g .bytes) 0 ≡ took a (length (g .bytes))) × (v ≡ J.Fine)
   took-fine e = result-fine (read F (g .bytes) 0) (pick-fine (g .whole) _ (ruleNumber cutShort) (sym judged-read ∙ e) .1)
 
+  pub judged-whole : judged F g v ≡ J.Fine → g .whole ≡ true
+  judged-whole e = pick-fine (g .whole) _ (ruleNumber cutShort) (sym judged-read ∙ e) .0
+
   pub judged-then : judged F g v ≡ J.Fine → v ≡ J.Fine
   judged-then e = took-fine e .2
 

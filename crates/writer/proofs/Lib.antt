@@ -24,3 +24,4 @@ pub mod Ending
 pub mod Numbering
 pub mod States
 pub mod Theorems
+pub mod Calling

@@ -7,3 +7,4 @@ pub mod Code
 pub mod Texts
 pub mod Elements
 pub mod Closing
+pub mod Calls

@@ -20,11 +20,11 @@ pub data Act : Type 0 where
   puts : Segment → Given → Act
   closes finishes : Act
 
--- what code can be given: bytes, and numbers and identifiers of their widths. What is longer than a transaction need not be said to be bytes: a count
--- of it may be too large for its width
+-- what code can be given: bytes, and numbers and identifiers of their widths. What could not be made, or is longer than a transaction, need not be
+-- said to be bytes: a count of it may be too large for its width
 abbrev pub Fair : Act → Type 0
 Fair (starts kind network chain) = (kind < 256 ^ 4) × (network < 256 ^ 4) × (length chain ≡ 32) × Bytes chain
-Fair (puts l g) = length (g .bytes) ≤ mostBytes → Bytes (g .bytes)
+Fair (puts l g) = g .whole ≡ true → length (g .bytes) ≤ mostBytes → Bytes (g .bytes)
 Fair closes = Unit {0}
 Fair finishes = Unit {0}
 
