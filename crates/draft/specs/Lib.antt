@@ -1,0 +1,3 @@
+-- Drafts and the calls over them
+pub mod Reader
+pub mod Calls

@@ -1,0 +1,1 @@
+// The slots of a draft: comparing and joining them.
