@@ -4,8 +4,9 @@
 pub mod compare;
 pub mod entry;
 pub mod library;
+pub mod steps;
 
-use cellfacet_tests::lines::{Answer, Answers, EntryFields};
+use cellfacet_tests::lines::{Answer, Answers, EntryFields, Step};
 
 /// The lower of the numbers that the check with a table packs have 20 bits.
 const LOW: u64 = (1 << 20) - 1;
@@ -14,7 +15,7 @@ const LOW: u64 = (1 << 20) - 1;
 pub struct Proved;
 
 impl Answers for Proved {
-    type Writer = ();
+    type Writer = steps::Writer;
 
     fn check(&self, bytes: &[u8]) -> Option<Answer> {
         Some(unpacked(library::check(bytes)))
@@ -32,6 +33,15 @@ impl Answers for Proved {
 
     fn phone_check(&self, bytes: &[u8]) -> Option<u64> {
         Some(library::check(bytes))
+    }
+
+    fn step(
+        &self,
+        writer: &mut steps::Writer,
+        buffer: &mut [u8],
+        step: &Step,
+    ) -> Option<Answer> {
+        Some(writer.step(buffer, step))
     }
 }
 

@@ -5,7 +5,7 @@ use std::collections::BTreeSet;
 use std::fs;
 use std::path::{Path, PathBuf};
 
-use cellfacet_proved::compare::{compare, Difference, Met, KINDS};
+use cellfacet_proved::compare::{compare, Difference, Met};
 use cellfacet_proved::entry::Probed;
 use cellfacet_proved::library::probe_entry;
 use cellfacet_proved::Proved;
@@ -16,6 +16,7 @@ use cellfacet_tests::lines::{answer, serve, unhex, Answers, Hex};
 
 const SEED: u64 = 20_251_115;
 const REQUESTS: usize = 400_000;
+const KINDS: [Kind; 4] = [Kind::Check, Kind::CheckNone, Kind::Entry, Kind::PhoneCheck];
 
 fn data() -> PathBuf {
     Path::new(env!("CARGO_MANIFEST_DIR")).join("../data")
@@ -179,7 +180,7 @@ fn lines_that_are_not_answered() {
         b"check - none\ncheck - 0\nentry - 0\nfill - 0 -\nmerge - - 0\nwrite 0 finish\nfoo\n";
     let mut output = Vec::new();
     serve(&Proved, &input[..], &mut output).expect("no failing write");
-    let lines = "2 0\n2 0 0 kept\n2 0\nnot yet\nnot yet\nnot yet\nbad request\n";
+    let lines = "2 0\n2 0 0 kept\n2 0\nnot yet\nnot yet\n16 0 -\nbad request\n";
     assert_eq!(String::from_utf8(output).expect("text"), lines);
 }
 

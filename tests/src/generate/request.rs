@@ -246,6 +246,9 @@ fn write_request(random: &mut Random) -> String {
     let steps = script(&bytes).unwrap_or_default();
     let calls = steps.into_iter().map(|step| Call { step, lent: None });
     let mut calls: Vec<Call> = calls.collect();
+    if random.once_in(12) {
+        mix(random, &mut calls);
+    }
     for _ in 0..random.pick(&[0, 1, 1, 2, 3]) {
         disturb(random, &mut calls);
     }
@@ -293,6 +296,14 @@ fn lend_less(random: &mut Random, calls: &mut Vec<Call>, length: usize) {
         calls.insert(n, calls[n].clone());
     }
     calls[n].lent = Some(lent);
+}
+
+/// Puts the steps of another transaction between, each somewhere.
+fn mix(random: &mut Random, calls: &mut Vec<Call>) {
+    for step in script(&small_transaction(random)).unwrap_or_default() {
+        let n = random.below(calls.len() + 1);
+        calls.insert(n, Call { step, lent: None });
+    }
 }
 
 /// Puts a call out of order, leaves one out, or alters its arguments.
