@@ -70,13 +70,9 @@ impl Iterator for Requests {
     fn next(&mut self) -> Option<String> {
         while self.waiting.is_empty() {
             let random = &mut self.random;
-            let kind = match random.pick(&self.kinds) {
-                Kind::Phone => random.pick(&[Kind::PhoneCheck, Kind::PhoneMerge]),
-                kind => kind,
-            };
-            match kind {
+            match random.pick(&self.kinds) {
                 Kind::Merge if random.once_in(3) => self.waiting.extend(grouping(random)),
-                _ => self.waiting.push_back(request(random, kind)),
+                kind => self.waiting.push_back(request(random, kind)),
             }
         }
         self.waiting.pop_front()
@@ -91,6 +87,7 @@ fn request(random: &mut Random, kind: Kind) -> String {
         Kind::Entry => entry_request(random),
         Kind::Fill => fill_request(random),
         Kind::Merge => merge_request(random, "merge"),
+        Kind::Phone if random.once_in(2) => request(random, Kind::PhoneMerge),
         Kind::Phone | Kind::PhoneCheck => format!("phone-check {}", Hex(&bytes(random))),
         Kind::PhoneMerge => merge_request(random, "phone-merge"),
         Kind::Write => write_request(random),
