@@ -1,0 +1,3 @@
+-- Laws of slots
+pub mod Comparing
+pub mod Putting
