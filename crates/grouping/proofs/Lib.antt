@@ -1,0 +1,5 @@
+-- That demand 3 and the laws of filling hold
+pub mod Laws
+pub mod Merging
+pub mod Running
+pub mod Listing
