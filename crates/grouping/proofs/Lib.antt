@@ -3,3 +3,7 @@ pub mod Laws
 pub mod Merging
 pub mod Running
 pub mod Listing
+pub mod Pairing
+pub mod Demand
+pub mod Reading
+pub mod Theorems
