@@ -84,6 +84,7 @@ module _ (R : Reader) (L : Laws R) (ds : List (List ℕ)) (D : Drafts R ds) wher
           exists = (λ m c. merge-free (m .0) (m .1) c, λ q. (mergeOf R ds, is-merge R L ds D q));
           one = only-merge;
           no-result = λ c. absurd (nc c);
+          ends = inl (e ∙ ap {B = Option (List ℕ)} some (result-is x j));
         }
     promise (stops e c m cs) =
         record {
@@ -95,6 +96,7 @@ module _ (R : Reader) (L : Laws R) (ds : List (List ℕ)) (D : Drafts R ds) wher
           exists = (λ m c. merge-free (m .0) (m .1) c, λ q. absurd (q c));
           one = only-merge;
           no-result = λ q. e;
+          ends = inr m;
         }
 
 pub demand3 : (R : Reader) → Laws R → Demand3 R

@@ -6,4 +6,5 @@ pub mod Listing
 pub mod Pairing
 pub mod Demand
 pub mod Reading
+pub mod Ordering
 pub mod Theorems

@@ -91,6 +91,8 @@ pub record Promise (R : Reader) (ds : List (List ℕ)) (g : Grouping) : Type 0 w
   pub one : (m : List ℕ) → IsMerge R ds m → m ≡ mergeOf R ds
   -- "a call that is refused ends the grouping .. and there is no result"
   pub no-result : Conflict R ds → result R ds g ≡ none
+  -- and it is always one of the two
+  pub ends : (result R ds g ≡ some (mergeOf R ds)) ⊎ Meets R ds g 20
 
 -- ---- one pair
 
