@@ -7,4 +7,6 @@ pub mod Pairing
 pub mod Demand
 pub mod Reading
 pub mod Ordering
+pub mod Filling
+pub mod Answering
 pub mod Theorems

@@ -2,13 +2,43 @@
 use Rattle.transaction.specs.Family.{Family, unsigned, wants}
 use Rattle.transaction.specs.Avm.{avm}
 use Rattle.transaction.specs.Answer.{memoMost}
-use Rattle.draft.specs.Reader.{reader}
+use Rattle.draft.specs.Reader.{Reader, reader}
 use Rattle.grouping.specs.Demand.{Demand3}
+use Rattle.grouping.specs.Order.{Orders}
+use Rattle.grouping.specs.Filling.{Filling}
+use Rattle.grouping.specs.Answers.{CallsOwe}
 use Rattle.grouping.proofs.Demand.{demand3}
 use Rattle.grouping.proofs.Reading.{laws}
+use Rattle.grouping.proofs.Ordering as Ordering
+use Rattle.grouping.proofs.Filling as Filling
+use Rattle.grouping.proofs.Answering as Answering
 
-pub demand-3 : (F : Family) → Demand3 (reader F)
-demand-3 F = demand3 (reader F) (laws (unsigned F) (wants F))
+module _ (F : Family) where
+  pub demand-3 : Demand3 (reader F)
+  demand-3 = demand3 (reader F) (laws (unsigned F) (wants F))
 
-pub avm-demand-3 : Demand3 (reader (avm memoMost))
+  pub orders : Orders (reader F)
+  orders = Ordering.orders (reader F) demand-3
+
+  pub filling : Filling (reader F)
+  filling = Filling.filling (reader F) (laws (unsigned F) (wants F))
+
+  pub calls-owe : CallsOwe (reader F)
+  calls-owe = Answering.calls-owe (reader F)
+
+-- ---- the AVM
+
+abbrev Avm : Reader
+Avm = reader (avm memoMost)
+
+pub avm-demand-3 : Demand3 Avm
 avm-demand-3 = demand-3 (avm memoMost)
+
+pub avm-orders : Orders Avm
+avm-orders = orders (avm memoMost)
+
+pub avm-filling : Filling Avm
+avm-filling = filling (avm memoMost)
+
+pub avm-calls-owe : CallsOwe Avm
+avm-calls-owe = calls-owe (avm memoMost)

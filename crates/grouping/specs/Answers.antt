@@ -4,8 +4,7 @@ use mathlib.Core.Path.{_≡_}
 use mathlib.Core.Logic.{_⊎_}
 use mathlib.Core.List.{List, [], _∷_}
 use Prim.Native.Nat.{ℕ}
-use Rattle.wire.specs.declared.Refusal.{Refusal}
-use Rattle.draft.specs.declared.Answer.the-variants as A
+use Rattle.draft.specs.declared.Answer.{Answer}
 use Rattle.draft.specs.Reader.{Reader}
 use Rattle.draft.specs.Calls.{answerNumber, answerPlace, mergeCall, fillCall}
 
@@ -13,11 +12,14 @@ abbrev pub OneOf : List ℕ → ℕ → Type 0
 OneOf [] n = ⊥
 OneOf (m ∷ ms) n = (n ≡ m) ⊎ OneOf ms n
 
+-- of one call: the lent bytes before it, and its answer with the bytes afterwards
+pub record Owes (numbers before : List ℕ) (a : Answer × List ℕ) : Type 0 where
+  pub number : OneOf numbers (answerNumber (a .0))
+  -- a refusal leaves every byte as it was
+  pub refused : (answerNumber (a .0) ≡ 0 → ⊥) → a .1 ≡ before
+  -- and reports place 0, but a conflict: that reports a slot
+  pub place : OneOf (0 ∷ 20 ∷ []) (answerNumber (a .0)) ⊎ (answerPlace (a .0) ≡ 0)
+
 pub record CallsOwe (R : Reader) : Type 0 where
-  pub merge-number : (d e out : List ℕ) → OneOf (0 ∷ 14 ∷ 17 ∷ 18 ∷ 19 ∷ 20 ∷ []) (answerNumber (mergeCall R d e out .0))
-  pub merge-refused : (d e out : List ℕ) (x : Refusal) → mergeCall R d e out .0 ≡ A.Refused x → mergeCall R d e out .1 ≡ out
-  pub fill-number : (d : List ℕ) (k : ℕ) (s : List ℕ) → OneOf (0 ∷ 15 ∷ 17 ∷ 20 ∷ 21 ∷ []) (answerNumber (fillCall R d k s .0))
-  pub fill-refused : (d : List ℕ) (k : ℕ) (s : List ℕ) (x : Refusal) → fillCall R d k s .0 ≡ A.Refused x → fillCall R d k s .1 ≡ d
-  -- a refusal has place 0, but the conflict, which has the slot's number
-  pub merge-place : (d e out : List ℕ) (x : Refusal) → mergeCall R d e out .0 ≡ A.Refused x → (x .number ≡ 20) ⊎ (x .place ≡ 0)
-  pub fill-place : (d : List ℕ) (k : ℕ) (s : List ℕ) (x : Refusal) → fillCall R d k s .0 ≡ A.Refused x → ((x .number ≡ 20) × (x .place ≡ k)) ⊎ (x .place ≡ 0)
+  pub merge : (d e out : List ℕ) → Owes (0 ∷ 14 ∷ 17 ∷ 18 ∷ 19 ∷ 20 ∷ []) out (mergeCall R d e out)
+  pub fill : (d : List ℕ) (k : ℕ) (s : List ℕ) → Owes (0 ∷ 15 ∷ 17 ∷ 20 ∷ 21 ∷ []) d (fillCall R d k s)
