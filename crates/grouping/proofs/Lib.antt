@@ -8,5 +8,6 @@ pub mod Demand
 pub mod Reading
 pub mod Ordering
 pub mod Filling
+pub mod Refilling
 pub mod Answering
 pub mod Theorems

@@ -5,12 +5,13 @@ use Rattle.transaction.specs.Answer.{memoMost}
 use Rattle.draft.specs.Reader.{Reader, reader}
 use Rattle.grouping.specs.Demand.{Demand3}
 use Rattle.grouping.specs.Order.{Orders}
-use Rattle.grouping.specs.Filling.{Filling}
+use Rattle.grouping.specs.Filling.{Filling, ReadingFilled}
 use Rattle.grouping.specs.Answers.{CallsOwe}
 use Rattle.grouping.proofs.Demand.{demand3}
 use Rattle.grouping.proofs.Reading.{laws}
 use Rattle.grouping.proofs.Ordering as Ordering
 use Rattle.grouping.proofs.Filling as Filling
+use Rattle.grouping.proofs.Refilling as Refilling
 use Rattle.grouping.proofs.Answering as Answering
 
 module _ (F : Family) where
@@ -22,6 +23,9 @@ module _ (F : Family) where
 
   pub filling : Filling (reader F)
   filling = Filling.filling (reader F) (laws (unsigned F) (wants F))
+
+  pub reading-filled : ReadingFilled F
+  reading-filled = Refilling.reading-filled F
 
   pub calls-owe : CallsOwe (reader F)
   calls-owe = Answering.calls-owe (reader F)
@@ -39,6 +43,9 @@ avm-orders = orders (avm memoMost)
 
 pub avm-filling : Filling Avm
 avm-filling = filling (avm memoMost)
+
+pub avm-reading-filled : ReadingFilled (avm memoMost)
+avm-reading-filled = reading-filled (avm memoMost)
 
 pub avm-calls-owe : CallsOwe Avm
 avm-calls-owe = calls-owe (avm memoMost)

@@ -6,10 +6,14 @@ use Prim.Native.Nat.{ℕ, suc, _<_}
 use lib.ListN.{length}
 use Rattle.wire.specs.Bytes.{Bytes}
 use Rattle.wire.specs.Numbers.{conflict}
+use Rattle.wire.specs.Format.{took}
 use Rattle.transaction.specs.Slots.{signatureWidth, blank, slotAt, putAll}
+use Rattle.transaction.specs.Credentials.{layout, blanks}
+use Rattle.transaction.specs.Signed as Any
+use Rattle.transaction.specs.Family.{Family, Signed, unsigned, wants, check}
 use Rattle.slot.specs.Joining.{Filled, Clash}
 use Rattle.draft.specs.declared.Answer.the-variants as A
-use Rattle.draft.specs.Reader.{Reader, Draft, body, slotCount, slot}
+use Rattle.draft.specs.Reader.{Reader, reader, Draft, body, slotCount, slot}
 use Rattle.draft.specs.Calls.{refuse, fillCall}
 use Rattle.grouping.specs.Demand.{Frame}
 
@@ -55,3 +59,8 @@ pub record Filling (R : Reader) : Type 0 where
   -- every transaction is its blank draft with its signatures filled in, call by call
   pub fills : (d : List ℕ) → Draft R d → (b : List ℕ) → BlankOf R d b → Fills R 0 (signatures R d) b d
   pub blank : (d : List ℕ) → Draft R d → BlankOf R d (emptied R d)
+
+-- d is accepted and v is its reading: the blank transaction of v's unsigned part, filled with v's signatures
+pub record ReadingFilled (F : Family) : Type 0 where
+  pub filled : (d : List ℕ) (v : Signed F) (n : ℕ) → Bytes d → check F d ≡ took v n
+      → Fills (reader F) 0 (v .1) (Any.assemble (unsigned F) (wants F) (v .0) (blanks (layout (wants F (v .0))))) d
