@@ -1,7 +1,7 @@
 -- Neither order, nor grouping, nor repetition matters: from demand 3. Assumes nothing but it.
 use mathlib.Core.Path.{_≡_, refl, sym, ap, ap₂, _∙_, subst, subst⁻¹}
-use mathlib.Core.Logic.{_⊎_, inl, inr}
-use mathlib.Core.Option.{Option, none, some}
+use mathlib.Core.Logic.{_⊎_, _↔_, inl, inr, ⊎-elim}
+use mathlib.Core.Option.{Option, none, some, IsSome}
 use mathlib.Core.List.{List, [], _∷_}
 use Prim.Native.Nat.{ℕ, zero, suc, _≤_, _<_}
 use native.Mathlib.Nat.{le-of-suc-le-suc, not-suc-le-zero}
@@ -11,9 +11,9 @@ use Rattle.transaction.specs.Slots.{blank}
 use Rattle.slot.specs.Joining.{Filled, Clash}
 use Rattle.draft.specs.Reader.{Reader, Draft, body, slotCount, slot}
 use Rattle.draft.specs.Calls.{mergeCall}
-use Rattle.grouping.specs.Groupings.{at, Drafts, bothAnyway, Grouping, draft, call, Uses, Fits, resultOf, above, result, Meets}
+use Rattle.grouping.specs.Groupings.{at, Drafts, bothAnyway, Grouping, draft, call, Uses, Fits, Call, resultOf, above, result, Meets}
 use Rattle.grouping.specs.Demand.{Conflict, mergeOf, Frame, IsMerge, Promise, Demand3}
-use Rattle.grouping.specs.Order.{Within, Alike, Of, Orders}
+use Rattle.grouping.specs.Order.{Within, Alike, AllMade, Answers, Run, Of, Orders}
 
 -- ---- two lists with the same drafts
 
@@ -126,6 +126,22 @@ module _ (R : Reader) (T : Demand3 R) where
         go (inl (m, e, f)) = e ∙ sym f
         go (inr (m, n)) = of-g .no-result (of-g .conflict .0 m) ∙ sym (of-h .no-result (of-h .conflict .0 n))
 
+  any-run : (ds : List (List ℕ)) → Drafts R ds → (g : Grouping) → Fits ds g → ((i : ℕ) → i < length ds → Uses g i)
+      → (cs : List Call) → Run R ds g cs → Answers R cs 20 ↔ Conflict R ds
+  any-run ds D g f u cs r = (λ a. P .conflict .0 (met 20 cs (r .made) a), λ q. go q (r .ended))
+    where
+      P : Promise R ds g
+      P = T .groupings ds D g f u
+
+      met : (n : ℕ) (cs : List Call) → AllMade R ds g cs → Answers R cs n → Meets R ds g n
+      met n [] m a = absurd a
+      met n (c ∷ cs) m (inl e) = record { asked = c; made = m .0; answers = e }
+      met n (c ∷ cs) m (inr a) = met n cs (m .1) a
+
+      go : Conflict R ds → ((n : ℕ) × (n ≡ 0 → ⊥) × Answers R cs n) ⊎ IsSome (result R ds g) → Answers R cs 20
+      go q (inl (n, z, a)) = ⊎-elim (λ e. absurd (z e)) (λ e. subst (Answers R cs) e a) (P .no-other n (met n cs (r .made) a))
+      go q (inr i) = absurd (subst IsSome (P .no-result q) i)
+
   idempotent : (d out : List ℕ) → Draft R d → length d ≤ length out → resultOf (mergeCall R d d out) ≡ some d
   unfolding result
   idempotent d out hd room =
@@ -177,6 +193,7 @@ module _ (R : Reader) (T : Demand3 R) where
   orders =
       record {
         alike = λ ds es D w v g fg ug h fh uh. groupings-alike ds es D w v g fg ug h fh uh;
+        runs = any-run;
         idempotent = idempotent;
         commutative = commutative;
         associative = associative;
