@@ -10,7 +10,7 @@ use Rattle.transaction.specs.Slots.{blank}
 use Rattle.slot.specs.Joining.{Filled}
 use Rattle.slot.proofs.Comparing.{dec-same}
 use Rattle.draft.specs.Reader.{Reader, slotCount, slot}
-use Rattle.grouping.specs.Groupings.{at, Drafts, Grouping, Uses, Fits}
+use Rattle.grouping.specs.Groupings.{at, Drafts, Grouping, Uses}
 use Rattle.grouping.specs.Demand.{Conflict, heldAt, mergeOf, IsMerge, Promise, Demand3}
 use Rattle.grouping.proofs.Laws.{Laws, Like, like-read, on, slot-on}
 use Rattle.grouping.proofs.Running.{Joined, Ended, gives, stops, ended, first-draft, like-at}

@@ -12,15 +12,15 @@ use borrow.Author.Tests.{lt-ltb, eq-eqb}
 use Rattle.wire.specs.Bytes.{Bytes}
 use Rattle.wire.specs.Numbers.{conflict}
 use Rattle.transaction.specs.Slots.{signatureWidth, blank, slotAt, put, putAll, length-slotAt, bytes-slotAt, length-blank, bytes-blank}
-use Rattle.slot.specs.Joining.{Filled, Clash, clashes, join}
+use Rattle.slot.specs.Joining.{Clash, clashes, join}
 use Rattle.slot.proofs.Comparing.{dec-same, join-second, join-empty, length-join, bytes-join, clashes-of, clashes-none}
 use Rattle.slot.proofs.Putting.{spaced-at, spaced-before, outside-at, by-slots, length-put, bytes-put, put-own, put-before, put-behind, put-slot, put-slot-before, put-slot-behind}
 use Rattle.draft.specs.declared.Answer.{Answer}
 use Rattle.draft.specs.declared.Answer.the-variants as A
-use Rattle.draft.specs.Reader.{Reader, Draft, body, slotCount, slot}
+use Rattle.draft.specs.Reader.{Reader, Draft, slotCount, slot}
 use Rattle.draft.specs.Calls.{refuse, decideFill, fillCall}
 use Rattle.grouping.specs.Filling.{signatures, emptied, BlankOf, Fills, Leaves, Filling}
-use Rattle.grouping.proofs.Laws.{Laws, Like, like-self, like-read, like-refilled, on, slot-on, like-putAll, putAll-on}
+use Rattle.grouping.proofs.Laws.{Laws, Like, like-self, like-read, like-refilled, slot-on, like-putAll, putAll-on}
 
 -- ---- one slot put anew
 

@@ -1,5 +1,5 @@
 -- The merge of a list of drafts: that it is what it should be, and that nothing else is. Assumes nothing but `Laws`.
-use mathlib.Core.Path.{_≡_, refl, sym, ap, _∙_, subst}
+use mathlib.Core.Path.{_≡_, refl, sym, _∙_, subst}
 use mathlib.Core.Logic.{_⊎_, inl, inr}
 use mathlib.Core.List.{List, [], _∷_}
 use Prim.Native.Nat.{ℕ, zero, suc, _<_, suc-le-suc}
@@ -7,14 +7,14 @@ use native.Mathlib.Nat.{le-of-suc-le-suc, not-suc-le-zero, zero-lt-suc}
 use lib.ListN.{length, getD}
 use Rattle.wire.specs.Bytes.{Bytes}
 use Rattle.transaction.specs.Slots.{signatureWidth, blank, slotAt, bytes-slotAt, length-blank, bytes-blank}
-use Rattle.slot.specs.Joining.{Filled, Clash, join}
+use Rattle.slot.specs.Joining.{Filled, join}
 use Rattle.slot.proofs.Comparing.{dec-same, join-filled, join-blank, join-one, length-join, bytes-join}
 use Rattle.slot.proofs.Putting.{Long, by-slots}
 use Rattle.draft.specs.Reader.{Reader, slotCount, slot}
-use Rattle.grouping.specs.Groupings.{at, Drafts, Grouping, Uses}
+use Rattle.grouping.specs.Groupings.{at, Drafts}
 use Rattle.grouping.specs.Demand.{Conflict, heldAt, mergeOf, IsMerge}
-use Rattle.grouping.proofs.Laws.{Laws, Like, like-both, like-read, like-self, on, slot-on, length-on, like-putAll, putAll-on}
-use Rattle.grouping.proofs.Running.{Joined, first-draft, like-at, conflict-of}
+use Rattle.grouping.proofs.Laws.{Laws, Like, like-both, on, slot-on, length-on, like-putAll, putAll-on}
+use Rattle.grouping.proofs.Running.{first-draft, like-at, conflict-of}
 
 -- ---- what the drafts hold at one place
 

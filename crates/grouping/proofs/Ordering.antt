@@ -1,5 +1,5 @@
 -- Neither order, nor grouping, nor repetition matters: from demand 3. Assumes nothing but it.
-use mathlib.Core.Path.{_≡_, refl, sym, ap, ap₂, _∙_, subst, subst⁻¹}
+use mathlib.Core.Path.{_≡_, refl, sym, ap, _∙_, subst, subst⁻¹}
 use mathlib.Core.Logic.{_⊎_, _↔_, inl, inr, ⊎-elim}
 use mathlib.Core.Option.{Option, none, some, IsSome}
 use mathlib.Core.List.{List, [], _∷_}

@@ -1,7 +1,7 @@
 -- The reading of a transaction, filled into its blank transaction. Of any unsigned format and any credentials wanted. Assumes nothing.
 use mathlib.Core.Path.{_≡_, sym, ap, _∙_, subst⁻¹}
 use mathlib.Core.List.{List, map}
-use Prim.Native.Nat.{ℕ, _<_}
+use Prim.Native.Nat.{ℕ}
 use native.Mathlib.Omega.{arith}
 use lib.ListN.{length, length-map, List·getD-map}
 use lib.Seq.{ext-getD}
