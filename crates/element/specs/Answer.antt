@@ -6,11 +6,13 @@ use lib.ListN.{length}
 use lib.Dec.{ltb}
 use Rattle.wire.specs.Bytes.{pick, below}
 use Rattle.wire.specs.Order.{keyBelow}
+use Rattle.wire.specs.declared.Number.{Number}
+use Rattle.wire.specs.declared.Number.the-variants as N
 use Rattle.element.specs.Strings.{string}
 use Rattle.element.specs.Owners.{Owners, owners, ownersFields}
 use Rattle.element.specs.Outputs.{transferBody, OutputType, Output, output, TransferableOutput, transferableOutput, outputFields}
 use Rattle.element.specs.Inputs.{spend}
-use Rattle.element.specs.Operations.{OperationType, OperationOwners, terms, termsFields, recipients, action, Operation, operation, operationFields}
+use Rattle.element.specs.Operations.{OperationType, OperationOwners, operationOwners, terms, termsFields, recipients, action, Operation, operation, operationFields}
 use Rattle.element.specs.declared.StringRead.{StringRead}
 use Rattle.element.specs.declared.StringRead.the-variants as S
 use Rattle.element.specs.declared.OwnersRead.{OwnersRead}
@@ -22,6 +24,8 @@ use Rattle.element.specs.declared.InputRead.{InputRead}
 use Rattle.element.specs.declared.InputRead.the-variants as I
 use Rattle.element.specs.declared.TermsRead.{TermsRead}
 use Rattle.element.specs.declared.TermsRead.the-variants as T
+use Rattle.element.specs.declared.RecipientsRead.{RecipientsRead}
+use Rattle.element.specs.declared.RecipientsRead.the-variants as R
 use Rattle.element.specs.declared.OperationRead.{OperationRead}
 use Rattle.element.specs.declared.OperationRead.the-variants as P
 
@@ -71,6 +75,13 @@ termsWhole at v n = T.Whole (termsFields at n v) n
 abbrev pub termsAt : List ℕ → ℕ → TermsRead
 termsAt s at = terms .run s at T.Refused (termsWhole at)
 
+-- behind the terms
+abbrev pub recipientsWhole : (k : OperationType) → ℕ → OperationOwners k → ℕ → RecipientsRead
+recipientsWhole k at o n = R.Whole (recipients (at + 4) n (k, o)) n
+
+abbrev pub recipientsAt : OperationType → List ℕ → ℕ → RecipientsRead
+recipientsAt k s at = operationOwners k .run s at R.Refused (recipientsWhole k at)
+
 -- behind the pairs, whose place and number are known
 abbrev pub actionWhole : ℕ → ℕ → ℕ → (k : OperationType) × ((List ℕ × (ℕ × List ℕ)) × OperationOwners k) → ℕ → OperationRead
 actionWhole place count at (k, (v, o)) n =
@@ -91,6 +102,13 @@ operationWhole at v n = P.Whole (operationFields at n v) n
 
 abbrev pub operationAt : List ℕ → ℕ → OperationRead
 operationAt s at = operation .run s at P.Refused (operationWhole at)
+
+-- how many address indices an operation has
+abbrev pub askedWhole : Operation → ℕ → Number
+askedWhole v n = N.Value (length (v .terms .0)) n
+
+abbrev pub askedByOperation : List ℕ → ℕ → Number
+askedByOperation s at = operation .run s at N.Refused askedWhole
 
 -- ---- orders as code keeps them: the first of a list has none before it
 

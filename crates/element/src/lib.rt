@@ -70,6 +70,11 @@ pub enum Recipients {
     Transfer(OwnersFields),
 }
 
+pub enum RecipientsRead {
+    Whole(Recipients, usize),
+    Refused(Refusal),
+}
+
 // What an operation says of its outputs: who may sign, the group and the payload.
 pub struct TermsFields {
     pub indices_at: usize,

@@ -6,7 +6,6 @@ ghost use Rattle.transaction.specs.Credentials.{signatures, credentialPi
 ghost use Rattle.transaction.specs.Answer.{besideInputs, besideOperations, besideOwn, ownWants, credentialsBeside};
 use crate::Kind;
 use crate::Layout;
-use element::OperationRead;
 use wire::Number;
 use wire::Part;
 use wire::Refusal;
@@ -94,23 +93,20 @@ pub fn beside_operations(s: &[u8], count: u64, first: usize, start: usize) -> Pa
     let mut q = first;
     let mut at = start;
     while 0 < left {
-        match element::operations::operation_at(s, q) {
-            OperationRead::Refused(refusal) => {
+        match element::operations::asked_by_operation(s, q) {
+            Number::Refused(refusal) => {
                 return Part::Refused(refusal);
             }
-            OperationRead::Whole(fields, next) => {
-                let terms = fields.terms;
-                match credential_at(s, at, 14, terms.indices_count) {
-                    Part::Refused(refusal) => {
-                        return Part::Refused(refusal);
-                    }
-                    Part::Next(m) => {
-                        q = next;
-                        at = m;
-                        left -= 1;
-                    }
+            Number::Value(indices, next) => match credential_at(s, at, 14, indices) {
+                Part::Refused(refusal) => {
+                    return Part::Refused(refusal);
                 }
-            }
+                Part::Next(m) => {
+                    q = next;
+                    at = m;
+                    left -= 1;
+                }
+            },
         }
     }
     Part::Next(at)
