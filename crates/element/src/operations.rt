@@ -183,10 +183,12 @@ pub fn asked_by_operation(s: &[u8], at: usize) -> Number
     ensures { λ r. ⌜ r ≡ askedByOperation (now (s .entry)) at ⌝ }
 {
     match operation_at(s, at) {
-        OperationRead::Refused(refusal) => Number::Refused(refusal),
+        OperationRead::Refused(refusal) => {
+            return Number::Refused(refusal);
+        }
         OperationRead::Whole(fields, next) => {
             let terms = fields.terms;
-            Number::Value(terms.indices_count, next)
+            return Number::Value(terms.indices_count, next);
         }
     }
 }

@@ -297,6 +297,10 @@ module _ {R : Type 0} (s : List ℕ) (at : ℕ) (z : R) (stop : Refusal → R) (
       let ef : f ≡ operationFields at m v = cc in
       e v (ap (λ (g : OperationFields). g .terms .«indices_count») ef) ∙ sym (W.run-took operation s at stop go v n (t ∙ ap (took v) em))
 
+-- an answer that is taken apart and made again
+pub made-again : {A : Type 0} (x y z : A) → x ≡ z → x ≡ y → y ≡ z
+made-again x y z p q = sym q ∙ p
+
 pub same : {A : Type 0} (a : A) → a ≡ a
 same a = refl
 

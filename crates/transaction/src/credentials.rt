@@ -112,6 +112,16 @@ pub fn beside_operations(s: &[u8], count: u64, first: usize, start: usize) -> Pa
     Part::Next(at)
 }
 
+// Those of the base part, in a function of its own, so that the room of the answer is free behind it.
+fn beside_base_inputs(s: &[u8], count: u64, first: usize, start: usize) -> Part
+    ensures { λ r. ⌜ r ≡ besideInputs count (now (s .entry)) first start ⌝ }
+{
+    match beside_inputs(s, count, first, start) {
+        Part::Refused(refusal) => Part::Refused(refusal),
+        Part::Next(next) => Part::Next(next),
+    }
+}
+
 // Those that the own part wants.
 pub fn beside_own(s: &[u8], kind: Kind, count: u64, first: usize, at: usize) -> Part
     ensures { λ r. ⌜ r ≡ besideOwn kind count (now (s .entry)) first at ⌝ }
@@ -161,7 +171,7 @@ pub fn credentials_at(s: &[u8], at: usize, layout: Layout) -> Part
             place: at,
         });
     }
-    match beside_inputs(s, inputs, layout.inputs_at, first) {
+    match beside_base_inputs(s, inputs, layout.inputs_at, first) {
         Part::Refused(refusal) => Part::Refused(refusal),
         Part::Next(m) => beside_own(s, kind, own, layout.own_at, m),
     }

@@ -1,8 +1,6 @@
 -- `element::operations::asked_by_operation` meets its contract. Assumes nothing.
 use borrow.Author.Needs.{needs}
-use Rattle.element.proofs.Reading.{on-operation-fields}
-use Rattle.element.proofs.Reading.{on-operation-refused}
-use Rattle.element.proofs.Reading.{asked-made}
+use Rattle.element.proofs.Reading.{on-operation-fields, on-operation-refused, asked-made}
 use Rattle.element.proofs.operations.asked_by_operation.Statement.{statement}
 use Rattle.element.proofs.operations.asked_by_operation.Tie as tie
 
@@ -12,6 +10,6 @@ asked-by-operation-spec =
     (tie.spec
     (λ c κs. search needs)  -- operation-at-requires
     (λ c. search needs)  -- enum-known-refusal
-    (λ c. search needs)  -- enum-known-fields
     (λ c. search on-operation-refused)  -- returns
+    (λ c. search needs)  -- enum-known-fields
     (λ c. search (on-operation-fields, asked-made)))  -- returns-2
