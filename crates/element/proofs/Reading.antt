@@ -39,7 +39,7 @@ use Rattle.element.specs.Owners.{Owners, owners, ownersFields}
 use Rattle.element.specs.Outputs.{transferBody, OutputType, Output, output, TransferableOutput, transferableOutput}
 use Rattle.element.specs.Inputs.{key, Input, spend, inputAfter, input}
 use Rattle.element.specs.Operations.{OperationType, mintNft, transferNft, operationCode, operationType, operationType-code, OperationOwners, operationOwners, terms, termsFields, recipients, action, Operation, operation, operationFields, Fx, secpFx, nftFx, fxCode, fxOf, fxOutputs, fxId, stateOutputs, InitialState, initialStateAfter, initialState}
-use Rattle.element.specs.Answer.{stringWhole, stringAt, ownersWhole, ownersAt, transferWhole, transferBodyAt, outputWhole, outputAt, transferableWhole, transferableAt, spendWhole, spendAt, termsWhole, termsAt, recipientsWhole, recipientsAt, actionWhole, actionAt, operationWhole, operationAt, askedWhole, askedByOperation}
+use Rattle.element.specs.Answer.{stringWhole, stringAt, ownersWhole, ownersAt, transferWhole, transferBodyAt, outputWhole, outputAt, transferableWhole, transferableAt, AllowedOutput, allowedOutput, allowedWhole, allowedAt, spendWhole, spendAt, termsWhole, termsAt, recipientsWhole, recipientsAt, actionWhole, actionAt, operationWhole, operationAt, askedWhole, askedByOperation}
 use Rattle.element.specs.declared.StringRead.{StringRead}
 use Rattle.element.specs.declared.StringRead.the-variants as S
 use Rattle.element.specs.declared.OwnersFields.{OwnersFields}
@@ -47,6 +47,7 @@ use Rattle.element.specs.declared.OwnersRead.{OwnersRead}
 use Rattle.element.specs.declared.OwnersRead.the-variants as H
 use Rattle.element.specs.declared.OutputFields.{OutputFields}
 use Rattle.element.specs.declared.OutputFields.the-variants as F
+use Rattle.element.specs.declared.Allowed.{Allowed}
 use Rattle.element.specs.declared.OutputRead.{OutputRead}
 use Rattle.element.specs.declared.OutputRead.the-variants as O
 use Rattle.element.specs.declared.InputFields.{InputFields}
@@ -364,6 +365,20 @@ module _ {R : Type 0} (s : List ℕ) (at : ℕ) (z : R) (stop : Refusal → R) (
 
     pub on-output-refused : (e : Refusal) → x ≡ O.Refused e → z ≡ stop e → z ≡ output types .run s at stop go
     on-output-refused e q = on-refused (output types) O.Refused (outputWhole at) s at z stop go x p e q (λ v m i. cc) (λ d i. cc)
+
+-- an output that a list takes
+pub by-allowed : (a b : Allowed) (s : List ℕ) (at : ℕ) (z : OutputRead) → a ≡ b → z ≡ allowedAt b s at → z ≡ allowedAt a s at
+by-allowed a b s at z h e = rw h e
+
+module _ {R : Type 0} (a : Allowed) (s : List ℕ) (at : ℕ) (z : R) (stop : Refusal → R) (go : AllowedOutput a → ℕ → R) (x : OutputRead) (p : x ≡ allowedAt a s at) where
+  pub on-allowed : (f : OutputFields) (n : ℕ) → x ≡ O.Whole f n → Slice s → ((v : AllowedOutput a) → Stands s at (allowedOutput a .write v) n → z ≡ go v n)
+      → z ≡ allowedOutput a .run s at stop go
+  on-allowed f n q b e =
+      on-whole (allowedOutput a) O.Refused (allowedWhole a at) s at z stop go x p (O.Whole f n) n q (λ d i. cc) (λ v m i. cc)
+      (λ v i t. e v (allowedOutput a .sound s at v n (slice-bytes s b) t .1))
+
+  pub on-allowed-refused : (e : Refusal) → x ≡ O.Refused e → z ≡ stop e → z ≡ allowedOutput a .run s at stop go
+  on-allowed-refused e q = on-refused (allowedOutput a) O.Refused (allowedWhole a at) s at z stop go x p e q (λ v m i. cc) (λ d i. cc)
 
 -- ---- inputs
 

@@ -51,6 +51,13 @@ pub enum OutputRead {
     Refused(Refusal),
 }
 
+// Which outputs a list takes: transferable ones, or those of an FxID.
+pub enum Allowed {
+    Transferable,
+    Secp,
+    Nft,
+}
+
 // An input's fields beside its identifiers.
 pub struct InputFields {
     pub index: u64,
