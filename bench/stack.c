@@ -2,7 +2,8 @@
  * How much stack a call takes. It runs on a stack of its own that holds one value everywhere;
  * whatever differs afterwards was written. Reads request lines (tests/README.md): `phone-check
  * BYTES` and `check BYTES none` are checks, `check BYTES ROOM` checks with a lent table, `entry
- * BYTES N` reads an entry. Prints for each call and each answer, the accepted ones by type, how
+ * BYTES N` reads an entry, `fill DRAFT SLOT SIGNATURE` fills a slot, and `merge` and `phone-merge
+ * FIRST SECOND ROOM` merge. Prints for each call and each answer, those that are done by type, how
  * many there were and the most bytes that were written below the caller's frame, the return
  * address with them; and behind them the most of each call.
  */
@@ -16,14 +17,20 @@
 
 enum { STACK = 1 << 16, TYPES = 5, ANSWERS = TYPES + 22, WORDS = 4, NUMBERS = 23, ID = 32 };
 
-/* The calls, and those of the library `probe`, which no header has. */
+/* The calls; those of the library `probe` are in no header. */
 typedef uint64_t check_call(const uint8_t *bytes, size_t length);
 typedef uint64_t table_call(const uint8_t *bytes, size_t length, uint32_t *table, size_t room);
 typedef void entry_call(const uint8_t *bytes, size_t length, uint64_t n, uint64_t *numbers,
                         size_t numbers_room, uint8_t *asset, size_t asset_room, uint8_t *txid,
                         size_t txid_room);
+typedef void fill_call(uint8_t *draft, size_t length, uint64_t slot, const uint8_t *signature,
+                       size_t signature_length, uint64_t *answer);
+typedef uint64_t merge_call(const uint8_t *first, size_t first_length, const uint8_t *second,
+                            size_t second_length, uint8_t *output, size_t room);
 table_call cellfacet_probe_table;
 entry_call cellfacet_probe_entry;
+fill_call cellfacet_probe_fill;
+merge_call cellfacet_merge;
 
 static unsigned char stack[STACK] __attribute__((aligned(16)));
 static ucontext_t caller, callee;
@@ -31,8 +38,8 @@ static ucontext_t caller, callee;
 static unsigned char *top;
 
 /* What is asked, and the answer's number. */
-static uint8_t *bytes;
-static size_t length, room;
+static uint8_t *bytes, *second, *output;
+static size_t length, second_length, room;
 static uint32_t *table;
 static uint64_t n;
 static uint64_t number;
@@ -64,9 +71,26 @@ static __attribute__((noinline)) void entry_top(UNUSED const uint8_t *b, UNUSED 
     FIND_TOP;
 }
 
+static __attribute__((noinline)) void fill_top(UNUSED uint8_t *d, UNUSED size_t l,
+                                               UNUSED uint64_t slot, UNUSED const uint8_t *s,
+                                               UNUSED size_t s_length, UNUSED uint64_t *answer)
+{
+    FIND_TOP;
+}
+
+static __attribute__((noinline)) uint64_t merge_top(UNUSED const uint8_t *a, UNUSED size_t l,
+                                                    UNUSED const uint8_t *b, UNUSED size_t m,
+                                                    UNUSED uint8_t *o, UNUSED size_t r)
+{
+    FIND_TOP;
+    return 0;
+}
+
 static check_call *volatile called_check;
 static table_call *volatile called_table;
 static entry_call *volatile called_entry;
+static fill_call *volatile called_fill;
+static merge_call *volatile called_merge;
 
 static void run_check(void)
 {
@@ -89,9 +113,23 @@ static void run_entry(void)
     swapcontext(&callee, &caller);
 }
 
-enum { CHECK, TABLE, ENTRY, CALLS };
-static const char *const names[CALLS] = {"check", "check with a table", "entry"};
-static void (*const runs[CALLS])(void) = {run_check, run_table, run_entry};
+static void run_fill(void)
+{
+    static uint64_t answer[2];
+    called_fill(bytes, length, n, second, second_length, answer);
+    number = answer[0];
+    swapcontext(&callee, &caller);
+}
+
+static void run_merge(void)
+{
+    number = cellfacet_number(called_merge(bytes, length, second, second_length, output, room));
+    swapcontext(&callee, &caller);
+}
+
+enum { CHECK, TABLE, ENTRY, FILL, MERGE, CALLS };
+static const char *const names[CALLS] = {"check", "check with a table", "entry", "fill", "merge"};
+static void (*const runs[CALLS])(void) = {run_check, run_table, run_entry, run_fill, run_merge};
 
 /* Whether the calls are made, or what stands in for them. */
 static void call_tops(int tops)
@@ -99,6 +137,8 @@ static void call_tops(int tops)
     called_check = tops ? check_top : cellfacet_check;
     called_table = tops ? table_top : cellfacet_probe_table;
     called_entry = tops ? entry_top : cellfacet_probe_entry;
+    called_fill = tops ? fill_top : cellfacet_probe_fill;
+    called_merge = tops ? merge_top : cellfacet_merge;
 }
 
 /* The place of the lowest byte that differs from `filled`, after a call. */
@@ -142,6 +182,40 @@ static size_t decoded(char *hex)
     return count;
 }
 
+static int is(const char *word, const char *name)
+{
+    return strcmp(word, name) == 0;
+}
+
+/* The call that two words behind its name ask for, or -1. */
+static int asked_one(const char *name, const char *number_word)
+{
+    n = room = strtoull(number_word, NULL, 10);
+    if (is(name, "entry"))
+        return ENTRY;
+    if (!is(name, "check"))
+        return -1;
+    if (is(number_word, "none"))
+        return CHECK;
+    table = realloc(table, (room + 1) * sizeof *table);
+    return table != NULL ? TABLE : -1;
+}
+
+/* The call that three words behind its name ask for, or -1. */
+static int asked_two(char **words)
+{
+    int merge = is(words[0], "merge") || is(words[0], "phone-merge");
+    if (!merge && !is(words[0], "fill"))
+        return -1;
+    second = (uint8_t *)words[merge ? 2 : 3];
+    second_length = decoded((char *)second);
+    n = room = strtoull(words[merge ? 3 : 2], NULL, 10);
+    if (!merge)
+        return FILL;
+    output = realloc(output, room + 1);
+    return output != NULL ? MERGE : -1;
+}
+
 /* The call that a line asks for, or -1. */
 static int asked(char *line)
 {
@@ -153,19 +227,9 @@ static int asked(char *line)
         return -1;
     bytes = (uint8_t *)words[1];
     length = decoded(words[1]);
-    if (strcmp(words[0], "phone-check") == 0 && count == 2)
-        return CHECK;
-    if (count != 3)
-        return -1;
-    n = room = strtoull(words[2], NULL, 10);
-    if (strcmp(words[0], "entry") == 0)
-        return ENTRY;
-    if (strcmp(words[0], "check") != 0)
-        return -1;
-    if (strcmp(words[2], "none") == 0)
-        return CHECK;
-    table = realloc(table, (room + 1) * sizeof *table);
-    return table != NULL ? TABLE : -1;
+    if (count == 2)
+        return is(words[0], "phone-check") ? CHECK : -1;
+    return count == 3 ? asked_one(words[0], words[2]) : asked_two(words);
 }
 
 static void print(int call, const size_t *count, const size_t *most)

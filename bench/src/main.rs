@@ -9,13 +9,16 @@ mod work;
 
 use std::process::ExitCode;
 
-use sample::{samples, Sample, FULL};
-use work::{checked, written, Work};
+use sample::{samples, with_200_slots, Order, Sample, FULL};
+use work::{checked, filled, merged, written, Work};
 
-/// Every sample is checked; the full ones are written too.
-fn works(samples: &[Sample]) -> Vec<Work<'_>> {
+/// Every sample is checked; the full ones are written, filled and merged too, and those with 200
+/// slots are merged.
+fn works<'a>(samples: &'a [Sample], drafts: &'a [Sample]) -> Vec<Work<'a>> {
     let full = || samples.iter().filter(|sample| sample.length == FULL);
-    samples.iter().map(checked).chain(full().map(written)).collect()
+    let checks = samples.iter().map(checked).chain(full().map(written));
+    let merges = full().chain(drafts).map(merged);
+    checks.chain(full().filter_map(filled)).chain(merges).collect()
 }
 
 fn print(works: Vec<Work>) {
@@ -38,9 +41,9 @@ fn main() -> ExitCode {
             return ExitCode::from(2);
         }
     };
-    let samples = samples();
-    // What is timed is made once here, and both programs must do it alike.
-    let works = works(&samples);
+    let (samples, drafts) = (samples(), [Order::Early, Order::Late].map(with_200_slots));
+    // What is timed is done once here, and both programs must do it alike.
+    let works = works(&samples, &drafts);
     if !once {
         print(works);
     }

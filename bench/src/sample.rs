@@ -62,6 +62,12 @@ pub fn samples() -> Vec<Sample> {
     samples
 }
 
+/// An import with 200 slots, of two to an input.
+pub fn with_200_slots(order: Order) -> Sample {
+    let bytes = assembled(IMPORT, &parts(IMPORT, order, 100), 0);
+    Sample { type_id: IMPORT, order, length: bytes.len(), bytes }
+}
+
 /// The elements of a transaction: those of the base part, those of the own part, and the
 /// credentials that they want.
 #[derive(Default)]

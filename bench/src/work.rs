@@ -3,9 +3,11 @@
 
 use std::hint::black_box;
 
-use cellfacet_proved::library;
-use cellfacet_proved::steps;
-use cellfacet_tests::independent::make_step;
+use cellfacet_proved::{library, steps, Proved};
+use cellfacet_tests::element::SIGNATURE;
+use cellfacet_tests::generate::drafts::places;
+use cellfacet_tests::independent::{make_step, Independent};
+use cellfacet_tests::lines::Answers;
 use cellfacet_tests::phone;
 use cellfacet_tests::script::script;
 
@@ -70,4 +72,71 @@ pub fn written(sample: &Sample) -> Work<'_> {
         copy(&sample.bytes),
     ];
     Work { call: "write", sample, runs }
+}
+
+/// A draft whose last slot is empty, and that slot's number and place; none without slots.
+fn open_last(bytes: &[u8]) -> Option<(Vec<u8>, u64, usize)> {
+    let places = places(bytes);
+    let place = *places.last()?;
+    let mut draft = bytes.to_vec();
+    draft[place..place + SIGNATURE].fill(0);
+    Some((draft, places.len() as u64 - 1, place))
+}
+
+/// Fills the last slot, which is emptied before each call; none without slots.
+pub fn filled(sample: &Sample) -> Option<Work<'_>> {
+    let (draft, slot, place) = open_last(&sample.bytes)?;
+    let signature = &sample.bytes[place..place + SIGNATURE];
+    let runs = [
+        fill(Proved, draft.clone(), slot, place, sample, signature),
+        fill(Independent, draft, slot, place, sample, signature),
+        copy(&sample.bytes),
+    ];
+    Some(Work { call: "fill", sample, runs })
+}
+
+fn fill<'a>(
+    answers: impl Answers + 'a,
+    mut draft: Vec<u8>,
+    slot: u64,
+    place: usize,
+    sample: &Sample,
+    signature: &'a [u8],
+) -> Run<'a> {
+    let _ = answers.fill(&mut draft, slot, signature);
+    assert!(draft == sample.bytes, "filled differently: {sample}");
+    Box::new(move || {
+        draft[place..place + SIGNATURE].fill(0);
+        black_box(answers.fill(black_box(&mut draft), slot, black_box(signature)));
+    })
+}
+
+/// Merges two drafts, of which one has the even slots and one the odd.
+pub fn merged(sample: &Sample) -> Work<'_> {
+    let drafts = || [1, 0].map(|first| every_other_emptied(&sample.bytes, first));
+    let runs = [
+        merge(Proved, drafts(), sample),
+        merge(Independent, drafts(), sample),
+        copy(&sample.bytes),
+    ];
+    Work { call: "merge", sample, runs }
+}
+
+fn every_other_emptied(bytes: &[u8], first: usize) -> Vec<u8> {
+    let mut draft = bytes.to_vec();
+    for place in places(bytes).into_iter().skip(first).step_by(2) {
+        draft[place..place + SIGNATURE].fill(0);
+    }
+    draft
+}
+
+fn merge<'a>(answers: impl Answers + 'a, drafts: [Vec<u8>; 2], sample: &Sample) -> Run<'a> {
+    let mut output = vec![0; sample.bytes.len()];
+    let [first, second] = drafts;
+    let _ = answers.merge(&first, &second, &mut output);
+    assert!(output == sample.bytes, "merged differently: {sample}");
+    Box::new(move || {
+        let output = black_box(&mut output);
+        black_box(answers.merge(black_box(&first), black_box(&second), output));
+    })
 }

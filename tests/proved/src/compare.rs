@@ -3,15 +3,10 @@
 use std::collections::BTreeSet;
 use std::fmt;
 
-use cellfacet_tests::generate::Kind;
 use cellfacet_tests::independent::Independent;
-use cellfacet_tests::lines::answer;
+use cellfacet_tests::lines::{answer, Answers};
 
 use crate::Proved;
-
-/// The kinds of requests that the proved code answers.
-pub const KINDS: [Kind; 5] =
-    [Kind::Check, Kind::CheckNone, Kind::Entry, Kind::PhoneCheck, Kind::Write];
 
 /// A request that the two answer differently. No answer is a line that is no request.
 #[derive(Debug, PartialEq, Eq)]
@@ -89,10 +84,20 @@ impl Met {
     }
 }
 
-/// The answer of both. A line that is no request is a difference too.
+/// The answer of both programs.
 pub fn both(request: &str) -> Result<String, Difference> {
-    let proved = answer(&Proved, request);
-    let independent = answer(&Independent, request);
+    alike(&Proved, &Independent, request)
+}
+
+/// The answer of two programs, of which the second is the reference. A line that is no request
+/// is a difference too.
+pub fn alike(
+    proved: &impl Answers,
+    independent: &impl Answers,
+    request: &str,
+) -> Result<String, Difference> {
+    let proved = answer(proved, request);
+    let independent = answer(independent, request);
     match proved {
         Some(answer) if independent.as_ref() == Some(&answer) => Ok(answer),
         _ => Err(Difference { request: request.to_string(), proved, independent }),

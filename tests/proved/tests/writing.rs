@@ -1,40 +1,38 @@
 //! The proved writer and the independent one answer alike, step by step and byte by byte.
 #![allow(missing_docs)]
 
-use std::collections::BTreeSet;
+use std::collections::{BTreeMap, BTreeSet};
 
 use cellfacet_proved::compare::both;
 use cellfacet_proved::steps::Writer;
 use cellfacet_proved::Proved;
+use cellfacet_tests::check;
 use cellfacet_tests::draft::slots;
 use cellfacet_tests::generate::valid::{many_entries, of_length, transaction};
 use cellfacet_tests::generate::{Kind, Random, Requests};
 use cellfacet_tests::independent::{make_step, Independent};
 use cellfacet_tests::lines::{call, unhex, Answer, Answers, Call, Step};
 use cellfacet_tests::script::script;
-use cellfacet_tests::{check, fill};
 
 const SEED: u64 = 20_251_117;
 const SCRIPTS: usize = 100_000;
 const TRIPS: usize = 6_000;
 
-const STEPS: [&str; 12] = [
-    "start",
-    "output",
-    "input",
-    "operation",
-    "state",
-    "close",
-    "memo",
-    "name",
-    "symbol",
-    "denomination",
-    "chain",
-    "finish",
+/// The numbers that each step can answer, 0 where it is done.
+const NUMBERS: [(&str, &[u32]); 12] = [
+    ("start", &[0, 4, 14, 16]),
+    ("output", &[0, 2, 5, 6, 7, 14, 16]),
+    ("input", &[0, 5, 6, 14, 16]),
+    ("operation", &[0, 2, 4, 6, 7, 8, 13, 14, 16]),
+    ("state", &[0, 2, 4, 5, 6, 7, 8, 13, 14, 16]),
+    ("close", &[0, 11, 14, 16]),
+    ("memo", &[0, 8, 14, 16]),
+    ("name", &[0, 8, 9, 14, 16]),
+    ("symbol", &[0, 8, 9, 14, 16]),
+    ("denomination", &[0, 10, 14, 16]),
+    ("chain", &[0, 14, 16]),
+    ("finish", &[0, 14, 16]),
 ];
-
-/// The numbers that a writer's step can answer, 0 where it is done.
-const NUMBERS: [u32; 13] = [0, 2, 4, 5, 6, 7, 8, 9, 10, 11, 13, 14, 16];
 
 fn name(step: &str) -> &str {
     step.split([':', '@']).next().unwrap_or(step)
@@ -45,8 +43,8 @@ fn name(step: &str) -> &str {
 struct Met {
     /// How many steps.
     steps: usize,
-    /// A step's name, and the number that it was answered.
-    answers: BTreeSet<(String, u32)>,
+    /// A step's name, and the numbers that it was answered.
+    answers: BTreeMap<String, BTreeSet<u32>>,
     /// The types of the finished transactions, and how many there were.
     types: BTreeSet<u8>,
     finished: usize,
@@ -62,7 +60,7 @@ impl Met {
         for (step, answer) in request.split(' ').skip(2).zip(answers.chunks_exact(2)) {
             let number: u32 = answer[0].parse().expect("a number");
             self.steps += 1;
-            self.answers.insert((name(step).to_string(), number));
+            self.answers.entry(name(step).to_string()).or_default().insert(number);
             self.partly += usize::from(step.contains('@'));
             if number == 0 && name(step) == "finish" {
                 let end: usize = answer[1].parse().expect("a place");
@@ -93,14 +91,10 @@ fn random_scripts() {
     println!("{steps} steps, {finished} finished, {partly} lent a part");
     assert_eq!(types, (0..=4).collect());
     assert!(steps >= 1_000_000 && finished >= 30_000 && partly >= 20_000);
-    // Every step is done at times and refused at times as not due and for room, and every
-    // number is met.
-    for number in [0, 14, 16] {
-        let by = answers.iter().filter(|met| met.1 == number).map(|met| &*met.0);
-        assert_eq!(by.collect::<BTreeSet<_>>(), STEPS.into(), "steps that answer {number}");
-    }
-    let numbers: BTreeSet<u32> = answers.iter().map(|met| met.1).collect();
-    assert_eq!(numbers, NUMBERS.into());
+    // Each step answers at times with every number that it can answer, and never with another.
+    let numbers =
+        NUMBERS.map(|(step, numbers)| (step.into(), numbers.iter().copied().collect()));
+    assert_eq!(answers, numbers.into());
 }
 
 /// The calls of a request, and the length of its buffer.
@@ -153,7 +147,8 @@ fn trip(random: &mut Random, bytes: &[u8]) {
     assert_eq!(buffer.split_off(bytes.len()), vec![filling; spare]);
     for (slot, place) in slots(bytes, &read).enumerate() {
         assert_eq!(buffer[place..place + 65], [0; 65]);
-        fill(&mut buffer, slot, &bytes[place..place + 65]).expect("an empty slot");
+        let answer = Proved.fill(&mut buffer, slot as u64, &bytes[place..place + 65]);
+        assert_eq!(answer, Some(Answer { number: 0, place: bytes.len() as u64 }));
     }
     assert!(buffer == bytes);
 }

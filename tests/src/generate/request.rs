@@ -322,6 +322,11 @@ fn altered(random: &mut Random, step: Step) -> Step {
             }
         },
         Step::Operation(bytes) => Step::Operation(altered_bytes(random, bytes)),
+        Step::State(mut bytes) if bytes.len() >= 20 && random.once_in(5) => {
+            // The amount of the first output, where it has one.
+            bytes[12..20].fill(0);
+            Step::State(bytes)
+        }
         Step::State(bytes) => Step::State(altered_bytes(random, bytes)),
         Step::Memo(_) => Step::Memo(vec![0; random.pick(&[255, 256, 257, 300])]),
         Step::Name(_) => Step::Name(altered_text(random, &[0, 128, 129])),
