@@ -6,10 +6,10 @@ use mathlib.Core.List.{List, [], _∷_, _++_, append-assoc, append-nil}
 use native.Mathlib.Omega.{arith}
 use native.Mathlib.Numerals.{add-one, sub-one}
 use native.Mathlib.Nat.{mod-eq-of-lt}
-use lib.ListN.{length, take, drop, set, replicate, length-append, length-drop, length-replicate, take-append-drop, replicate-append-replicate, drop-of-length-le}
+use lib.ListN.{length, take, drop, set, replicate, length-append, length-drop, length-replicate, replicate-append-replicate, drop-of-length-le}
 use lib.Dec.{leb}
+use lib.Seq.{length-take-le, drop-cons, set-at}
 use borrow.Author.Tests.{leb-true, leb-false, le-leb, lt-leb}
-use lib.Seq.{length-take-le, take-at, drop-at, drop-drop, drop-cons, set-at, take-append-le, take-take}
 use borrow.Rule.Slice.PartMut.{putMid}
 use Rattle.wire.specs.Bytes.{digits, length-digits, pick}
 use Rattle.wire.specs.Numbers.{refusal, noRoom}
@@ -23,9 +23,9 @@ use Rattle.transaction.specs.Answer.{ownWants}
 use Rattle.transaction.specs.declared.Kind.{Kind}
 use Rattle.transaction.specs.declared.Kind.the-variants as K
 use Rattle.transaction.specs.declared.Layout.{Layout}
-use Rattle.writer.specs.Steps.{overwrite}
+use Rattle.buffer.specs.Stores.{overwrite}
+use Rattle.buffer.proofs.Stores.{length-overwrite, overwrite-none, overwrite-more, front-stays}
 use Rattle.writer.specs.Closing.{askedAt, blankCredential, blanksFrom, ownType, closingOf, counted, fitted, Blanks, Room}
-use Rattle.writer.proofs.Laws.{length-overwrite}
 
 -- ---- zeros
 
@@ -46,31 +46,6 @@ zeros-all s i h k =
 -- ---- the buffer
 
 module _ (s : List ℕ) (at : ℕ) where
-  pub overwrite-none : overwrite s at [] ≡ s
-  unfolding overwrite
-  overwrite-none = take-append-drop at s
-
-  -- a store behind another
-  pub overwrite-more : (x y : List ℕ) (m : ℕ) → m ≡ at + length x → at ≤ length s → overwrite (overwrite s at x) m y ≡ overwrite s at (x ++ y)
-  unfolding overwrite
-  overwrite-more x y m e h =
-      let d : List ℕ = drop (length x) (drop at s) in
-      let p : List ℕ = take at s ++ x in
-      let long : length p ≡ m = omega (arith, length-append (take at s) x, length-take-le at s h) in
-      let first : overwrite s at x ≡ p ++ d = sym (append-assoc (take at s) x d) in
-      let rest : drop (length y) d ≡ drop (length (x ++ y)) (drop at s) = drop-drop (length y) (length x) (drop at s) ∙ ap (λ (n : ℕ). drop n (drop at s)) (sym (length-append x y)) in
-      ap (λ (t : List ℕ). take m t ++ (y ++ drop (length y) (drop m t))) first
-      ∙ ap₂ (λ (a b : List ℕ). a ++ (y ++ drop (length y) b)) (take-at p d m long) (drop-at p d m long)
-      ∙ ap (λ (t : List ℕ). p ++ (y ++ t)) rest
-      ∙ append-assoc (take at s) x (y ++ drop (length (x ++ y)) (drop at s))
-      ∙ ap (λ (t : List ℕ). take at s ++ t) (sym (append-assoc x y (drop (length (x ++ y)) (drop at s))))
-
-  -- what stands in front of a store stays
-  pub front-stays : (x : List ℕ) (n : ℕ) → n ≤ at → at ≤ length s → take n (overwrite s at x) ≡ take n s
-  unfolding overwrite
-  front-stays x n h k =
-      take-append-le n (take at s) (x ++ drop (length x) (drop at s)) (omega (arith, length-take-le at s k)) ∙ take-take n at s h
-
   -- a part that was lent and came back as ys
   pub part-back : (ys zs : List ℕ) (n : ℕ) → ys ≡ zs → length zs ≡ n → putMid at n s ys ≡ overwrite s at zs
   unfolding overwrite

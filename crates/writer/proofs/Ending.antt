@@ -30,17 +30,22 @@ use Rattle.transaction.specs.declared.Layout.{Layout}
 use Rattle.transaction.specs.declared.UnsignedRead.{UnsignedRead}
 use Rattle.transaction.specs.declared.UnsignedRead.the-variants as U
 use Rattle.transaction.proofs.Checking.{on-unsigned, on-unsigned-refused}
+use Rattle.judge.specs.declared.Verdict.{Verdict}
+use Rattle.judge.specs.declared.Verdict.the-variants as J
+use Rattle.judge.specs.Judged.{judged}
+use Rattle.judge.specs.Given.{given}
+use Rattle.due.specs.Plans.{tail, behind, due, planOf, dueOf, isEnd}
+use Rattle.due.specs.declared.Due.the-variants as D
+use Rattle.due.proofs.Rows.{behind-tail}
+use Rattle.buffer.specs.Stores.{roomFor, overwrite}
+use Rattle.buffer.proofs.Stores.{room-fine}
 use Rattle.writer.specs.declared.Writer.{Writer}
 use Rattle.writer.specs.declared.Step.{Step}
 use Rattle.writer.specs.declared.Written.the-variants as W
-use Rattle.writer.specs.declared.Verdict.{Verdict}
-use Rattle.writer.specs.declared.Verdict.the-variants as J
-use Rattle.writer.specs.Steps.{Turn, answered, judged, roomFor, overwrite, opened, tail, behind, due, notDue, blankBehind, closing, finishAt, planOf, finish}
-use Rattle.writer.specs.Runs.{given}
-use Rattle.writer.specs.declared.Due.the-variants as D
-use Rattle.writer.specs.Code.{after, dueOf}
-use Rattle.writer.specs.Closing.{closingOf, counted, fitted, Room, refusedStep, mostIn, lastPhase, isEnd, closeStep, Closable}
-use Rattle.writer.proofs.Laws.{guarded-fine, room-fine}
+use Rattle.writer.specs.Steps.{Turn, answered, opened, notDue, blankBehind, closing, finishAt, finish}
+use Rattle.writer.specs.Code.{after, refusedStep}
+use Rattle.writer.specs.Closing.{closingOf, counted, fitted, Room, mostIn, lastPhase, closeStep, Closable}
+use Rattle.writer.proofs.Laws.{guarded-fine}
 use Rattle.writer.proofs.Blanks.{fitted-next, fitted-refused}
 use Rattle.writer.proofs.Wanted.{closing-blank}
 
@@ -67,7 +72,7 @@ most-full k s = cases (ltb (length s) mostBytes)
 
 -- ---- a refusal changes nothing
 
-refused-turn : (n : ℕ) (w : Writer) (s : List ℕ) (v : Writer) (t : List ℕ) (x : Step) → x ≡ refusedStep n w → after x s ≡ answered (J.Refuse n) w s v t
+refused-turn : (n : ℕ) (w : Writer) (s : List ℕ) (v : Writer) (t : List ℕ) (x : Step) → x ≡ refusedStep w n → after x s ≡ answered (J.Refuse n) w s v t
 unfolding answered
 refused-turn n w s v t x e = ap (λ (y : Step). after y s) e
 
@@ -92,7 +97,7 @@ module _ (l : Layout) (w : Writer) (s : List ℕ) (C : Closable l w s) (m : ℕ)
       ∙ ap₂ (λ (a p : ℕ). after record { next = record { kind = w .kind; phase = p; at = x + 0; list = a; count = 0; last = 0 }; answer = W.Done (x + 0) } (overwrite s (w .at) (closingOf l (take (w .at) s)))) i (add-one (w .phase))
       ∙ ap (λ (v : Verdict). answered v w s (opened (w .kind) (suc (w .phase)) x shut) (overwrite s (w .at) (closingOf l (take (w .at) s)))) (sym (room-fine x s (r .fits) (r .short)))
 
-  pub close-full : (r : Refusal) → z ≡ P.Refused r → (x : Step) → x ≡ refusedStep noRoom w → after x s ≡ closeStep l w s
+  pub close-full : (r : Refusal) → z ≡ P.Refused r → (x : Step) → x ≡ refusedStep w noRoom → after x s ≡ closeStep l w s
   unfolding closeStep
   close-full r f x ex =
       let y : List ℕ = closingOf l (take (w .at) s) in
@@ -115,7 +120,7 @@ abbrev Left : Verdict → Writer → List ℕ → List ℕ → Turn
 Left v w s ys = answered v w s (opened (w .kind) (suc (w .phase)) (w .at + length ys) shut) (overwrite s (w .at) ys)
 
 module _ (w : Writer) (s : List ℕ) where
-  pub finish-short : length s < w .at → (x : Step) → x ≡ refusedStep noRoom w → after x s ≡ finishAt F end w s
+  pub finish-short : length s < w .at → (x : Step) → x ≡ refusedStep w noRoom → after x s ≡ finishAt F end w s
   unfolding finishAt
   finish-short h x ex =
       refused-turn noRoom w s _ _ x ex
@@ -129,14 +134,14 @@ module _ (w : Writer) (s : List ℕ) where
         ap (λ (v : Verdict). Left v w s (closing F w s))
         (sym (guarded-fine true w s (judged (unsigned F) (given (take (w .at) s)) (roomFor (w .at + length (closing F w s)) s)) refl h ∙ e))
 
-    pub finish-refused : (e : Refusal) → x ≡ U.Refused e → (y : Step) → y ≡ refusedStep (e .number) w → after y s ≡ finishAt F end w s
+    pub finish-refused : (e : Refusal) → x ≡ U.Refused e → (y : Step) → y ≡ refusedStep w (e .number) → after y s ≡ finishAt F end w s
     unfolding judged
     finish-refused e q y ey =
         refused-turn (e .number) w s _ _ y ey
         ∙ ruled (J.Refuse (e .number)) (sym (on-unsigned-refused (take (w .at) s) (J.Refuse (e .number)) (λ e. J.Refuse (e .number)) _ x p e q refl))
 
     module _ (l : Layout) (n : ℕ) (q : x ≡ U.Whole l n) where
-      pub finish-after : (n ≡ w .at → ⊥) → (y : Step) → y ≡ refusedStep bytesAfterEnd w → after y s ≡ finishAt F end w s
+      pub finish-after : (n ≡ w .at → ⊥) → (y : Step) → y ≡ refusedStep w bytesAfterEnd → after y s ≡ finishAt F end w s
       unfolding judged
       finish-after f y ey =
           refused-turn bytesAfterEnd w s _ _ y ey
@@ -189,11 +194,11 @@ module _ (w : Writer) (s : List ℕ) where
   abbrev Due : Bool → Turn
   Due t = pick (t && ltb (w .phase) lastPhase) (finishAt F end w s) (notDue w s)
 
-  pub not-due : (t : Bool) → not t ≡ true → (x : Step) → x ≡ refusedStep stepNotDue w → after x s ≡ Due t
+  pub not-due : (t : Bool) → not t ≡ true → (x : Step) → x ≡ refusedStep w stepNotDue → after x s ≡ Due t
   not-due true e x ex = let z : _≡_ {A = ℕ} 0 1 = cc in absurd (omega arith)
   not-due false e x ex = refused-turn stepNotDue w s w s x ex
 
-  pub no-phase : (t : Bool) → lastPhase ≤ w .phase → (x : Step) → x ≡ refusedStep stepNotDue w → after x s ≡ Due t
+  pub no-phase : (t : Bool) → lastPhase ≤ w .phase → (x : Step) → x ≡ refusedStep w stepNotDue → after x s ≡ Due t
   no-phase true h x ex = refused-turn stepNotDue w s w s x ex ∙ rw (le-ltb (w .phase) lastPhase h)
   no-phase false h x ex = refused-turn stepNotDue w s w s x ex
 
@@ -208,10 +213,6 @@ parts shut = 0
 parts end = 0
 parts (field l C q) = suc (parts q)
 parts (many l E q) = suc (parts q)
-
-behind-tail : (k : ℕ) (p : Plan) → behind (suc k) p ≡ behind k (tail p)
-behind-tail zero p = refl
-behind-tail (suc k) p = ap tail (behind-tail k p)
 
 behind-shut : (k : ℕ) → behind k shut ≡ shut
 behind-shut zero = refl

@@ -1,6 +1,6 @@
 -- The public steps, from what the code below them answered. Assumes nothing.
 use Prim.Native.Nat.{ℕ, suc, _+_, _*_, _/_, _%_, _^_, _≤_, _<_}
-use mathlib.Core.Path.{_≡_, refl, sym, ap, ap₂, _∙_, subst}
+use mathlib.Core.Path.{_≡_, refl, sym, ap, ap₂, _∙_}
 use mathlib.Core.Bool.{Bool, true, false, false≢true}
 use mathlib.Core.List.{List, [], _++_, append-assoc}
 use native.Mathlib.Omega.{arith}
@@ -9,40 +9,40 @@ use lib.ListN.{length, length-append}
 use lib.Dec.{ltb, leb, eqb}
 use borrow.Author.Tests.{leb-true, eqb-true}
 use Rattle.wire.specs.Bytes.{digits, length-digits, pick}
-use Rattle.wire.specs.Numbers.{ruleNumber, cutShort, badLength, notPrintable, emptyList, stepNotDue}
+use Rattle.wire.specs.Numbers.{ruleNumber, cutShort, badLength, emptyList, stepNotDue}
 use Rattle.wire.specs.Fields.{blob}
 use Rattle.wire.specs.Series.{notBelow}
 use Rattle.element.specs.Outputs.{transferableOutput}
-use Rattle.element.specs.Strings.{text, unprintable}
 use Rattle.element.specs.Inputs.{input}
 use Rattle.element.specs.Operations.{operation, initialState}
 use Rattle.transaction.specs.Plan.{Plan, shut, end, field, many, Elements}
 use Rattle.transaction.specs.Family.{head}
-use Rattle.transaction.specs.Avm.{avm, operations}
+use Rattle.transaction.specs.Avm.{avm}
 use Rattle.transaction.specs.Answer.{memoMost}
 use Rattle.transaction.specs.declared.Segment.{Segment}
 use Rattle.transaction.specs.declared.Segment.the-variants as S
+use Rattle.judge.specs.declared.Verdict.{Verdict}
+use Rattle.judge.specs.declared.Verdict.the-variants as J
+use Rattle.judge.specs.Given.{Given, headBytes, given, outputGiven, inputGiven}
+use Rattle.judge.specs.Judged.{judged, onFine}
+use Rattle.judge.specs.Elements.{outputFront, outputHead, inputHead, numbersBytes}
+use Rattle.judge.specs.Texts.{kindRules, listRules, memoRules, textRules, denominationRules}
+use Rattle.judge.proofs.Verdicts.{pick-fine, judged-read, judged-on}
+use Rattle.judge.proofs.Outputs.{built-written, output-bytes}
+use Rattle.judge.proofs.Inputs.{written-input, input-bytes, length-numbers}
+use Rattle.judge.proofs.FieldLaws.{string-write, text-write, string-judged, text-judged, denomination-write, denomination-judged, id-judged, head-judged, front-is}
+use Rattle.due.specs.declared.Due.{Due}
+use Rattle.due.specs.declared.Due.the-variants as D
+use Rattle.due.specs.Plans.{tail, due, planOf, dueOf, isList}
+use Rattle.due.proofs.Rows.{Live, due-next, phase-small}
+use Rattle.buffer.specs.Stores.{roomFor, overwrite, countOf}
 use Rattle.writer.specs.declared.Writer.{Writer}
 use Rattle.writer.specs.declared.Step.{Step}
-use Rattle.writer.specs.declared.Due.{Due}
-use Rattle.writer.specs.declared.Due.the-variants as D
-use Rattle.writer.specs.declared.Verdict.{Verdict}
-use Rattle.writer.specs.declared.Verdict.the-variants as J
-use Rattle.writer.specs.Steps.{Given, answered, guarded, guardedIn, judged, roomFor, overwrite, prev, tail, due, opening, opened, closeAt, planOf, headBytes, start, put, close}
-use Rattle.writer.specs.Runs.{given}
-use Rattle.writer.specs.Fields.{outputGiven, inputGiven, addOutput, addInput, addOperation, addState, putMemo, putName, putSymbol, putDenomination, putChain}
-use Rattle.writer.specs.Elements.{outputFront, outputHead, inputHead, numbersBytes}
-use Rattle.writer.specs.Texts.{kindRules, listRules, memoRules, textRules, denominationRules}
-use Rattle.writer.specs.Code.{after, refusedStep, dueOf, isList, countOf, onFine, fieldStep, startStep, dueAt, namedField, namedElement}
-use Rattle.writer.proofs.Laws.{pick-fine, judged-read}
-use Rattle.writer.proofs.Keeping.{Live, due-next}
-use Rattle.writer.proofs.Rows.{phase-small}
-use Rattle.writer.proofs.Fitting.{guarded-on, judged-on, opening-is}
+use Rattle.writer.specs.Steps.{answered, guarded, guardedIn, prev, opening, opened, closeAt, start, put, close}
+use Rattle.writer.specs.Fields.{addOutput, addInput, addOperation, addState, putMemo, putName, putSymbol, putDenomination, putChain}
+use Rattle.writer.specs.Code.{after, refusedStep, fieldStep, startStep, dueAt, namedField, namedElement}
+use Rattle.writer.proofs.Fitting.{guarded-on, opening-is}
 use Rattle.writer.proofs.Naming.{field-is, put-element-named, element-bytes, refused-bytes}
-use Rattle.writer.proofs.Outputs.{built-written, output-bytes}
-use Rattle.writer.proofs.Inputs.{written-input, input-bytes}
-use Rattle.writer.proofs.Numbering.{length-numbers}
-use Rattle.writer.proofs.FieldLaws.{string-write, text-write, string-judged, text-judged, denomination-write, denomination-judged, id-judged, head-judged, front-is}
 
 -- a number that fits its digits
 fits-digits : (w n m : ℕ) → n ≤ m → m < 256 ^ w → digits w (n % 256 ^ w) ≡ digits w n
@@ -154,7 +154,7 @@ pub start-is : (w : Writer) (s : List ℕ) (kind network : ℕ) (chain : List �
     → (r : Step) (u : List ℕ) → after r u ≡ startStep w s v kind (front ++ chain) → after r u ≡ start (avm memoMost) w s kind network chain
 unfolding start
 start-is w s kind network chain long fk fn rules hr v hv front hf r u h =
-    let ys : List ℕ = headBytes (avm memoMost) kind network chain in
+    let ys : List ℕ = headBytes kind network chain in
     let R : Verdict = roomFor (length (ys ++ digits 4 0)) s in
     let t : Bool = eqb (w .phase) 0 in
     let same : front ++ chain ≡ ys =

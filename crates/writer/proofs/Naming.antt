@@ -2,7 +2,7 @@
 use Prim.Native.Nat.{ℕ, suc, _+_, _≤_}
 use mathlib.Core.Path.{_≡_, refl, sym, ap, ap₂, _∙_, subst}
 use mathlib.Core.Bool.{Bool, true, false, false≢true}
-use mathlib.Core.List.{List, _++_}
+use mathlib.Core.List.{List}
 use native.Mathlib.Omega.{arith}
 use lib.ListN.{length}
 use lib.Dec.{leb}
@@ -13,15 +13,19 @@ use Rattle.transaction.specs.Plan.{Plan, shut, end, field, many, Elements}
 use Rattle.transaction.specs.Avm.{avm}
 use Rattle.transaction.specs.Answer.{memoMost}
 use Rattle.transaction.specs.declared.Segment.{Segment}
+use Rattle.judge.specs.declared.Verdict.{Verdict}
+use Rattle.judge.specs.declared.Verdict.the-variants as J
+use Rattle.judge.specs.Given.{Given, given}
+use Rattle.judge.specs.Judged.{judged, onFine}
+use Rattle.judge.proofs.Verdicts.{not-fine}
+use Rattle.due.specs.Plans.{due, planOf, dueOf, isList, isField, isOpen}
+use Rattle.due.proofs.Rows.{Live, due-next}
+use Rattle.buffer.specs.Stores.{roomFor}
+use Rattle.buffer.proofs.Stores.{room-inv}
 use Rattle.writer.specs.declared.Writer.{Writer}
 use Rattle.writer.specs.declared.Step.{Step}
-use Rattle.writer.specs.declared.Verdict.{Verdict}
-use Rattle.writer.specs.declared.Verdict.the-variants as J
-use Rattle.writer.specs.Steps.{Turn, Given, answered, guarded, guardedIn, judged, roomFor, prev, sane, grown, appended, tail, due, planOf, putAt, put}
-use Rattle.writer.specs.Runs.{given}
-use Rattle.writer.specs.Code.{after, refusedStep, onFine, dueOf, isList, isField, isOpen, fieldStep, elementStep, dueAt, namedField, namedElement}
-use Rattle.writer.proofs.Laws.{not-fine, room-inv}
-use Rattle.writer.proofs.Keeping.{Live, due-next}
+use Rattle.writer.specs.Steps.{Turn, answered, guarded, guardedIn, prev, sane, grown, appended, putAt, put}
+use Rattle.writer.specs.Code.{after, refusedStep, fieldStep, elementStep, dueAt, namedField, namedElement}
 use Rattle.writer.proofs.Fitting.{fieldOf, isListName, Elementary, Proper, due-proper, same-segment, field-put, field-not, list-not, element-here}
 
 -- ---- as the code does it

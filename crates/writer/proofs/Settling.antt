@@ -1,7 +1,7 @@
 -- What is left of a step whose rules are judged: room, and the stores. Assumes nothing.
-use Prim.Native.Nat.{ℕ, suc, _+_, _%_, _^_, _≤_, _<_}
-use mathlib.Core.Path.{_≡_, refl, sym, ap, ap₂, _∙_}
-use mathlib.Core.Bool.{Bool, true, false, _&&_}
+use Prim.Native.Nat.{ℕ, _+_, _%_, _^_, _≤_, _<_}
+use mathlib.Core.Path.{_≡_, sym, ap, ap₂, _∙_}
+use mathlib.Core.Bool.{Bool, true, false}
 use mathlib.Core.List.{List, [], _++_, append-nil}
 use native.Mathlib.Omega.{arith}
 use native.Mathlib.Nat.{mod-eq-of-lt}
@@ -10,16 +10,17 @@ use lib.Dec.{leb, ltb}
 use borrow.Author.Tests.{leb-true, ltb-true}
 use Rattle.wire.specs.Bytes.{digits, length-digits, pick}
 use Rattle.wire.specs.Numbers.{stepNotDue}
-use Rattle.wire.proofs.Bytes.{found}
 use Rattle.transaction.specs.Signed.{mostBytes}
+use Rattle.judge.specs.declared.Verdict.{Verdict}
+use Rattle.judge.specs.declared.Verdict.the-variants as J
+use Rattle.judge.specs.Judged.{onFine}
+use Rattle.judge.proofs.Verdicts.{both-true}
+use Rattle.buffer.specs.Stores.{roomIn, roomFor, overwrite, countOf}
+use Rattle.buffer.proofs.Stores.{room-inv, length-overwrite, overwrite-more}
 use Rattle.writer.specs.declared.Writer.{Writer}
 use Rattle.writer.specs.declared.Step.{Step}
-use Rattle.writer.specs.declared.Verdict.{Verdict}
-use Rattle.writer.specs.declared.Verdict.the-variants as J
-use Rattle.writer.specs.Steps.{answered, roomIn, roomFor, overwrite, sane, grown, appended}
-use Rattle.writer.specs.Code.{after, refusedStep, storedStep, countOf, onFine, fieldNext, startStep}
-use Rattle.writer.proofs.Laws.{both-true, room-inv, length-overwrite}
-use Rattle.writer.proofs.Storing.{overwrite-more}
+use Rattle.writer.specs.Steps.{answered, sane, grown, appended}
+use Rattle.writer.specs.Code.{after, refusedStep, storedStep, fieldNext, startStep}
 
 -- ---- refusals
 
@@ -65,7 +66,8 @@ module _ (w : Writer) (s first second : List ℕ) (opens : Bool) (phase : ℕ) w
         let n : w .at + length first + length second ≡ w .at + length (first ++ second) = omega (arith, length-append first second) in
         let m : w .at + length first + length second + 4 ≡ w .at + length (first ++ second) + length (countOf opens) = rw e (omega (arith, length-append first second, length-digits 4 0)) in
         let z : u ≡ overwrite s (w .at) whole =
-        hu ∙ ap₂ (λ (a : List ℕ) (i : ℕ). overwrite a i (digits 4 0)) ht n ∙ overwrite-more s (w .at) (first ++ second) (digits 4 0) both-fit
+        hu ∙ ap (λ (a : List ℕ). overwrite a (w .at + length first + length second) (digits 4 0)) ht
+        ∙ overwrite-more s (w .at) (first ++ second) (digits 4 0) (w .at + length first + length second) n (omega (arith, both-fit))
         ∙ ap (λ (c : Bool). overwrite s (w .at) ((first ++ second) ++ countOf c)) (sym e) in
         ap₂ after (hr ∙ ap₂ (λ (i j : ℕ). storedStep record { kind = w .kind; phase = phase; at = i; list = j; count = 0; last = 0 }) m n) z
 

@@ -1,6 +1,5 @@
 -- The blank credentials that finish writes, as code makes them: each from the element that wants it. Assumes nothing.
 use Prim.Native.Nat.{ℕ, zero, suc, _+_, _*_, _^_, _≤_, _<_}
-use mathlib.Core.Bool.{Bool, true, false}
 use mathlib.Core.List.{List, [], _++_}
 use lib.ListN.{length, take, replicate}
 use lib.Dec.{leb, ltb, eqb}
@@ -18,12 +17,11 @@ use Rattle.transaction.specs.Plan.{shut}
 use Rattle.transaction.specs.declared.Kind.{Kind}
 use Rattle.transaction.specs.declared.Kind.the-variants as K
 use Rattle.transaction.specs.declared.Layout.{Layout}
+use Rattle.buffer.specs.Stores.{roomFor, overwrite}
 use Rattle.writer.specs.declared.Writer.{Writer}
 use Rattle.writer.specs.declared.Step.{Step}
 use Rattle.writer.specs.declared.Written.the-variants as W
-use Rattle.writer.specs.declared.Due.{Due}
-use Rattle.writer.specs.declared.Due.the-variants as D
-use Rattle.writer.specs.Steps.{Turn, answered, roomFor, overwrite, opened}
+use Rattle.writer.specs.Steps.{Turn, answered, opened}
 
 -- how many signatures the element at q wants, and where it ends. Behind the 80 bytes of an input's key, asset id, type and amount stand its
 -- indices' count and these
@@ -92,9 +90,6 @@ pub record Room (l : Layout) (s : List ℕ) (at : ℕ) : Type 0 where
 
 -- ---- the step
 
-abbrev pub refusedStep : ℕ → Writer → Step
-refusedStep n w = record { next = w; answer = W.Refused (refusal n 0) }
-
 -- the most bytes that a transaction has in a buffer of n
 abbrev pub mostIn : ℕ → ℕ
 mostIn n = pick (ltb n mostBytes) n mostBytes
@@ -102,13 +97,6 @@ mostIn n = pick (ltb n mostBytes) n mostBytes
 -- the highest number that a phase can have: none follows it
 abbrev pub lastPhase : ℕ
 lastPhase = 4294967295
-
--- is the finish due?
-abbrev pub isEnd : Due → Bool
-isEnd D.Nothing = false
-isEnd D.End = true
-isEnd (D.Field l) = false
-isEnd (D.List l n) = false
 
 -- the credentials of l behind the unsigned part, where there is room
 unfoldable pub closeStep : Layout → Writer → List ℕ → Turn

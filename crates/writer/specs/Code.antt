@@ -1,22 +1,23 @@
 -- What the functions below the steps answer: what is due, by type and phase; and a step once its rules are judged. Assumes nothing.
 use Prim.Native.Nat.{ℕ, suc, _+_}
-use mathlib.Core.Bool.{Bool, true, false}
-use mathlib.Core.List.{List, [], _++_}
+use mathlib.Core.Bool.{Bool, true}
+use mathlib.Core.List.{List, _++_}
 use lib.ListN.{length}
 use Rattle.wire.specs.Bytes.{digits, pick}
 use Rattle.wire.specs.Numbers.{refusal, stepNotDue}
-use Rattle.transaction.specs.Plan.{Plan, shut, end, field, many}
 use Rattle.transaction.specs.Avm.{avm}
 use Rattle.transaction.specs.Answer.{memoMost}
 use Rattle.transaction.specs.declared.Segment.{Segment}
+use Rattle.judge.specs.declared.Verdict.{Verdict}
+use Rattle.judge.specs.declared.Verdict.the-variants as J
+use Rattle.judge.specs.Judged.{onFine}
+use Rattle.due.specs.declared.Due.{Due}
+use Rattle.due.specs.Plans.{due, planOf, dueOf, isList, isField, isOpen}
+use Rattle.buffer.specs.Stores.{roomFor, overwrite, countOf}
 use Rattle.writer.specs.declared.Writer.{Writer}
 use Rattle.writer.specs.declared.Step.{Step}
 use Rattle.writer.specs.declared.Written.the-variants as W
-use Rattle.writer.specs.declared.Due.{Due}
-use Rattle.writer.specs.declared.Due.the-variants as D
-use Rattle.writer.specs.declared.Verdict.{Verdict}
-use Rattle.writer.specs.declared.Verdict.the-variants as J
-use Rattle.writer.specs.Steps.{Turn, answered, guarded, isSegment, roomFor, overwrite, sane, grown, appended, due, planOf}
+use Rattle.writer.specs.Steps.{Turn, answered, guarded, sane, grown, appended}
 
 -- what code answers, and what the buffer holds then
 abbrev pub after : Step → List ℕ → Turn
@@ -27,41 +28,6 @@ refusedStep w n = record { next = w; answer = W.Refused (refusal n 0) }
 
 abbrev pub storedStep : Writer → Step
 storedStep w = record { next = w; answer = W.Done (w .at) }
-
--- the first part of a plan: its name, and how many elements it needs
-abbrev pub dueOf : Plan → Due
-dueOf shut = D.Nothing
-dueOf end = D.End
-dueOf (field l F q) = D.Field l
-dueOf (many l E q) = D.List l (E .least)
-
-abbrev pub isList : Due → Bool
-isList D.Nothing = false
-isList D.End = false
-isList (D.Field l) = false
-isList (D.List l n) = true
-
--- a field of that name is due; a list of that name is open
-abbrev pub isField : Segment → Due → Bool
-isField l D.Nothing = false
-isField l D.End = false
-isField l (D.Field m) = isSegment l m
-isField l (D.List m n) = false
-
-abbrev pub isOpen : Segment → Due → Bool
-isOpen l D.Nothing = false
-isOpen l D.End = false
-isOpen l (D.Field m) = false
-isOpen l (D.List m n) = isSegment l m
-
--- the count that is written as 0, where a list is due next
-abbrev pub countOf : Bool → List ℕ
-countOf opens = pick opens (digits 4 0) []
-
--- v, and then u
-abbrev pub onFine : Verdict → Verdict → Verdict
-onFine J.Fine u = u
-onFine (J.Refuse n) u = J.Refuse n
 
 -- the state where the bytes written end at `at`, and a list that is next has its count behind them
 abbrev pub fieldNext : Writer → ℕ → ℕ → Bool → Writer

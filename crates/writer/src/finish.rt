@@ -8,12 +8,14 @@ ghost use Rattle.wire.specs.Bytes.{digits, pick};
 ghost use Rattle.transaction.specs.Plan.{end};
 ghost use Rattle.transaction.specs.Avm.{avm};
 ghost use Rattle.transaction.specs.Answer.{memoMost};
-ghost use Rattle.writer.specs.Steps.{overwrite, notDue, finishAt};
+ghost use Rattle.buffer.specs.Stores.{overwrite};
+ghost use Rattle.writer.specs.Steps.{notDue, finishAt};
 ghost use Rattle.writer.specs.Code.{after};
-ghost use Rattle.writer.specs.Closing.{Blanks, Room, Closable, askedByInput, askedByOperation, askedAt, blankCredential, blanksFrom, ownType, closingOf, fitted, refusedStep, mostIn, closeStep, lastPhase};
+ghost use Rattle.writer.specs.Closing.{Blanks, Room, askedByInput, askedByOperation, askedAt, blankCredential, blanksFrom, ownType, closingOf, fitted, mostIn, lastPhase, closeStep, Closable};
 use crate::Step;
 use crate::Writer;
 use crate::Written;
+use crate::store;
 use element::OperationRead;
 use transaction::Kind;
 use transaction::Layout;
@@ -226,16 +228,6 @@ fn put_closing(buf: &mut [u8], at: usize, layout: Layout)
     put_blanks(buf, at, own_type(kind), wanted, layout.own_at, m);
 }
 
-// The answer of a step that changes nothing.
-fn refused(w: Writer, number: u32) -> Step
-    ensures { λ r. ⌜ r ≡ refusedStep number w ⌝ }
-{
-    Step {
-        next: w,
-        answer: Written::Refused(Refusal { number, place: 0 }),
-    }
-}
-
 // The most bytes that a transaction has in a buffer of that length.
 fn most_in(length: usize) -> usize
     ensures { λ r. ⌜ r ≡ mostIn length ⌝ }
@@ -254,7 +246,7 @@ fn close(w: Writer, buf: &mut [u8], layout: Layout) -> Step
     let at = w.at;
     let most = most_in(buf.len());
     match closing_end(&buf[..at], layout, at, most) {
-        Part::Refused(_) => refused(w, wire::numbers::NO_ROOM),
+        Part::Refused(_) => store::refused(w, wire::numbers::NO_ROOM),
         Part::Next(end) => {
             put_closing(buf, at, layout);
             Step {
@@ -278,19 +270,19 @@ pub fn finish(w: Writer, buf: &mut [u8], is_end: bool) -> Step
 {
     let at = w.at;
     if !is_end {
-        return refused(w, wire::numbers::STEP_NOT_DUE);
+        return store::refused(w, wire::numbers::STEP_NOT_DUE);
     }
     if LAST_PHASE <= w.phase {
-        return refused(w, wire::numbers::STEP_NOT_DUE);
+        return store::refused(w, wire::numbers::STEP_NOT_DUE);
     }
     if buf.len() < at {
-        return refused(w, wire::numbers::NO_ROOM);
+        return store::refused(w, wire::numbers::NO_ROOM);
     }
     match transaction::body::unsigned_at(&buf[..at]) {
-        UnsignedRead::Refused(refusal) => refused(w, refusal.number),
+        UnsignedRead::Refused(refusal) => store::refused(w, refusal.number),
         UnsignedRead::Whole(layout, end) => {
             if end != at {
-                return refused(w, wire::numbers::BYTES_AFTER_END);
+                return store::refused(w, wire::numbers::BYTES_AFTER_END);
             }
             close(w, buf, layout)
         }

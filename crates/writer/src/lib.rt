@@ -6,14 +6,16 @@ ghost use Rattle.transaction.specs.Answer.{memoMost};
 ghost use Rattle.writer.specs.Steps.{start, close, finish};
 ghost use Rattle.writer.specs.Code.{after};
 
-pub mod elements;
 pub mod finish;
 pub mod parts;
-pub mod plans;
-pub mod rules;
 pub mod store;
-pub mod texts;
 
+use due::Due;
+use due::plans;
+use judge::Verdict;
+use judge::elements;
+use judge::rules;
+use judge::texts;
 use transaction::Segment;
 use wire::Refusal;
 
@@ -32,20 +34,6 @@ pub struct Writer {
 pub enum Written {
     Done(usize),
     Refused(Refusal),
-}
-
-// What bars a step, if anything does.
-pub enum Verdict {
-    Fine,
-    Refuse(u32),
-}
-
-// What is due: nothing, the finish, a field, or an element or the close of a list that needs so many elements.
-pub enum Due {
-    Nothing,
-    End,
-    Field(Segment),
-    List(Segment, u32),
 }
 
 pub struct Step {

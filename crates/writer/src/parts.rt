@@ -1,13 +1,13 @@
 // A step by the name of a part, once its rules are judged: 16 where that part is not due.
 ghost use mathlib.Core.Path.{_≡_};
 ghost use mathlib.Core.List.{_++_};
-ghost use Rattle.writer.specs.Elements.{numbersBytes};
+ghost use Rattle.judge.specs.Elements.{numbersBytes};
 ghost use Rattle.writer.specs.Code.{after, namedField, namedElement};
 use crate::Step;
-use crate::Verdict;
 use crate::Writer;
-use crate::plans;
 use crate::store;
+use due::plans;
+use judge::Verdict;
 use transaction::Segment;
 
 pub fn put_field(

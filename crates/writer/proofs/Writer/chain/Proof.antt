@@ -1,7 +1,6 @@
 -- `writer::Writer::chain` meets its contract. Assumes nothing.
 use borrow.Author.Needs.{needs}
-use Rattle.writer.specs.declared.Verdict.the-variants as J
-use native.Mathlib.Omega.{arith}
+use Rattle.judge.specs.declared.Verdict.the-variants as J
 use Rattle.writer.proofs.Methods.{chain-is}
 use Rattle.writer.proofs.Writer.chain.Statement.{statement}
 use Rattle.writer.proofs.Writer.chain.Tie as tie

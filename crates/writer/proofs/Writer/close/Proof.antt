@@ -1,7 +1,7 @@
 -- `writer::Writer::close` meets its contract. Assumes nothing.
-use borrow.Author.Needs.{needs}
-use native.Mathlib.Omega.{arith}
 use mathlib.Core.Path.{refl}
+use native.Mathlib.Omega.{arith}
+use borrow.Author.Needs.{needs}
 use Rattle.writer.proofs.Methods.{close-not, close-small, close-is}
 use Rattle.writer.proofs.Writer.close.Statement.{statement}
 use Rattle.writer.proofs.Writer.close.Tie as tie

@@ -1,6 +1,6 @@
 -- `writer::Writer::denomination` meets its contract. Assumes nothing.
-use borrow.Author.Needs.{needs}
 use native.Mathlib.Omega.{arith}
+use borrow.Author.Needs.{needs}
 use Rattle.writer.proofs.Methods.{denomination-is}
 use Rattle.writer.proofs.Writer.denomination.Statement.{statement}
 use Rattle.writer.proofs.Writer.denomination.Tie as tie

@@ -1,6 +1,6 @@
 -- `writer::Writer::operation` meets its contract. Assumes nothing.
-use borrow.Author.Needs.{needs}
 use mathlib.Core.List.{[]}
+use borrow.Author.Needs.{needs}
 use Rattle.writer.proofs.Methods.{operation-is}
 use Rattle.writer.proofs.Writer.operation.Statement.{statement}
 use Rattle.writer.proofs.Writer.operation.Tie as tie

@@ -1,6 +1,6 @@
 -- `writer::Writer::start` meets its contract. Assumes nothing.
-use borrow.Author.Needs.{needs}
 use native.Mathlib.Omega.{arith}
+use borrow.Author.Needs.{needs}
 use Rattle.writer.proofs.Methods.{start-is}
 use Rattle.writer.proofs.Writer.start.Statement.{statement}
 use Rattle.writer.proofs.Writer.start.Tie as tie

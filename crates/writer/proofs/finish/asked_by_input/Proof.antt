@@ -1,6 +1,6 @@
 -- `writer::finish::asked_by_input` meets its contract. Assumes nothing.
-use borrow.Author.Needs.{needs}
 use native.Mathlib.Omega.{arith}
+use borrow.Author.Needs.{needs}
 use Rattle.wire.proofs.Reading.{on-value, on-short, on-part, on-cut}
 use Rattle.element.proofs.Reading.{value-small}
 use Rattle.writer.specs.Closing.{askedByInput}

@@ -1,7 +1,7 @@
 -- `writer::finish::blank_end` meets its contract. Assumes nothing.
-use borrow.Author.Needs.{needs}
-use native.Mathlib.Omega.{arith}
 use Prim.Native.Nat.{_+_, _*_}
+use native.Mathlib.Omega.{arith}
+use borrow.Author.Needs.{needs}
 use Rattle.writer.proofs.Blanks.{fitted-full, fitted-room}
 use Rattle.writer.proofs.finish.blank_end.Statement.{statement}
 use Rattle.writer.proofs.finish.blank_end.Tie as tie

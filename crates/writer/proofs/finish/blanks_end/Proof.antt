@@ -1,9 +1,9 @@
 -- `writer::finish::blanks_end` meets its contract. The invariant: the place behind what is left, from here, is the place behind all. Assumes nothing.
-use borrow.Author.Needs.{needs}
-use native.Mathlib.Omega.{arith}
 use Prim.Native.Nat.{_≤_}
 use mathlib.Core.Path.{_≡_, refl}
+use native.Mathlib.Omega.{arith}
 use lib.ListN.{length}
+use borrow.Author.Needs.{needs}
 use Rattle.writer.specs.Closing.{blanksFrom, fitted}
 use Rattle.writer.proofs.Blanks.{fitted-next, end-none, end-stop, end-on, end-full}
 use Rattle.writer.proofs.finish.blanks_end.Statement.{statement}

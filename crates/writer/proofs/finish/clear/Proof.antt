@@ -1,10 +1,10 @@
 -- `writer::finish::clear` meets its contract. The invariant: the bytes before i are zeros. Assumes nothing.
-use borrow.Author.Needs.{needs}
-use native.Mathlib.Omega.{arith}
 use Prim.Native.Nat.{_-_, _≤_}
 use mathlib.Core.Path.{_≡_, refl, _∙_}
 use mathlib.Core.List.{_++_}
+use native.Mathlib.Omega.{arith}
 use lib.ListN.{length, drop, replicate, length-set}
+use borrow.Author.Needs.{needs}
 use Rattle.writer.proofs.Blanks.{zero-more, zeros-all}
 use Rattle.writer.proofs.finish.clear.Statement.{statement}
 use Rattle.writer.proofs.finish.clear.Tie as tie

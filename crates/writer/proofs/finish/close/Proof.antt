@@ -1,7 +1,7 @@
 -- `writer::finish::close` meets its contract. Assumes nothing.
-use borrow.Author.Needs.{needs}
 use native.Mathlib.Omega.{arith}
 use lib.ListN.{length-take}
+use borrow.Author.Needs.{needs}
 use Rattle.writer.proofs.Ending.{close-room, close-done, close-full}
 use Rattle.writer.proofs.finish.close.Statement.{statement}
 use Rattle.writer.proofs.finish.close.Tie as tie

@@ -1,6 +1,6 @@
 -- `writer::finish::closing_end` meets its contract. Assumes nothing.
-use borrow.Author.Needs.{needs}
 use native.Mathlib.Omega.{arith}
+use borrow.Author.Needs.{needs}
 use Rattle.writer.proofs.Blanks.{fitted-next, closing-full, closing-off, closing-on}
 use Rattle.writer.proofs.finish.closing_end.Statement.{statement}
 use Rattle.writer.proofs.finish.closing_end.Tie as tie

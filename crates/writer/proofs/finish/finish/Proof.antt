@@ -1,7 +1,7 @@
 -- `writer::finish::finish` meets its contract. Assumes nothing.
-use borrow.Author.Needs.{needs}
 use native.Mathlib.Omega.{arith}
 use lib.ListN.{length-take}
+use borrow.Author.Needs.{needs}
 use Rattle.writer.proofs.Ending.{not-due, no-phase, when-due, finish-short, finish-refused, finish-after, finish-closable, finish-close}
 use Rattle.writer.proofs.finish.finish.Statement.{statement}
 use Rattle.writer.proofs.finish.finish.Tie as tie

@@ -1,6 +1,6 @@
 -- `writer::finish::put_blank` meets its contract. Assumes nothing.
-use borrow.Author.Needs.{needs}
 use native.Mathlib.Omega.{arith}
+use borrow.Author.Needs.{needs}
 use Rattle.writer.proofs.Blanks.{blank-back}
 use Rattle.writer.proofs.finish.put_blank.Statement.{statement}
 use Rattle.writer.proofs.finish.put_blank.Tie as tie

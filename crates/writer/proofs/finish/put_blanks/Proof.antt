@@ -1,8 +1,8 @@
 -- `writer::finish::put_blanks` meets its contract. The invariant: what is left to write, from here, makes the whole. Assumes nothing.
-use borrow.Author.Needs.{needs}
-use native.Mathlib.Omega.{arith}
 use mathlib.Core.Path.{refl}
+use native.Mathlib.Omega.{arith}
 use lib.ListN.{length-take}
+use borrow.Author.Needs.{needs}
 use Rattle.writer.proofs.Blanks.{Writing, writing-begins, writing-none, writing-stop, writing-room, writing-on}
 use Rattle.writer.proofs.finish.put_blanks.Statement.{statement}
 use Rattle.writer.proofs.finish.put_blanks.Tie as tie

@@ -1,6 +1,6 @@
 -- `writer::finish::put_closing` meets its contract. Assumes nothing.
-use borrow.Author.Needs.{needs}
 use native.Mathlib.Omega.{arith}
+use borrow.Author.Needs.{needs}
 use Rattle.writer.proofs.Blanks.{count-small, count-room, closing-inputs, closing-own, closing-written}
 use Rattle.writer.proofs.finish.put_closing.Statement.{statement}
 use Rattle.writer.proofs.finish.put_closing.Tie as tie

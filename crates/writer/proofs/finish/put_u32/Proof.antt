@@ -1,6 +1,6 @@
 -- `writer::finish::put_u32` meets its contract. Assumes nothing.
-use borrow.Author.Needs.{needs}
 use native.Mathlib.Omega.{arith}
+use borrow.Author.Needs.{needs}
 use Rattle.writer.proofs.Blanks.{number-back}
 use Rattle.writer.proofs.finish.put_u32.Statement.{statement}
 use Rattle.writer.proofs.finish.put_u32.Tie as tie

@@ -1,6 +1,6 @@
 -- `writer::finish::put_zeros` meets its contract. Assumes nothing.
-use borrow.Author.Needs.{needs}
 use native.Mathlib.Omega.{arith}
+use borrow.Author.Needs.{needs}
 use Rattle.writer.proofs.Blanks.{zeros-back}
 use Rattle.writer.proofs.finish.put_zeros.Statement.{statement}
 use Rattle.writer.proofs.finish.put_zeros.Tie as tie

@@ -1,6 +1,6 @@
 -- `writer::parts::put_element` meets its contract. Assumes nothing.
-use borrow.Author.Needs.{needs}
 use mathlib.Core.List.{_++_}
+use borrow.Author.Needs.{needs}
 use Rattle.writer.proofs.Naming.{no-list, element-named}
 use Rattle.writer.proofs.parts.put_element.Statement.{statement}
 use Rattle.writer.proofs.parts.put_element.Tie as tie

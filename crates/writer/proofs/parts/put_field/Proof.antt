@@ -1,10 +1,10 @@
 -- `writer::parts::put_field` meets its contract. Assumes nothing.
-use borrow.Author.Needs.{needs}
-use native.Mathlib.Omega.{arith}
 use mathlib.Core.Path.{refl, sym, _∙_}
 use mathlib.Core.List.{_++_}
-use Rattle.writer.specs.Code.{isField}
-use Rattle.writer.proofs.Rows.{phase-small}
+use native.Mathlib.Omega.{arith}
+use borrow.Author.Needs.{needs}
+use Rattle.due.specs.Plans.{isField}
+use Rattle.due.proofs.Rows.{phase-small}
 use Rattle.writer.proofs.Naming.{no-field, field-named}
 use Rattle.writer.proofs.parts.put_field.Statement.{statement}
 use Rattle.writer.proofs.parts.put_field.Tie as tie

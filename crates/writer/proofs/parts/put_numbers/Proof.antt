@@ -1,7 +1,7 @@
 -- `writer::parts::put_numbers` meets its contract. Assumes nothing.
-use borrow.Author.Needs.{needs}
 use mathlib.Core.List.{_++_}
-use Rattle.writer.specs.Elements.{numbersBytes}
+use borrow.Author.Needs.{needs}
+use Rattle.judge.specs.Elements.{numbersBytes}
 use Rattle.writer.proofs.Naming.{no-list, element-named}
 use Rattle.writer.proofs.parts.put_numbers.Statement.{statement}
 use Rattle.writer.proofs.parts.put_numbers.Tie as tie

@@ -1,5 +1,4 @@
 -- `writer::store::entered` meets its contract. Assumes nothing.
-use borrow.Author.Needs.{needs}
 use Rattle.writer.proofs.Storing.{too-short, goes-on, not-entered}
 use Rattle.writer.proofs.store.entered.Statement.{statement}
 use Rattle.writer.proofs.store.entered.Tie as tie

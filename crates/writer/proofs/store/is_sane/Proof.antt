@@ -1,7 +1,6 @@
 -- `writer::store::is_sane` meets its contract. Assumes nothing.
-use borrow.Author.Needs.{needs}
-use native.Mathlib.Omega.{arith}
 use mathlib.Core.Path.{refl}
+use native.Mathlib.Omega.{arith}
 use Rattle.writer.proofs.Storing.{count-outside, last-outside, inside}
 use Rattle.writer.proofs.store.is_sane.Statement.{statement}
 use Rattle.writer.proofs.store.is_sane.Tie as tie

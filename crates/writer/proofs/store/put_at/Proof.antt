@@ -1,9 +1,9 @@
 -- `writer::store::put_at` meets its contract. Assumes nothing.
-use borrow.Author.Needs.{needs}
-use native.Mathlib.Omega.{arith}
 use Prim.Native.Nat.{_+_}
+use native.Mathlib.Omega.{arith}
 use lib.ListN.{length}
-use Rattle.writer.proofs.Storing.{lent-bytes}
+use borrow.Author.Needs.{needs}
+use Rattle.buffer.proofs.Stores.{lent-bytes}
 use Rattle.writer.proofs.store.put_at.Statement.{statement}
 use Rattle.writer.proofs.store.put_at.Tie as tie
 

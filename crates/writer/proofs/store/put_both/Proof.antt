@@ -1,6 +1,6 @@
 -- `writer::store::put_both` meets its contract. Assumes nothing.
 use borrow.Author.Needs.{needs}
-use Rattle.writer.proofs.Storing.{first-fits, second-fits, both-stored}
+use Rattle.buffer.proofs.Stores.{first-fits, second-fits, both-stored}
 use Rattle.writer.proofs.store.put_both.Statement.{statement}
 use Rattle.writer.proofs.store.put_both.Tie as tie
 

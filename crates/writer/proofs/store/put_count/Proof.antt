@@ -1,8 +1,8 @@
 -- `writer::store::put_count` meets its contract. Assumes nothing.
-use borrow.Author.Needs.{needs}
-use native.Mathlib.Omega.{arith}
 use Prim.Native.Nat.{_+_}
-use Rattle.writer.proofs.Storing.{lent-number}
+use native.Mathlib.Omega.{arith}
+use borrow.Author.Needs.{needs}
+use Rattle.buffer.proofs.Stores.{lent-number}
 use Rattle.writer.proofs.store.put_count.Statement.{statement}
 use Rattle.writer.proofs.store.put_count.Tie as tie
 

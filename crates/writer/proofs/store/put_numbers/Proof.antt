@@ -1,13 +1,13 @@
 -- `writer::store::put_numbers` meets its contract. The invariant: putting the numbers that are left is putting them all.
 -- Assumes nothing.
-use borrow.Author.Needs.{needs}
 use Prim.Native.Nat.{_+_, _-_, _*_, _≤_}
-use mathlib.Core.Path.{_≡_, refl, ap}
+use mathlib.Core.Path.{_≡_, refl}
 use native.Mathlib.Omega.{arith}
 use lib.ListN.{length, drop}
-use Rattle.writer.specs.Steps.{overwrite}
-use Rattle.writer.specs.Elements.{numbersBytes}
-use Rattle.writer.proofs.Numbering.{numbers-end, numbers-on, number-long}
+use borrow.Author.Needs.{needs}
+use Rattle.judge.specs.Elements.{numbersBytes}
+use Rattle.buffer.specs.Stores.{overwrite}
+use Rattle.buffer.proofs.Numbering.{numbers-end, numbers-on, number-long}
 use Rattle.writer.proofs.store.put_numbers.Statement.{statement}
 use Rattle.writer.proofs.store.put_numbers.Tie as tie
 

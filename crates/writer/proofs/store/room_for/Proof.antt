@@ -1,8 +1,7 @@
 -- `writer::store::room_for` meets its contract. Assumes nothing.
-use borrow.Author.Needs.{needs}
-use native.Mathlib.Omega.{arith}
 use Prim.Native.Nat.{_+_}
-use Rattle.writer.proofs.Storing.{no-room, too-many, enough}
+use native.Mathlib.Omega.{arith}
+use Rattle.buffer.proofs.Stores.{no-room, too-many, enough}
 use Rattle.writer.proofs.store.room_for.Statement.{statement}
 use Rattle.writer.proofs.store.room_for.Tie as tie
 

@@ -1,6 +1,6 @@
 -- `writer::store::room_of` meets its contract. Assumes nothing.
 use borrow.Author.Needs.{needs}
-use Rattle.writer.proofs.Storing.{first-long, second-long, room-opens, room-shut}
+use Rattle.buffer.proofs.Stores.{first-long, second-long, room-opens, room-shut}
 use Rattle.writer.proofs.store.room_of.Statement.{statement}
 use Rattle.writer.proofs.store.room_of.Tie as tie
 

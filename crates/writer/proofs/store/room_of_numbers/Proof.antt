@@ -1,6 +1,6 @@
 -- `writer::store::room_of_numbers` meets its contract. Assumes nothing.
 use borrow.Author.Needs.{needs}
-use Rattle.writer.proofs.Numbering.{first-too-long, numbers-too-many, numbers-room}
+use Rattle.buffer.proofs.Numbering.{first-too-long, numbers-too-many, numbers-room}
 use Rattle.writer.proofs.store.room_of_numbers.Statement.{statement}
 use Rattle.writer.proofs.store.room_of_numbers.Tie as tie
 

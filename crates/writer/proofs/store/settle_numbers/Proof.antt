@@ -1,6 +1,6 @@
 -- `writer::store::settle_numbers` meets its contract. Assumes nothing.
 use borrow.Author.Needs.{needs}
-use Rattle.writer.specs.Elements.{numbersBytes}
+use Rattle.judge.specs.Elements.{numbersBytes}
 use Rattle.writer.proofs.Settling.{rules-refuse, element-made, not-sane, element-full, element-done}
 use Rattle.writer.proofs.store.settle_numbers.Statement.{statement}
 use Rattle.writer.proofs.store.settle_numbers.Tie as tie

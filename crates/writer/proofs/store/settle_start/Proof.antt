@@ -1,8 +1,7 @@
 -- `writer::store::settle_start` meets its contract. Assumes nothing.
-use borrow.Author.Needs.{needs}
 use mathlib.Core.List.{_++_}
 use mathlib.Core.Bool.{true}
-use Rattle.writer.specs.declared.Writer.{Writer}
+use borrow.Author.Needs.{needs}
 use Rattle.writer.proofs.Settling.{rules-refuse, room-made, start-refused, start-done}
 use Rattle.writer.proofs.store.settle_start.Statement.{statement}
 use Rattle.writer.proofs.store.settle_start.Tie as tie

@@ -1,6 +1,6 @@
 -- `writer::store::store_element` meets its contract. Assumes nothing.
-use borrow.Author.Needs.{needs}
 use native.Mathlib.Omega.{arith}
+use borrow.Author.Needs.{needs}
 use Rattle.writer.proofs.Settling.{element-sum, element-count-fits, element-stored}
 use Rattle.writer.proofs.store.store_element.Statement.{statement}
 use Rattle.writer.proofs.store.store_element.Tie as tie

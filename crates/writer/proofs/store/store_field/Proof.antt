@@ -1,6 +1,6 @@
 -- `writer::store::store_field` meets its contract. Assumes nothing.
-use borrow.Author.Needs.{needs}
 use native.Mathlib.Omega.{arith}
+use borrow.Author.Needs.{needs}
 use Rattle.writer.proofs.Settling.{both-fit, sum-fits, count-fits, count-fits-there, field-opens, field-alone}
 use Rattle.writer.proofs.store.store_field.Statement.{statement}
 use Rattle.writer.proofs.store.store_field.Tie as tie

@@ -1,6 +1,6 @@
 -- `writer::store::store_numbers` meets its contract. Assumes nothing.
-use borrow.Author.Needs.{needs}
 use native.Mathlib.Omega.{arith}
+use borrow.Author.Needs.{needs}
 use Rattle.writer.proofs.Numbering.{front-fits, all-fit, numbers-fit, list-count-fits, numbers-stored}
 use Rattle.writer.proofs.store.store_numbers.Statement.{statement}
 use Rattle.writer.proofs.store.store_numbers.Tie as tie

@@ -1,0 +1,1 @@
+// The buffer that the writer is lent; see specs and proofs.
