@@ -4,17 +4,22 @@ use mathlib.Core.Path.{_≡_, refl, sym, ap, _∙_, ap₂}
 use mathlib.Core.Bool.{Bool, true, false}
 use mathlib.Core.List.{List, [], _++_, append-assoc, append-nil}
 use native.Mathlib.Omega.{arith}
+use native.Mathlib.Nat.{mod-eq-of-lt}
 use lib.ListN.{length, take, drop, length-append, length-drop, take-append-drop}
 use lib.Seq.{length-take-le, take-at, drop-at, drop-length, take-length, drop-drop, take-append-le, take-take}
 use lib.Dec.{leb}
 use borrow.Author.Tests.{leb-true, le-leb, lt-leb}
 use Rattle.wire.specs.Bytes.{pick, digits, length-digits}
-use Rattle.wire.specs.Numbers.{noRoom}
+use Rattle.wire.specs.Numbers.{refusal, noRoom}
+use Rattle.wire.specs.declared.Refusal.{Refusal}
+use Rattle.wire.specs.declared.Part.{Part}
+use Rattle.wire.specs.declared.Part.the-variants as P
 use Rattle.transaction.specs.Signed.{mostBytes}
 use Rattle.judge.specs.declared.Verdict.{Verdict}
 use Rattle.judge.specs.declared.Verdict.the-variants as J
 use Rattle.judge.proofs.Verdicts.{pick-fine}
-use Rattle.buffer.specs.Stores.{roomFor, overwrite, roomIn, countOf}
+use Rattle.judge.specs.Judged.{onFine}
+use Rattle.buffer.specs.Stores.{roomIn, roomFor, overwrite, withNumber, stored}
 
 -- ---- room
 
@@ -131,31 +136,64 @@ lent-number s y at e v h there f =
     let whole : y ≡ digits 4 (v % 256 ^ 4) = h ∙ rw (n, m) in
     rw (whole, n, length-digits 4 (v % 256 ^ 4))
 
--- ---- two byte strings, one behind the other
+-- ---- a number in the buffer
 
-module _ (s first second : List ℕ) (at : ℕ) (f : at + length (first ++ second) ≤ length s) where
-  pub first-fits : at + length first ≤ length s
-  first-fits = omega (arith, length-append first second)
+module _ (s : List ℕ) (at n : ℕ) where
+  pub not-there : length s < at + 4 → s ≡ withNumber s at n
+  unfolding withNumber
+  not-there h = rw (lt-leb (at + 4) (length s) h)
 
-  module _ (t : List ℕ) (h : t ≡ overwrite s at first) where
-    pub second-fits : at + length first + length second ≤ length t
-    second-fits = omega (arith, ap length h, length-append first second, length-overwrite s first at first-fits)
+  pub number-there : at + 4 ≤ length s → (t : List ℕ) → t ≡ overwrite s at (digits 4 (n % 256 ^ 4)) → t ≡ withNumber s at n
+  unfolding withNumber
+  number-there h t e = rw (le-leb (at + 4) (length s) h) e
 
-    pub both-stored : (u : List ℕ) → u ≡ overwrite t (at + length first) second → u ≡ overwrite s at (first ++ second)
-    both-stored u e = e ∙ ap (λ (z : List ℕ). overwrite z (at + length first) second) h ∙ overwrite-more s at first second (at + length first) refl (omega (arith, first-fits))
+  -- where it fits, and its width holds it
+  pub number-put : at + 4 ≤ length s → n < 256 ^ 4 → withNumber s at n ≡ overwrite s at (digits 4 n)
+  unfolding withNumber
+  number-put h f = rw (le-leb (at + 4) (length s) h, mod-eq-of-lt f)
 
-module _ (at limit : ℕ) (first second : List ℕ) (opens : Bool) where
-  behind-both : length (first ++ second) ≤ length ((first ++ second) ++ countOf opens)
-  behind-both = omega (arith, length-append (first ++ second) (countOf opens))
+  pub length-number : length (withNumber s at n) ≡ length s
+  unfolding withNumber
+  length-number = go (leb (at + 4) (length s)) refl
+    where
+      go : (b : Bool) → leb (at + 4) (length s) ≡ b → length (pick b (overwrite s at (digits 4 (n % 256 ^ 4))) s) ≡ length s
+      go true e = length-overwrite s (digits 4 (n % 256 ^ 4)) at (omega (arith, leb-true (at + 4) (length s) e, length-digits 4 (n % 256 ^ 4)))
+      go false e = refl
 
-  pub first-long : mostBytes < length first → J.Refuse 14 ≡ roomIn (at + length ((first ++ second) ++ countOf opens)) limit
-  first-long h = too-many (at + length ((first ++ second) ++ countOf opens)) limit (omega (arith, behind-both, length-append first second))
+-- ---- stores made whole or not at all
 
-  pub second-long : mostBytes < length second → J.Refuse 14 ≡ roomIn (at + length ((first ++ second) ++ countOf opens)) limit
-  second-long h = too-many (at + length ((first ++ second) ++ countOf opens)) limit (omega (arith, behind-both, length-append first second))
+module _ (v : Verdict) (m n : ℕ) (s t : List ℕ) where
+  pub rules-bar : (u : Verdict) (k : ℕ) → v ≡ J.Refuse k → (P.Refused (refusal k 0), s) ≡ stored (onFine v u) n s t
+  unfolding stored
+  rules-bar u k e = rw e
 
-  pub room-opens : (v : Verdict) → v ≡ roomIn (at + (length first + length second + 4)) limit → opens ≡ true → v ≡ roomIn (at + length ((first ++ second) ++ countOf opens)) limit
-  room-opens v h e = same-room v (at + (length first + length second + 4)) (at + length ((first ++ second) ++ countOf opens)) limit h (rw e (omega (arith, length-append (first ++ second) (digits 4 0), length-append first second, length-digits 4 0)))
+  module _ (e : v ≡ J.Fine) (x : Verdict) (p : x ≡ roomIn m (length s)) where
+    pub room-bars : (k : ℕ) → x ≡ J.Refuse k → (P.Refused (refusal k 0), s) ≡ stored (onFine v (roomFor m s)) n s t
+    unfolding stored roomFor
+    room-bars k q = rw (e, sym p ∙ q)
 
-  pub room-shut : (v : Verdict) → v ≡ roomIn (at + (length first + length second)) limit → opens ≡ false → v ≡ roomIn (at + length ((first ++ second) ++ countOf opens)) limit
-  room-shut v h e = same-room v (at + (length first + length second)) (at + length ((first ++ second) ++ countOf opens)) limit h (rw e (omega (arith, length-append (first ++ second) [], length-append first second)))
+    pub room-made : x ≡ J.Fine → m ≤ length s
+    unfolding roomFor
+    room-made q = room-inv m s (sym p ∙ q) .0
+
+    pub all-done : x ≡ J.Fine → (i : ℕ) → i ≡ n → (u : List ℕ) → u ≡ t → (P.Next i, u) ≡ stored (onFine v (roomFor m s)) n s t
+    unfolding stored roomFor
+    all-done q i h u k = rw (e, sym p ∙ q) (ap₂ (λ (a : ℕ) (b : List ℕ). (P.Next a, b)) h k)
+
+-- what its answer tells
+module _ (n : ℕ) (s t : List ℕ) (x : Part) (u : List ℕ) where
+  pub told-refused : (v : Verdict) → (x, u) ≡ stored v n s t → (e : Refusal) → x ≡ P.Refused e → (v ≡ J.Refuse (e .number)) × (u ≡ s)
+  unfolding stored
+  told-refused J.Fine p e q = let i : x ≡ P.Next n = ap (λ (z : Part × List ℕ). z .0) p in let z : _≡_ {A = ℕ} 0 1 = cc in absurd (omega arith)
+  told-refused (J.Refuse k) p e q =
+      let i : x ≡ P.Refused (refusal k 0) = ap (λ (z : Part × List ℕ). z .0) p in
+      let j : refusal k 0 ≡ e = cc in
+      (ap (λ (r : Refusal). J.Refuse (r .number)) j, ap (λ (z : Part × List ℕ). z .1) p)
+
+  pub told-next : (v : Verdict) → (x, u) ≡ stored v n s t → (m : ℕ) → x ≡ P.Next m → (v ≡ J.Fine) × (m ≡ n) × (u ≡ t)
+  unfolding stored
+  told-next J.Fine p m q =
+      let i : x ≡ P.Next n = ap (λ (z : Part × List ℕ). z .0) p in
+      let j : m ≡ n = cc in
+      (refl, j, ap (λ (z : Part × List ℕ). z .1) p)
+  told-next (J.Refuse k) p m q = let i : x ≡ P.Refused (refusal k 0) = ap (λ (z : Part × List ℕ). z .0) p in let z : _≡_ {A = ℕ} 0 1 = cc in absurd (omega arith)

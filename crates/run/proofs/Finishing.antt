@@ -33,9 +33,10 @@ use Rattle.due.specs.Plans.{isSegment, due, planOf}
 use Rattle.due.proofs.Rows.{due-next}
 use Rattle.buffer.specs.Stores.{roomFor, overwrite}
 use Rattle.buffer.proofs.Stores.{room-inv, by-room, take-overwrite, length-overwrite}
+use Rattle.blank.specs.Closing.{blankOf, blankBehind, closing, closable}
 use Rattle.writer.specs.declared.Writer.{Writer}
 use Rattle.writer.specs.declared.Written.the-variants as W
-use Rattle.writer.specs.Steps.{fresh, Turn, answered, guarded, sane, grown, opening, opened, putAt, closeAt, finishAt, blankOf, blankBehind, closing, start, put, close, finish}
+use Rattle.writer.specs.Steps.{fresh, Turn, answered, guarded, sane, grown, opening, opened, putAt, closeAt, finishAt, start, put, close, finish}
 use Rattle.writer.proofs.Laws.{guarded-inv, guarded-fine, answered-keeps}
 use Rattle.run.specs.Runs.{Act, starts, puts, closes, finishes, Fair, AllFair, act, run}
 use Rattle.run.specs.Claims.{finishBehind, FinishedIsAccepted}
@@ -133,11 +134,11 @@ module _ (F : Family) where
       }
 
   finish-keeps : Keeps (finishAt F)
-  unfolding finishAt answered
+  unfolding finishAt closable answered
   finish-keeps first good shut w s b kind isDue reach stays = running record { first = first; good = good; kind = kind; parts = shut; isDue = isDue; done = b; reach = reach; stays = stays }
   finish-keeps first good end w s b kind isDue reach stays =
-      answered-keeps Kept (guarded true w s (judged (unsigned F) (given (take (w .at) s)) (roomFor (w .at + length (closing F w s)) s)))
-      w s (opened (w .kind) (suc (w .phase)) (w .at + length (closing F w s)) shut) (overwrite s (w .at) (closing F w s))
+      answered-keeps Kept (guarded true w s (judged (unsigned F) (given (take (w .at) s)) (roomFor (w .at + length (closing F (w .at) s)) s)))
+      w s (opened (w .kind) (suc (w .phase)) (w .at + length (closing F (w .at) s)) shut) (overwrite s (w .at) (closing F (w .at) s))
       (running record { first = first; good = good; kind = kind; parts = end; isDue = isDue; done = b; reach = reach; stays = stays }) λ e.
       running
       record {
@@ -227,7 +228,7 @@ module _ (F : Family) where
     stands-own : unsigned F .write u ≡ take (w .at) s
     stands-own = e ∙ sym (h .stands)
 
-    closing-is : closing F w s ≡ blankOf F u
+    closing-is : closing F (w .at) s ≡ blankOf F u
     unfolding closing
     closing-is =
         ap (blankBehind F)
@@ -236,11 +237,11 @@ module _ (F : Family) where
 
     pub finish-is : finishAt F end w s
         ≡ answered (roomFor (w .at + length (blankOf F u)) s) w s (opened (w .kind) (suc (w .phase)) (w .at + length (blankOf F u)) shut) (overwrite s (w .at) (blankOf F u))
-    unfolding finishAt
+    unfolding finishAt closable
     finish-is =
-        let v : Verdict = roomFor (w .at + length (closing F w s)) s in
+        let v : Verdict = roomFor (w .at + length (closing F (w .at) s)) s in
         let rules : judged (unsigned F) (given (take (w .at) s)) v ≡ v = subst (λ (z : List ℕ). judged (unsigned F) (given z) v ≡ v) stands-own (judged-own (unsigned F) u v g) in
-        ap (λ (x : Verdict). answered x w s (opened (w .kind) (suc (w .phase)) (w .at + length (closing F w s)) shut) (overwrite s (w .at) (closing F w s)))
+        ap (λ (x : Verdict). answered x w s (opened (w .kind) (suc (w .phase)) (w .at + length (closing F (w .at) s)) shut) (overwrite s (w .at) (closing F (w .at) s)))
         (guarded-fine true w s (judged (unsigned F) (given (take (w .at) s)) v) refl (h .fits) ∙ rules)
         ∙ ap (λ (z : List ℕ). answered (roomFor (w .at + length z) s) w s (opened (w .kind) (suc (w .phase)) (w .at + length z) shut) (overwrite s (w .at) z)) closing-is
 

@@ -22,9 +22,10 @@ use Rattle.judge.specs.declared.Verdict.the-variants as J
 use Rattle.judge.proofs.Verdicts.{judged-read}
 use Rattle.due.specs.Plans.{isSegment, due, planOf}
 use Rattle.buffer.specs.Stores.{roomFor, overwrite}
+use Rattle.blank.specs.Closing.{closing, closable}
 use Rattle.writer.specs.declared.Writer.{Writer}
 use Rattle.writer.specs.declared.Written.the-variants as W
-use Rattle.writer.specs.Steps.{Turn, answered, guarded, sane, opening, opened, prev, grown, appended, putAt, closeAt, finishAt, closing, start, put, close, finish}
+use Rattle.writer.specs.Steps.{Turn, answered, guarded, sane, opening, opened, prev, grown, appended, putAt, closeAt, finishAt, start, put, close, finish}
 use Rattle.run.specs.Runs.{Act, starts, puts, closes, finishes, act}
 use Rattle.run.specs.Claims.{StepsOwe}
 
@@ -99,14 +100,14 @@ close-owed (many m E q) w s =
 
 module _ (F : Family) where
   finish-owed : (q : Plan) (w : Writer) (s : List ℕ) → Owed w s (finishAt F q w s)
-  unfolding finishAt
+  unfolding finishAt closable
   finish-owed shut w s = none-owed w s
   finish-owed end w s =
       record {
-        verdict = guarded true w s (judged (unsigned F) (given (take (w .at) s)) (roomFor (w .at + length (closing F w s)) s));
-        numbered = guarded-tabled true w s _ (judged-tabled (unsigned F) (given (take (w .at) s)) _ (room-tabled (w .at + length (closing F w s)) s));
-        next = opened (w .kind) (suc (w .phase)) (w .at + length (closing F w s)) shut;
-        buffer = overwrite s (w .at) (closing F w s);
+        verdict = guarded true w s (judged (unsigned F) (given (take (w .at) s)) (roomFor (w .at + length (closing F (w .at) s)) s));
+        numbered = guarded-tabled true w s _ (judged-tabled (unsigned F) (given (take (w .at) s)) _ (room-tabled (w .at + length (closing F (w .at) s)) s));
+        next = opened (w .kind) (suc (w .phase)) (w .at + length (closing F (w .at) s)) shut;
+        buffer = overwrite s (w .at) (closing F (w .at) s);
         is = refl;
       }
   finish-owed (field m C q) w s = none-owed w s

@@ -27,9 +27,10 @@ use Rattle.judge.proofs.Verdicts.{judged-own}
 use Rattle.due.specs.Plans.{due, planOf}
 use Rattle.buffer.specs.Stores.{roomFor, overwrite}
 use Rattle.buffer.proofs.Stores.{room-fine, length-overwrite}
+use Rattle.blank.specs.Closing.{blankOf}
 use Rattle.writer.specs.declared.Writer.{Writer}
 use Rattle.writer.specs.declared.Written.the-variants as W
-use Rattle.writer.specs.Steps.{fresh, Turn, turn, answered, opening, opened, finishAt, blankOf, start, finish}
+use Rattle.writer.specs.Steps.{fresh, Turn, turn, answered, opening, opened, finishAt, start, finish}
 use Rattle.writer.proofs.Laws.{guarded-fine}
 use Rattle.run.specs.Runs.{run, AllDone, spelled}
 use Rattle.run.specs.Claims.{finishBehind, RoundTrip}

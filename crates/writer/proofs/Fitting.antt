@@ -185,8 +185,4 @@ module _ (w : Writer) (s : List ℕ) (l : Segment) (g : Given) where
   element-here m E q e =
       let R : Verdict = roomFor (w .at + length (g .bytes)) s in
       ap (λ (v : Verdict). answered v w s (grown w (length (g .bytes))) (appended w s (g .bytes)))
-      (go (sane w) R ∙ ap (guarded (sane w) w s) (sym (judged-on (E .element (prev w s)) g R)) ∙ ap (λ (t : Bool). guarded (t && sane w) w s (judged (E .element (prev w s)) g R)) (sym e))
-    where
-      go : (t : Bool) (R : Verdict) → onFine (guarded t w s (judged (E .element (prev w s)) g J.Fine)) (pick t R (J.Refuse stepNotDue)) ≡ guarded t w s (onFine (judged (E .element (prev w s)) g J.Fine) R)
-      go true R = sym (guarded-on true w s (judged (E .element (prev w s)) g J.Fine) R)
-      go false R = refl
+      (sym (guarded-on (sane w) w s (judged (E .element (prev w s)) g J.Fine) R) ∙ ap (guarded (sane w) w s) (sym (judged-on (E .element (prev w s)) g R)) ∙ ap (λ (t : Bool). guarded (t && sane w) w s (judged (E .element (prev w s)) g R)) (sym e))

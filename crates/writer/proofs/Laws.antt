@@ -1,7 +1,7 @@
 -- Whether a step is entered, and what its answer keeps. Assumes nothing.
 use Prim.Native.Nat.{ℕ, _≤_}
-use mathlib.Core.Path.{_≡_, refl}
-use mathlib.Core.Bool.{Bool, true}
+use mathlib.Core.Path.{_≡_, refl, sym}
+use mathlib.Core.Bool.{Bool, true, false, not}
 use mathlib.Core.List.{List}
 use lib.ListN.{length}
 use lib.Dec.{leb}
@@ -28,3 +28,13 @@ pub answered-keeps : (P : Writer → List ℕ → Type 1) (v : Verdict) (w : Wri
 unfolding answered
 answered-keeps P J.Fine w s w′ s′ h k = k refl
 answered-keeps P (J.Refuse n) w s w′ s′ h k = h
+
+-- ---- a test the other way round
+
+pub not-true : (t : Bool) → not t ≡ true → t ≡ false
+not-true true e = sym e
+not-true false e = refl
+
+pub not-false : (t : Bool) → not t ≡ false → t ≡ true
+not-false true e = refl
+not-false false e = sym e

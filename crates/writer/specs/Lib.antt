@@ -2,4 +2,3 @@
 pub mod Steps
 pub mod Fields
 pub mod Code
-pub mod Closing

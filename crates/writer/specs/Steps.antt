@@ -7,22 +7,21 @@ use lib.ListN.{length, take, drop}
 use lib.Dec.{ltb, leb, eqb}
 use Rattle.wire.specs.Bytes.{digits, pick}
 use Rattle.wire.specs.Numbers.{ruleNumber, emptyList, refusal, noRoom, stepNotDue}
-use Rattle.wire.specs.Format.{read, Result, took, refused}
-use Rattle.transaction.specs.Credentials.{layout, credentials, blanks}
 use Rattle.transaction.specs.Signed.{mostBytes}
 use Rattle.transaction.specs.Plan.{Plan, shut, end, field, many}
-use Rattle.transaction.specs.Family.{Family, head, Unsigned, unsigned, wants}
+use Rattle.transaction.specs.Family.{Family, head}
 use Rattle.transaction.specs.declared.Segment.{Segment}
 use Rattle.judge.specs.declared.Verdict.{Verdict}
 use Rattle.judge.specs.declared.Verdict.the-variants as J
 use Rattle.judge.specs.Judged.{judged}
 use Rattle.judge.specs.Given.{headBytes, Given}
 use Rattle.due.specs.Plans.{isSegment, due, planOf}
-use Rattle.buffer.specs.Stores.{roomFor, overwrite}
+use Rattle.blank.specs.Closing.{closing, closable}
 use Rattle.writer.specs.declared.Writer.{Writer}
 use Rattle.writer.specs.declared.Step.{Step}
 use Rattle.writer.specs.declared.Written.{Written}
 use Rattle.writer.specs.declared.Written.the-variants as W
+use Rattle.buffer.specs.Stores.{roomFor, overwrite}
 
 -- nothing is written yet
 abbrev pub fresh : Writer
@@ -107,23 +106,11 @@ closeAt (many m E q) w s =
     w s (opened (w .kind) (suc (w .phase)) (w .at) q) (overwrite s (w .at) (opening q))
 
 module _ (F : Family) where
-  -- the blank credentials that an unsigned part wants
-  abbrev pub blankOf : Unsigned F → List ℕ
-  blankOf u = credentials (wants F u) .write (blanks (layout (wants F u)))
-
-  -- the unsigned part is read back from what was written
-  abbrev pub blankBehind : Result (Unsigned F) → List ℕ
-  blankBehind (took u n) = blankOf u
-  blankBehind (refused e) = []
-
-  unfoldable pub closing : Writer → List ℕ → List ℕ
-  closing w s = blankBehind (read (unsigned F) (take (w .at) s) 0)
-
+  -- the blank credentials are written
   unfoldable pub finishAt : Plan → Writer → List ℕ → Turn
   finishAt shut w s = notDue w s
   finishAt end w s =
-      answered (guarded true w s (judged (unsigned F) record { whole = true; bytes = take (w .at) s } (roomFor (w .at + length (closing w s)) s)))
-      w s (opened (w .kind) (suc (w .phase)) (w .at + length (closing w s)) shut) (overwrite s (w .at) (closing w s))
+      answered (closable F (w .at) s) w s (opened (w .kind) (suc (w .phase)) (w .at + length (closing F (w .at) s)) shut) (overwrite s (w .at) (closing F (w .at) s))
   finishAt (field m C q) w s = notDue w s
   finishAt (many m E q) w s = notDue w s
 
