@@ -47,7 +47,7 @@ zeros-all s i h k =
 
 module _ (s : List ℕ) (at : ℕ) where
   -- a part that was lent and came back as ys
-  pub part-back : (ys zs : List ℕ) (n : ℕ) → ys ≡ zs → length zs ≡ n → putMid at n s ys ≡ overwrite s at zs
+  part-back : (ys zs : List ℕ) (n : ℕ) → ys ≡ zs → length zs ≡ n → putMid at n s ys ≡ overwrite s at zs
   unfolding overwrite
   part-back ys zs n e l = ap₂ (λ (x : List ℕ) (k : ℕ). take at s ++ (x ++ drop k (drop at s))) e (sym l)
 

@@ -1,4 +1,4 @@
--- The blank credentials that finish writes, as code makes them: each from the element that wants it. Assumes nothing.
+-- The blank credentials that finish writes: as code makes them, each from the element that wants it; and as the format has them. Assumes nothing.
 use Prim.Native.Nat.{ℕ, zero, suc, _+_, _*_, _^_, _≤_, _<_}
 use mathlib.Core.List.{List, [], _++_}
 use lib.ListN.{length, take, replicate}

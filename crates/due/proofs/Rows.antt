@@ -38,7 +38,7 @@ pub of-export : (z : Due) (part kind : ℕ) → (kind ≡ 0 → ⊥) → (kind �
     → z ≡ dueOf (behind part (ownPlan (kindOf kind)))
 of-export z part kind a b c d h = rw (ne-eqb kind 0 a, ne-eqb kind 1 b, ne-eqb kind 2 c, ne-eqb kind 3 d) h
 
-pub behind-tail : (k : ℕ) (p : Plan) → behind (suc k) p ≡ behind k (tail p)
+behind-tail : (k : ℕ) (p : Plan) → behind (suc k) p ≡ behind k (tail p)
 behind-tail zero p = refl
 behind-tail (suc k) p = ap tail (behind-tail k p)
 

@@ -1,20 +1,20 @@
 -- What reading a field back comes to, as tests on what was given. Assumes nothing.
-use Prim.Native.Nat.{ℕ, zero, suc, _+_, _-_, _*_, _%_, _^_, _≤_, _<_}
+use Prim.Native.Nat.{ℕ, zero, suc, _+_, _*_, _%_, _^_, _≤_, _<_}
 use mathlib.Core.Path.{_≡_, refl, sym, ap, ap₂, _∙_}
 use mathlib.Core.Bool.{Bool}
 use mathlib.Core.List.{List, [], _∷_, _++_, append-nil}
 use native.Mathlib.Omega.{arith}
-use native.Mathlib.Nat.{mod-lt, mod-eq-of-lt, div-add-mod', mul-assoc, add-mul, add-assoc}
+use native.Mathlib.Nat.{mod-eq-of-lt, mul-assoc, add-mul, add-assoc}
 use lib.Pow.{pow-add}
-use lib.ListN.{length, take, drop, length-append, length-drop}
-use lib.Seq.{take-at, drop-at, take-length}
+use lib.ListN.{length, drop, length-append}
+use lib.Seq.{drop-at}
 use lib.Dec.{ltb, leb, eqb}
 use borrow.Author.Tests.{eq-eqb, ne-eqb, lt-ltb, le-ltb, le-leb}
-use Rattle.wire.specs.Bytes.{pick, drop-step, Bytes, bytes-append, value, digits, length-digits, bytes-digits, value-digits, digits-value, pow-positive}
+use Rattle.wire.specs.Bytes.{pick, drop-step, Bytes, bytes-append, value, digits, length-digits, bytes-digits, value-digits, digits-value}
 use Rattle.wire.specs.Numbers.{ruleNumber, unknownType, badLength, notPrintable, badDenomination, bytesAfterEnd}
 use Rattle.wire.specs.Fields.{number, blob, constant}
 use Rattle.wire.specs.Sequence.{andThen, guard, guardAt, named, tag}
-use Rattle.wire.proofs.Reading as R
+use Rattle.wire.specs.declared.Refusal.{Refusal}
 use Rattle.element.specs.Strings.{string, text, unprintable, printable, denomination}
 use Rattle.transaction.specs.Family.{head}
 use Rattle.transaction.specs.Avm.{avm}
@@ -24,32 +24,29 @@ use Rattle.judge.specs.declared.Verdict.the-variants as J
 use Rattle.judge.specs.Judged.{judged}
 use Rattle.judge.specs.Given.{headBytes, given}
 use Rattle.judge.specs.Texts.{kindRules, textRules, denominationRules}
+use Rattle.judge.proofs.Judging.{number-back, blob-back}
 
--- a number is read back from its digits, however large it is
-pub value-of-digits : (w v : ℕ) → value (digits (suc w) v) ≡ v
-unfolding digits value
-value-of-digits w v = rw (length-digits w (v % 256 ^ w), value-digits w (v % 256 ^ w) (mod-lt v (pow-positive w))) (div-add-mod' v (256 ^ w))
+-- ---- read back at a place
 
-module _ {X : Type 0} (w n : ℕ) (t : List ℕ) (stop : _ → X) (go : ℕ → ℕ → X) where
-  -- a number in front
-  pub number-front : number (suc w) .run (digits (suc w) n ++ t) 0 stop go ≡ go n (0 + suc w)
-  number-front =
-      let s : List ℕ = digits (suc w) n ++ t in
-      let long : length s ≡ suc w + length t = omega (arith, length-append (digits (suc w) n) t, length-digits (suc w) n) in
-      sym (R.number-there (suc w) s 0 (go n (0 + suc w)) stop (length s - 0) go n refl (omega arith)
-      (sym (ap value (take-at (digits (suc w) n) t (suc w) (length-digits (suc w) n)) ∙ value-of-digits w n)) refl)
+module _ {X : Type 0} (s : List ℕ) (p : ℕ) (stop : Refusal → X) where
+  number-at : (w n : ℕ) (t : List ℕ) (go : ℕ → ℕ → X) → drop p s ≡ digits (suc w) n ++ t → number (suc w) .run s p stop go ≡ go n (p + suc w)
+  unfolding number
+  number-at w n t go e = number-back w n X s p t stop go e ∙ ap (λ (k : ℕ). go n (p + k)) (length-digits (suc w) n)
 
-module _ {X : Type 0} (w n : ℕ) (b : List ℕ) (stop : _ → X) (go : List ℕ → ℕ → X) where
-  -- all bytes behind it
-  pub bytes-behind : blob (length b) .run (digits (suc w) n ++ b) (0 + suc w) stop go ≡ go b (length (digits (suc w) n ++ b))
-  bytes-behind =
-      let s : List ℕ = digits (suc w) n ++ b in
+  bytes-at : (n : ℕ) (b : List ℕ) (go : List ℕ → ℕ → X) → length b ≡ n → drop p s ≡ b → blob n .run s p stop go ≡ go b (p + n)
+  unfolding blob
+  bytes-at n b go l e = blob-back n b l X s p [] stop go (e ∙ sym (append-nil b)) ∙ ap (λ (k : ℕ). go b (p + k)) l
+
+module _ {X : Type 0} (w n : ℕ) (b : List ℕ) (stop : Refusal → X) where
+  -- a number in front, and all bytes behind it
+  number-front : (go : ℕ → ℕ → X) → number (suc w) .run (digits (suc w) n ++ b) 0 stop go ≡ go n (0 + suc w)
+  number-front go = number-at (digits (suc w) n ++ b) 0 stop w n b go refl
+
+  bytes-behind : (go : List ℕ → ℕ → X) → blob (length b) .run (digits (suc w) n ++ b) (0 + suc w) stop go ≡ go b (length (digits (suc w) n ++ b))
+  bytes-behind go =
       let d = length-digits (suc w) n in
-      let long : length s ≡ suc w + length b = omega (arith, length-append (digits (suc w) n) b) in
-      let rest : drop (0 + suc w) s ≡ b = drop-at (digits (suc w) n) b (0 + suc w) (omega arith) in
-      let there : 0 + suc w + length b ≡ length s = omega arith in
-      sym (R.blob-there (length b) s (0 + suc w) (go b (length s)) stop (length s - (0 + suc w)) go refl (omega arith)
-      (sym (ap₂ go (ap (take (length b)) rest ∙ take-length b) there)))
+      let there : 0 + suc w + length b ≡ length (digits (suc w) n ++ b) = omega (arith, length-append (digits (suc w) n) b) in
+      bytes-at (digits (suc w) n ++ b) (0 + suc w) stop (length b) b go refl (drop-at (digits (suc w) n) b (0 + suc w) (omega arith)) ∙ ap (go b) there
 
 -- nothing is left over behind all bytes
 all-read : (ys : List ℕ) → pick (eqb (length ys) (length ys)) J.Fine (J.Refuse bytesAfterEnd) ≡ J.Fine
@@ -92,8 +89,7 @@ denomination-judged n =
 
 pub id-judged : (c : List ℕ) → length c ≡ 32 → judged (blob 32) (given c) J.Fine ≡ J.Fine
 unfolding judged
-id-judged c e =
-    sym (R.blob-there 32 c 0 J.Fine (λ e. J.Refuse (e .number)) (length c - 0) _ refl (omega arith) (rw (eq-eqb (0 + 32) (length c) (omega arith))))
+id-judged c e = bytes-at c 0 _ 32 c _ e refl ∙ rw (eq-eqb (0 + 32) (length c) (omega arith))
 
 -- ---- a text's tests, where the code knows its first unprintable character
 
@@ -105,18 +101,6 @@ module _ (most : ℕ) (b : List ℕ) (x : ℕ) (p : x ≡ unprintable b) (some :
   text-unprintable e = rw (lt-ltb 0 (length b) (omega arith), le-leb (length b) most few, ne-eqb (unprintable b) (length b) (λ i. e (p ∙ i)))
 
 -- ---- the head
-
-module _ {X : Type 0} (s : List ℕ) (p : ℕ) (stop : _ → X) where
-  pub number-at : (w n : ℕ) (t : List ℕ) (go : ℕ → ℕ → X) → drop p s ≡ digits (suc w) n ++ t → number (suc w) .run s p stop go ≡ go n (p + suc w)
-  number-at w n t go e =
-      let d = length-digits (suc w) n in
-      sym (R.number-there (suc w) s p (go n (p + suc w)) stop (length s - p) go n refl (omega (arith, length-drop p s, ap length e, length-append (digits (suc w) n) t))
-      (sym (ap (λ (z : List ℕ). value (take (suc w) z)) e ∙ ap value (take-at (digits (suc w) n) t (suc w) d) ∙ value-of-digits w n)) refl)
-
-  pub bytes-at : (n : ℕ) (b : List ℕ) (go : List ℕ → ℕ → X) → length b ≡ n → drop p s ≡ b → blob n .run s p stop go ≡ go b (p + n)
-  bytes-at n b go l e =
-      sym (R.blob-there n s p (go b (p + n)) stop (length s - p) go refl (omega (arith, length-drop p s, ap length e))
-      (ap (λ (z : List ℕ). go z (p + n)) (sym (ap (take n) e ∙ ap (λ (k : ℕ). take k b) (sym l) ∙ take-length b))))
 
 one-of-five : (k : ℕ) (x y : Verdict) → pick (eqb k 0) x (pick (eqb k 1) x (pick (eqb k 2) x (pick (eqb k 3) x (pick (eqb k 4) x y)))) ≡ pick (ltb k 5) x y
 one-of-five zero x y = refl

@@ -1,4 +1,4 @@
--- What the formats of fields come to, as tests on what a step is given; that it is the same is proved (`memo-judged` and the others, of
+-- What the formats of fields come to, as tests on what a step is given; that it is the same is proved (`string-judged` and the others, of
 -- proofs/FieldLaws). Assumes nothing.
 use Prim.Native.Nat.{ℕ}
 use mathlib.Core.List.{List}

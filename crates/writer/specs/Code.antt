@@ -1,4 +1,4 @@
--- What the functions below the steps answer: what is due, by type and phase; and a step once its rules are judged. Assumes nothing.
+-- What the functions below the methods answer: a step once its rules are judged. Assumes nothing.
 use Prim.Native.Nat.{ℕ, suc, _+_}
 use mathlib.Core.Bool.{Bool, true}
 use mathlib.Core.List.{List, _++_}

@@ -25,12 +25,12 @@ blanks-end-spec =
     (λ c κs. search needs)  -- asked-at-requires
     (λ c. search needs)  -- enum-known-signatures
     (λ c. search needs)  -- enum-told
-    (λ c. end-stop (c .before .before .before .before .before .before .args .kind) (c .before .before .before .before .before .before .args .s .now) (c .before .before .before .before .loop .q) (c .before .before .before .before .loop .at) (c .before .before .before .before .before .before .args .most) (c .before .before .before .before .loop .left) _ (c .before .before .before .before .loop .inv .0) _ (c .before .before .asked-at .ensures) (c .before .before .before .loop-test .taken) _ (c .enum-told .given .1) (omega arith))  -- returns
+    (λ c. let a = c .before .before .before .before .before .before .args in end-stop (a .kind) (a .s .now) (c .before .before .before .before .loop .q) (c .before .before .before .before .loop .at) (a .most) (c .before .before .before .before .loop .left) _ (c .before .before .before .before .loop .inv .0) _ (c .before .before .asked-at .ensures) (c .before .before .before .loop-test .taken) _ (c .enum-told .given .1) (omega arith))  -- returns
     (λ c κs. search needs)  -- blank-end-requires
     (λ c. search needs)  -- enum-known-refusal
-    (λ c. end-full (c .before .before .before .before .before .before .before .before .before .before .before .args .kind) (c .before .before .before .before .before .before .before .before .before .before .before .args .s .now) (c .before .before .before .before .before .before .before .before .before .loop .q) (c .before .before .before .before .before .before .before .before .before .loop .at) (c .before .before .before .before .before .before .before .before .before .before .before .args .most) (c .before .before .before .before .before .before .before .before .before .loop .left) _ (c .before .before .before .before .before .before .before .before .before .loop .inv .0) _ (c .before .before .before .before .before .before .before .asked-at .ensures) (c .before .before .before .before .before .before .before .before .loop-test .taken) _ _ (c .before .before .before .before .before .signatures .given .1) _ (c .before .before .before .blank-end .ensures) _ (c .before .refusal .given .1))  -- returns-2
+    (λ c. let a = c .before .before .before .before .before .before .before .before .before .before .before .args in end-full (a .kind) (a .s .now) (c .before .before .before .before .before .before .before .before .before .loop .q) (c .before .before .before .before .before .before .before .before .before .loop .at) (a .most) (c .before .before .before .before .before .before .before .before .before .loop .left) _ (c .before .before .before .before .before .before .before .before .before .loop .inv .0) _ (c .before .before .before .before .before .before .before .asked-at .ensures) (c .before .before .before .before .before .before .before .before .loop-test .taken) _ _ (c .before .before .before .before .before .signatures .given .1) _ (c .before .before .before .blank-end .ensures) _ (c .before .refusal .given .1))  -- returns-2
     (λ c. search needs)  -- enum-known-m
     (λ c. search needs)  -- sub-left
     (λ c. search needs)  -- loop-less
-    (λ c. (end-on (c .before .before .before .before .before .before .before .before .before .before .before .args .kind) (c .before .before .before .before .before .before .before .before .before .before .before .args .s .now) (c .before .before .before .before .before .before .before .before .before .loop .q) (c .before .before .before .before .before .before .before .before .before .loop .at) (c .before .before .before .before .before .before .before .before .before .before .before .args .most) (c .before .before .before .before .before .before .before .before .before .loop .left) _ (c .before .before .before .before .before .before .before .before .before .loop .inv .0) _ (c .before .before .before .before .before .before .before .asked-at .ensures) (c .before .before .before .before .before .before .before .before .loop-test .taken) _ _ (c .before .before .before .before .before .signatures .given .1) _ (c .before .before .before .blank-end .ensures) _ (c .before .m .given .1), fitted-next _ _ _ _ (c .before .before .before .blank-end .ensures) _ (c .before .m .given .1) .1))  -- loop-again
-    (λ c. end-none (c .before .before .before .args .kind) (c .before .before .before .args .s .now) (c .before .loop .q) (c .before .loop .at) (c .before .before .before .args .most) (c .before .loop .left) _ (c .before .loop .inv .0) (omega arith) (omega arith)))  -- returns-3
+    (λ c. let a = c .before .before .before .before .before .before .before .before .before .before .before .args in (end-on (a .kind) (a .s .now) (c .before .before .before .before .before .before .before .before .before .loop .q) (c .before .before .before .before .before .before .before .before .before .loop .at) (a .most) (c .before .before .before .before .before .before .before .before .before .loop .left) _ (c .before .before .before .before .before .before .before .before .before .loop .inv .0) _ (c .before .before .before .before .before .before .before .asked-at .ensures) (c .before .before .before .before .before .before .before .before .loop-test .taken) _ _ (c .before .before .before .before .before .signatures .given .1) _ (c .before .before .before .blank-end .ensures) _ (c .before .m .given .1), fitted-next _ _ _ _ (c .before .before .before .blank-end .ensures) _ (c .before .m .given .1) .1))  -- loop-again
+    (λ c. let a = c .before .before .before .args in end-none (a .kind) (a .s .now) (c .before .loop .q) (c .before .loop .at) (a .most) (c .before .loop .left) _ (c .before .loop .inv .0) (omega arith) (omega arith)))  -- returns-3

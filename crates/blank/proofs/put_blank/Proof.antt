@@ -16,4 +16,4 @@ put-blank-spec =
     (λ c. search needs)  -- mul-put-zeros
     (λ c κs. search needs)  -- put-zeros-requires
     (λ c. search needs)  -- same-length
-    (λ c. blank-back (c .before .before .before .before .before .before .before .before .before .before .before .before .before .args .buf .now) _ _ _ (c .before .before .before .before .before .before .before .before .before .before .before .before .before .args .at) (c .before .before .before .before .before .before .before .before .before .before .before .before .before .args .kind) (c .before .before .before .before .before .before .before .before .before .before .before .before .before .args .count) (omega arith) (omega arith) (omega arith) (c .before .before .before .before .before .before .before .before .before .before .put-u32 .ensures) (c .before .before .before .before .before .before .put-u322 .ensures) (c .before .before .put-zeros .ensures)))  -- returns
+    (λ c. let a = c .before .before .before .before .before .before .before .before .before .before .before .before .before .args in blank-back (a .buf .now) _ _ _ (a .at) (a .kind) (a .count) (omega arith) (omega arith) (omega arith) (c .before .before .before .before .before .before .before .before .before .before .put-u32 .ensures) (c .before .before .before .before .before .before .put-u322 .ensures) (c .before .before .put-zeros .ensures)))  -- returns

@@ -19,20 +19,20 @@ put-blanks-spec =
     (tie.spec
     Inv-loop
     μ-loop
-    (λ c. writing-begins (c .before .args .buf .now) (c .before .args .end) (c .before .args .kind) (c .before .args .count) (c .before .args .first) (c .before .args .start) (c .before .pre))  -- loop-holds
+    (λ c. let a = c .before .args in writing-begins (a .buf .now) (a .end) (a .kind) (a .count) (a .first) (a .start) (c .before .pre))  -- loop-holds
     (λ c. search needs)  -- slice-reshare-prefix-asked-at
     (λ c. simp length-take (omega arith))  -- slice-aggregate-asked-at
     (λ c κs. search needs)  -- asked-at-requires
     (λ c. search needs)  -- enum-known-signatures
     (λ c. search needs)  -- enum-told
     (λ c. search needs)  -- same-length
-    (λ c. writing-stop (c .before .before .before .before .before .before .before .args .buf .now) (c .before .before .before .before .before .before .before .args .end) (c .before .before .before .before .before .before .before .args .kind) (c .before .before .before .before .before .before .before .args .count) (c .before .before .before .before .before .before .before .args .first) (c .before .before .before .before .before .before .before .args .start) (c .before .before .before .before .before .before .before .pre) (c .before .before .before .before .before .loop .buf) (c .before .before .before .before .before .loop .owed) (c .before .before .before .before .before .loop .q) (c .before .before .before .before .before .loop .at) (c .before .before .before .before .before .loop .inv) _ (c .before .before .asked-at .ensures) (c .before .before .before .before .loop-test .taken) _ (c .enum-told .given .1))  -- returns
-    (λ c κs. let e = writing-room (c .before .before .before .before .before .before .before .before .before .args .buf .now) (c .before .before .before .before .before .before .before .before .before .args .end) (c .before .before .before .before .before .before .before .before .before .args .kind) (c .before .before .before .before .before .before .before .before .before .args .count) (c .before .before .before .before .before .before .before .before .before .args .first) (c .before .before .before .before .before .before .before .before .before .args .start) (c .before .before .before .before .before .before .before .before .before .pre) (c .before .before .before .before .before .before .before .loop .buf) (c .before .before .before .before .before .before .before .loop .owed) (c .before .before .before .before .before .before .before .loop .q) (c .before .before .before .before .before .before .before .loop .at) (c .before .before .before .before .before .before .before .loop .inv) _ (c .before .before .before .before .asked-at .ensures) (c .before .before .before .before .before .before .loop-test .taken) _ _ (c .before .before .signatures .given .1) in (c .before .before .before .before .before .before .before .before .before .pre .type, omega arith, omega arith))  -- put-blank-requires
-    (λ c. omega (arith, writing-room (c .before .before .before .before .before .before .before .before .before .before .before .before .args .buf .now) (c .before .before .before .before .before .before .before .before .before .before .before .before .args .end) (c .before .before .before .before .before .before .before .before .before .before .before .before .args .kind) (c .before .before .before .before .before .before .before .before .before .before .before .before .args .count) (c .before .before .before .before .before .before .before .before .before .before .before .before .args .first) (c .before .before .before .before .before .before .before .before .before .before .before .before .args .start) (c .before .before .before .before .before .before .before .before .before .before .before .before .pre) (c .before .before .before .before .before .before .before .before .before .before .loop .buf) (c .before .before .before .before .before .before .before .before .before .before .loop .owed) (c .before .before .before .before .before .before .before .before .before .before .loop .q) (c .before .before .before .before .before .before .before .before .before .before .loop .at) (c .before .before .before .before .before .before .before .before .before .before .loop .inv) _ (c .before .before .before .before .before .before .before .asked-at .ensures) (c .before .before .before .before .before .before .before .before .before .loop-test .taken) _ _ (c .before .before .before .before .before .signatures .given .1)))  -- add-at
-    (λ c. omega (arith, writing-room (c .before .before .before .before .before .before .before .before .before .before .before .before .args .buf .now) (c .before .before .before .before .before .before .before .before .before .before .before .before .args .end) (c .before .before .before .before .before .before .before .before .before .before .before .before .args .kind) (c .before .before .before .before .before .before .before .before .before .before .before .before .args .count) (c .before .before .before .before .before .before .before .before .before .before .before .before .args .first) (c .before .before .before .before .before .before .before .before .before .before .before .before .args .start) (c .before .before .before .before .before .before .before .before .before .before .before .before .pre) (c .before .before .before .before .before .before .before .before .before .before .loop .buf) (c .before .before .before .before .before .before .before .before .before .before .loop .owed) (c .before .before .before .before .before .before .before .before .before .before .loop .q) (c .before .before .before .before .before .before .before .before .before .before .loop .at) (c .before .before .before .before .before .before .before .before .before .before .loop .inv) _ (c .before .before .before .before .before .before .before .asked-at .ensures) (c .before .before .before .before .before .before .before .before .before .loop-test .taken) _ _ (c .before .before .before .before .before .signatures .given .1)))  -- mul-at
-    (λ c. omega (arith, writing-room (c .before .before .before .before .before .before .before .before .before .before .before .before .args .buf .now) (c .before .before .before .before .before .before .before .before .before .before .before .before .args .end) (c .before .before .before .before .before .before .before .before .before .before .before .before .args .kind) (c .before .before .before .before .before .before .before .before .before .before .before .before .args .count) (c .before .before .before .before .before .before .before .before .before .before .before .before .args .first) (c .before .before .before .before .before .before .before .before .before .before .before .before .args .start) (c .before .before .before .before .before .before .before .before .before .before .before .before .pre) (c .before .before .before .before .before .before .before .before .before .before .loop .buf) (c .before .before .before .before .before .before .before .before .before .before .loop .owed) (c .before .before .before .before .before .before .before .before .before .before .loop .q) (c .before .before .before .before .before .before .before .before .before .before .loop .at) (c .before .before .before .before .before .before .before .before .before .before .loop .inv) _ (c .before .before .before .before .before .before .before .asked-at .ensures) (c .before .before .before .before .before .before .before .before .before .loop-test .taken) _ _ (c .before .before .before .before .before .signatures .given .1)))  -- add-at-2
+    (λ c. let a = c .before .before .before .before .before .before .before .args in writing-stop (a .buf .now) (a .end) (a .kind) (a .count) (a .first) (a .start) (c .before .before .before .before .before .before .before .pre) (c .before .before .before .before .before .loop .buf) (c .before .before .before .before .before .loop .owed) (c .before .before .before .before .before .loop .q) (c .before .before .before .before .before .loop .at) (c .before .before .before .before .before .loop .inv) _ (c .before .before .asked-at .ensures) (c .before .before .before .before .loop-test .taken) _ (c .enum-told .given .1))  -- returns
+    (λ c κs. let a = c .before .before .before .before .before .before .before .before .before .args in let e = writing-room (a .buf .now) (a .end) (a .kind) (a .count) (a .first) (a .start) (c .before .before .before .before .before .before .before .before .before .pre) (c .before .before .before .before .before .before .before .loop .buf) (c .before .before .before .before .before .before .before .loop .owed) (c .before .before .before .before .before .before .before .loop .q) (c .before .before .before .before .before .before .before .loop .at) (c .before .before .before .before .before .before .before .loop .inv) _ (c .before .before .before .before .asked-at .ensures) (c .before .before .before .before .before .before .loop-test .taken) _ _ (c .before .before .signatures .given .1) in (c .before .before .before .before .before .before .before .before .before .pre .type, omega arith, omega arith))  -- put-blank-requires
+    (λ c. let a = c .before .before .before .before .before .before .before .before .before .before .before .before .args in omega (arith, writing-room (a .buf .now) (a .end) (a .kind) (a .count) (a .first) (a .start) (c .before .before .before .before .before .before .before .before .before .before .before .before .pre) (c .before .before .before .before .before .before .before .before .before .before .loop .buf) (c .before .before .before .before .before .before .before .before .before .before .loop .owed) (c .before .before .before .before .before .before .before .before .before .before .loop .q) (c .before .before .before .before .before .before .before .before .before .before .loop .at) (c .before .before .before .before .before .before .before .before .before .before .loop .inv) _ (c .before .before .before .before .before .before .before .asked-at .ensures) (c .before .before .before .before .before .before .before .before .before .loop-test .taken) _ _ (c .before .before .before .before .before .signatures .given .1)))  -- add-at
+    (λ c. let a = c .before .before .before .before .before .before .before .before .before .before .before .before .args in omega (arith, writing-room (a .buf .now) (a .end) (a .kind) (a .count) (a .first) (a .start) (c .before .before .before .before .before .before .before .before .before .before .before .before .pre) (c .before .before .before .before .before .before .before .before .before .before .loop .buf) (c .before .before .before .before .before .before .before .before .before .before .loop .owed) (c .before .before .before .before .before .before .before .before .before .before .loop .q) (c .before .before .before .before .before .before .before .before .before .before .loop .at) (c .before .before .before .before .before .before .before .before .before .before .loop .inv) _ (c .before .before .before .before .before .before .before .asked-at .ensures) (c .before .before .before .before .before .before .before .before .before .loop-test .taken) _ _ (c .before .before .before .before .before .signatures .given .1)))  -- mul-at
+    (λ c. let a = c .before .before .before .before .before .before .before .before .before .before .before .before .args in omega (arith, writing-room (a .buf .now) (a .end) (a .kind) (a .count) (a .first) (a .start) (c .before .before .before .before .before .before .before .before .before .before .before .before .pre) (c .before .before .before .before .before .before .before .before .before .before .loop .buf) (c .before .before .before .before .before .before .before .before .before .before .loop .owed) (c .before .before .before .before .before .before .before .before .before .before .loop .q) (c .before .before .before .before .before .before .before .before .before .before .loop .at) (c .before .before .before .before .before .before .before .before .before .before .loop .inv) _ (c .before .before .before .before .before .before .before .asked-at .ensures) (c .before .before .before .before .before .before .before .before .before .loop-test .taken) _ _ (c .before .before .before .before .before .signatures .given .1)))  -- add-at-2
     (λ c. search needs)  -- sub-owed
     (λ c. search needs)  -- loop-less
-    (λ c. writing-on (c .before .before .before .before .before .before .before .before .before .before .before .before .args .buf .now) (c .before .before .before .before .before .before .before .before .before .before .before .before .args .end) (c .before .before .before .before .before .before .before .before .before .before .before .before .args .kind) (c .before .before .before .before .before .before .before .before .before .before .before .before .args .count) (c .before .before .before .before .before .before .before .before .before .before .before .before .args .first) (c .before .before .before .before .before .before .before .before .before .before .before .before .args .start) (c .before .before .before .before .before .before .before .before .before .before .before .before .pre) (c .before .before .before .before .before .before .before .before .before .before .loop .buf) (c .before .before .before .before .before .before .before .before .before .before .loop .owed) (c .before .before .before .before .before .before .before .before .before .before .loop .q) (c .before .before .before .before .before .before .before .before .before .before .loop .at) (c .before .before .before .before .before .before .before .before .before .before .loop .inv) _ (c .before .before .before .before .before .before .before .asked-at .ensures) (c .before .before .before .before .before .before .before .before .before .loop-test .taken) _ _ (c .before .before .before .before .before .signatures .given .1) _ _ (c .before .before .put-blank .ensures) refl)  -- loop-again
+    (λ c. let a = c .before .before .before .before .before .before .before .before .before .before .before .before .args in writing-on (a .buf .now) (a .end) (a .kind) (a .count) (a .first) (a .start) (c .before .before .before .before .before .before .before .before .before .before .before .before .pre) (c .before .before .before .before .before .before .before .before .before .before .loop .buf) (c .before .before .before .before .before .before .before .before .before .before .loop .owed) (c .before .before .before .before .before .before .before .before .before .before .loop .q) (c .before .before .before .before .before .before .before .before .before .before .loop .at) (c .before .before .before .before .before .before .before .before .before .before .loop .inv) _ (c .before .before .before .before .before .before .before .asked-at .ensures) (c .before .before .before .before .before .before .before .before .before .loop-test .taken) _ _ (c .before .before .before .before .before .signatures .given .1) _ _ (c .before .before .put-blank .ensures) refl)  -- loop-again
     (λ c. search needs)  -- same-length-2
-    (λ c. writing-none (c .before .before .before .args .buf .now) (c .before .before .before .args .end) (c .before .before .before .args .kind) (c .before .before .before .args .count) (c .before .before .before .args .first) (c .before .before .before .args .start) (c .before .before .before .pre) (c .before .loop .buf) (c .before .loop .owed) (c .before .loop .q) (c .before .loop .at) (c .before .loop .inv) (omega arith)))  -- returns-2
+    (λ c. let a = c .before .before .before .args in writing-none (a .buf .now) (a .end) (a .kind) (a .count) (a .first) (a .start) (c .before .before .before .pre) (c .before .loop .buf) (c .before .loop .owed) (c .before .loop .q) (c .before .loop .at) (c .before .loop .inv) (omega arith)))  -- returns-2

@@ -10,11 +10,11 @@ put-closing-spec =
     tie.close
     (tie.spec
     (λ c κs. search needs)  -- own-wants-requires
-    (λ c. omega (arith, count-small (c .before .before .before .args .layout) (c .before .before .before .args .buf .now) (c .before .before .before .args .at) _ (c .before .before .before .pre) (c .before .own-wants .ensures)))  -- add-put-u32
+    (λ c. let a = c .before .before .before .args in omega (arith, count-small (a .layout) (a .buf .now) (a .at) _ (c .before .before .before .pre) (c .before .own-wants .ensures)))  -- add-put-u32
     (λ c κs. search needs)  -- put-u32-requires
     (λ c. search needs)  -- add-put-blanks
-    (λ c κs. closing-inputs (c .before .before .before .before .before .before .before .args .layout) (c .before .before .before .before .before .before .before .args .buf .now) (c .before .before .before .before .before .before .before .args .at) _ (c .before .before .before .before .before .before .before .pre) (c .before .before .before .before .before .own-wants .ensures) _ (c .before .before .before .put-u32 .ensures))  -- put-blanks-requires
+    (λ c κs. let a = c .before .before .before .before .before .before .before .args in closing-inputs (a .layout) (a .buf .now) (a .at) _ (c .before .before .before .before .before .before .before .pre) (c .before .before .before .before .before .own-wants .ensures) _ (c .before .before .before .put-u32 .ensures))  -- put-blanks-requires
     (λ c κs. search needs)  -- own-type-requires
-    (λ c κs. closing-own (c .before .before .before .before .before .before .before .before .before .before .before .before .args .layout) (c .before .before .before .before .before .before .before .before .before .before .before .before .args .buf .now) (c .before .before .before .before .before .before .before .before .before .before .before .before .args .at) _ (c .before .before .before .before .before .before .before .before .before .before .before .before .pre) (c .before .before .before .before .before .before .before .before .before .before .own-wants .ensures) _ (c .before .before .before .before .before .before .before .before .put-u32 .ensures) _ _ (c .before .before .before .before .put-blanks .ensures .0) (c .before .before .before .before .put-blanks .ensures .1) _ (c .own-type .ensures))  -- put-blanks-requires-2
+    (λ c κs. let a = c .before .before .before .before .before .before .before .before .before .before .before .before .args in closing-own (a .layout) (a .buf .now) (a .at) _ (c .before .before .before .before .before .before .before .before .before .before .before .before .pre) (c .before .before .before .before .before .before .before .before .before .before .own-wants .ensures) _ (c .before .before .before .before .before .before .before .before .put-u32 .ensures) _ _ (c .before .before .before .before .put-blanks .ensures .0) (c .before .before .before .before .put-blanks .ensures .1) _ (c .own-type .ensures))  -- put-blanks-requires-2
     (λ c. search needs)  -- same-length
-    (λ c. closing-written (c .before .before .before .before .before .before .before .before .before .before .before .before .before .before .before .args .layout) (c .before .before .before .before .before .before .before .before .before .before .before .before .before .before .before .args .buf .now) (c .before .before .before .before .before .before .before .before .before .before .before .before .before .before .before .args .at) _ (c .before .before .before .before .before .before .before .before .before .before .before .before .before .before .before .pre) (c .before .before .before .before .before .before .before .before .before .before .before .before .before .own-wants .ensures) _ (c .before .before .before .before .before .before .before .before .before .before .before .put-u32 .ensures) _ _ (c .before .before .before .before .before .before .before .put-blanks .ensures .0) (c .before .before .before .before .before .before .before .put-blanks .ensures .1) _ (c .before .before .before .own-type .ensures) _ (c .before .before .put-blanks2 .ensures .1)))  -- returns
+    (λ c. let a = c .before .before .before .before .before .before .before .before .before .before .before .before .before .before .before .args in closing-written (a .layout) (a .buf .now) (a .at) _ (c .before .before .before .before .before .before .before .before .before .before .before .before .before .before .before .pre) (c .before .before .before .before .before .before .before .before .before .before .before .before .before .own-wants .ensures) _ (c .before .before .before .before .before .before .before .before .before .before .before .put-u32 .ensures) _ _ (c .before .before .before .before .before .before .before .put-blanks .ensures .0) (c .before .before .before .before .before .before .before .put-blanks .ensures .1) _ (c .before .before .before .own-type .ensures) _ (c .before .before .put-blanks2 .ensures .1)))  -- returns

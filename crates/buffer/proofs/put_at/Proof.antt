@@ -17,4 +17,4 @@ put-at-spec =
     (λ c. search needs)  -- part-put-bytes-end
     (λ c κs. search needs)  -- put-bytes-requires
     (λ c. search needs)  -- same-length
-    (λ c. lent-bytes (c .before .before .before .before .before .before .args .buf .now) _ (c .before .before .before .before .before .before .args .from .now) (c .before .before .before .before .before .before .args .at) (c .before .before .before .before .before .before .args .at + length (c .before .before .before .before .before .before .args .from .now)) (c .before .before .put-bytes .ensures) (omega arith) (omega (arith, c .before .before .before .before .before .before .pre))))  -- returns
+    (λ c. let a = c .before .before .before .before .before .before .args in lent-bytes (a .buf .now) _ (a .from .now) (a .at) (a .at + length (a .from .now)) (c .before .before .put-bytes .ensures) (omega arith) (omega (arith, c .before .before .before .before .before .before .pre))))  -- returns

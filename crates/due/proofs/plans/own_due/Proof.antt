@@ -9,12 +9,12 @@ own-due-spec =
     tie.close
     (tie.spec
     (λ c κs. search needs)  -- base-due-requires
-    (λ c. of-kind _ (c .before .before .args .part) (c .before .before .args .kind) 0 (c .before .if1 .taken) (c .base-due .ensures))  -- returns
+    (λ c. let a = c .before .before .args in of-kind _ (a .part) (a .kind) 0 (c .before .if1 .taken) (c .base-due .ensures))  -- returns
     (λ c κs. search needs)  -- asset-due-requires
-    (λ c. of-kind _ (c .before .before .before .args .part) (c .before .before .before .args .kind) 1 (c .before .if2 .taken) (c .asset-due .ensures))  -- returns-2
+    (λ c. let a = c .before .before .before .args in of-kind _ (a .part) (a .kind) 1 (c .before .if2 .taken) (c .asset-due .ensures))  -- returns-2
     (λ c κs. search needs)  -- operation-due-requires
-    (λ c. of-kind _ (c .before .before .before .before .args .part) (c .before .before .before .before .args .kind) 2 (c .before .if3 .taken) (c .operation-due .ensures))  -- returns-3
+    (λ c. let a = c .before .before .before .before .args in of-kind _ (a .part) (a .kind) 2 (c .before .if3 .taken) (c .operation-due .ensures))  -- returns-3
     (λ c κs. search needs)  -- import-due-requires
-    (λ c. of-kind _ (c .before .before .before .before .before .args .part) (c .before .before .before .before .before .args .kind) 3 (c .before .if4 .taken) (c .import-due .ensures))  -- returns-4
+    (λ c. let a = c .before .before .before .before .before .args in of-kind _ (a .part) (a .kind) 3 (c .before .if4 .taken) (c .import-due .ensures))  -- returns-4
     (λ c κs. search needs)  -- export-due-requires
-    (λ c. of-export _ (c .before .before .before .before .before .args .part) (c .before .before .before .before .before .args .kind) (c .before .before .before .before .if1 .left) (c .before .before .before .if2 .left) (c .before .before .if3 .left) (c .before .if4 .left) (c .export-due .ensures)))  -- returns-5
+    (λ c. let a = c .before .before .before .before .before .args in of-export _ (a .part) (a .kind) (c .before .before .before .before .if1 .left) (c .before .before .before .if2 .left) (c .before .before .if3 .left) (c .before .if4 .left) (c .export-due .ensures)))  -- returns-5

@@ -20,15 +20,15 @@ state-rules-spec =
     (λ c κs. search needs)  -- u32-at-requires
     (λ c. search needs)  -- enum-known-fx
     (λ c. search needs)  -- enum-told
-    (λ c. on-fx-short (c .before .before .before .before .before .args .bytes .now) 0 _ _ _ _ (c .before .before .u32-at .ensures) _ (c .enum-told .given .1) (cutAt 4 (c .before .before .before .before .before .args .bytes .now) 0) refl refl)  -- returns
+    (λ c. let a = c .before .before .before .before .before .args in on-fx-short (a .bytes .now) 0 _ _ _ _ (c .before .before .u32-at .ensures) _ (c .enum-told .given .1) (cutAt 4 (a .bytes .now) 0) refl refl)  -- returns
     (λ c. on-fx-unknown (c .before .before .before .before .before .before .before .args .bytes .now) 0 _ _ _ _ (c .before .before .before .before .u32-at .ensures) _ _ (c .before .before .fx .given .1) (c .if1 .taken) refl)  -- returns-2
     (λ c κs. search needs)  -- between-requires
     (λ c κs. search needs)  -- between-requires-2
     (λ c κs. search needs)  -- is-below-requires
     (λ c κs. search needs)  -- state-outputs-at-requires
     (λ c. search needs)  -- enum-known-refusal
-    (λ c. on-fx (c .before .before .before .before .before .before .before .before .before .before .before .before .before .before .before .args .bytes .now) 0 _ _ _ _ (c .before .before .before .before .before .before .before .before .before .before .before .before .u32-at .ensures) _ _ (c .before .before .before .before .before .before .before .before .before .before .fx .given .1) (c .before .before .before .before .before .before .before .before .if1 .left) (if-after (c .before .before .before .before .before .before .before .before .before .before .before .before .before .before .before .args .last .now) (c .before .before .before .before .before .before .before .before .before .before .before .before .before .before .before .args .bytes .now) (c .before .before .before .before .before .before .before .before .before .before .before .before .before .shared-slice-known2 .given) _ (c .before .before .before .before .before .before .before .before .before .before .before .before .u32-at .ensures) _ _ (c .before .before .before .before .before .before .before .before .before .before .fx .given .1) (c .before .before .before .before .before .before .before .before .if1 .left) _ _ _ (c .before .before .before .before .before .before .before .between .ensures) (c .before .before .before .before .before .before .between2 .ensures) (c .before .before .before .before .before .is-below .ensures) _ _ _ (c .before .before .before .before .if2 .taken) (on-state-outputs-refused _ (c .before .before .before .before .before .before .before .before .before .before .before .before .before .before .before .args .bytes .now) _ _ _ _ _ _ (c .before .before .before .state-outputs-at .ensures) (c .before .refusal .given .1) refl)))  -- returns-3
+    (λ c. let a = c .before .before .before .before .before .before .before .before .before .before .before .before .before .before .before .args in on-fx (a .bytes .now) 0 _ _ _ _ (c .before .before .before .before .before .before .before .before .before .before .before .before .u32-at .ensures) _ _ (c .before .before .before .before .before .before .before .before .before .before .fx .given .1) (c .before .before .before .before .before .before .before .before .if1 .left) (if-after (a .last .now) (a .bytes .now) (c .before .before .before .before .before .before .before .before .before .before .before .before .before .shared-slice-known2 .given) _ (c .before .before .before .before .before .before .before .before .before .before .before .before .u32-at .ensures) _ _ (c .before .before .before .before .before .before .before .before .before .before .fx .given .1) (c .before .before .before .before .before .before .before .before .if1 .left) _ _ _ (c .before .before .before .before .before .before .before .between .ensures) (c .before .before .before .before .before .before .between2 .ensures) (c .before .before .before .before .before .is-below .ensures) _ _ _ (c .before .before .before .before .if2 .taken) (on-state-outputs-refused _ (a .bytes .now) _ _ _ _ _ _ (c .before .before .before .state-outputs-at .ensures) (c .before .refusal .given .1) refl)))  -- returns-3
     (λ c. search needs)  -- enum-known-end
-    (λ c. on-fx (c .before .before .before .before .before .before .before .before .before .before .before .before .before .before .before .before .args .bytes .now) 0 _ _ _ _ (c .before .before .before .before .before .before .before .before .before .before .before .before .before .u32-at .ensures) _ _ (c .before .before .before .before .before .before .before .before .before .before .before .fx .given .1) (c .before .before .before .before .before .before .before .before .before .if1 .left) (if-after (c .before .before .before .before .before .before .before .before .before .before .before .before .before .before .before .before .args .last .now) (c .before .before .before .before .before .before .before .before .before .before .before .before .before .before .before .before .args .bytes .now) (c .before .before .before .before .before .before .before .before .before .before .before .before .before .before .shared-slice-known2 .given) _ (c .before .before .before .before .before .before .before .before .before .before .before .before .before .u32-at .ensures) _ _ (c .before .before .before .before .before .before .before .before .before .before .before .fx .given .1) (c .before .before .before .before .before .before .before .before .before .if1 .left) _ _ _ (c .before .before .before .before .before .before .before .before .between .ensures) (c .before .before .before .before .before .before .before .between2 .ensures) (c .before .before .before .before .before .before .is-below .ensures) _ _ _ (c .before .before .before .before .before .if2 .taken) (on-state-outputs _ (c .before .before .before .before .before .before .before .before .before .before .before .before .before .before .before .before .args .bytes .now) _ _ _ _ _ _ (c .before .before .before .before .state-outputs-at .ensures) (c .before .before .end .given .1) (λ v. if-eq _ (length (c .before .before .before .before .before .before .before .before .before .before .before .before .before .before .before .before .args .bytes .now)) _ _ _ (c .if3 .taken) refl))))  -- returns-4
-    (λ c. on-fx (c .before .before .before .before .before .before .before .before .before .before .before .before .before .before .before .before .args .bytes .now) 0 _ _ _ _ (c .before .before .before .before .before .before .before .before .before .before .before .before .before .u32-at .ensures) _ _ (c .before .before .before .before .before .before .before .before .before .before .before .fx .given .1) (c .before .before .before .before .before .before .before .before .before .if1 .left) (if-after (c .before .before .before .before .before .before .before .before .before .before .before .before .before .before .before .before .args .last .now) (c .before .before .before .before .before .before .before .before .before .before .before .before .before .before .before .before .args .bytes .now) (c .before .before .before .before .before .before .before .before .before .before .before .before .before .before .shared-slice-known2 .given) _ (c .before .before .before .before .before .before .before .before .before .before .before .before .before .u32-at .ensures) _ _ (c .before .before .before .before .before .before .before .before .before .before .before .fx .given .1) (c .before .before .before .before .before .before .before .before .before .if1 .left) _ _ _ (c .before .before .before .before .before .before .before .before .between .ensures) (c .before .before .before .before .before .before .before .between2 .ensures) (c .before .before .before .before .before .before .is-below .ensures) _ _ _ (c .before .before .before .before .before .if2 .taken) (on-state-outputs _ (c .before .before .before .before .before .before .before .before .before .before .before .before .before .before .before .before .args .bytes .now) _ _ _ _ _ _ (c .before .before .before .before .state-outputs-at .ensures) (c .before .before .end .given .1) (λ v. if-ne _ (length (c .before .before .before .before .before .before .before .before .before .before .before .before .before .before .before .before .args .bytes .now)) _ _ _ (c .if3 .left) refl))))  -- returns-5
-    (λ c. on-fx (c .before .before .before .before .before .before .before .before .before .before .before .args .bytes .now) 0 _ _ _ _ (c .before .before .before .before .before .before .before .before .u32-at .ensures) _ _ (c .before .before .before .before .before .before .fx .given .1) (c .before .before .before .before .if1 .left) (if-not-after (c .before .before .before .before .before .before .before .before .before .before .before .args .last .now) (c .before .before .before .before .before .before .before .before .before .before .before .args .bytes .now) (c .before .before .before .before .before .before .before .before .before .shared-slice-known2 .given) _ (c .before .before .before .before .before .before .before .before .u32-at .ensures) _ _ (c .before .before .before .before .before .before .fx .given .1) (c .before .before .before .before .if1 .left) _ _ _ (c .before .before .before .between .ensures) (c .before .before .between2 .ensures) (c .before .is-below .ensures) _ _ _ (c .if2 .left) refl)))  -- returns-6
+    (λ c. let a = c .before .before .before .before .before .before .before .before .before .before .before .before .before .before .before .before .args in on-fx (a .bytes .now) 0 _ _ _ _ (c .before .before .before .before .before .before .before .before .before .before .before .before .before .u32-at .ensures) _ _ (c .before .before .before .before .before .before .before .before .before .before .before .fx .given .1) (c .before .before .before .before .before .before .before .before .before .if1 .left) (if-after (a .last .now) (a .bytes .now) (c .before .before .before .before .before .before .before .before .before .before .before .before .before .before .shared-slice-known2 .given) _ (c .before .before .before .before .before .before .before .before .before .before .before .before .before .u32-at .ensures) _ _ (c .before .before .before .before .before .before .before .before .before .before .before .fx .given .1) (c .before .before .before .before .before .before .before .before .before .if1 .left) _ _ _ (c .before .before .before .before .before .before .before .before .between .ensures) (c .before .before .before .before .before .before .before .between2 .ensures) (c .before .before .before .before .before .before .is-below .ensures) _ _ _ (c .before .before .before .before .before .if2 .taken) (on-state-outputs _ (a .bytes .now) _ _ _ _ _ _ (c .before .before .before .before .state-outputs-at .ensures) (c .before .before .end .given .1) (λ v. if-eq _ (length (a .bytes .now)) _ _ _ (c .if3 .taken) refl))))  -- returns-4
+    (λ c. let a = c .before .before .before .before .before .before .before .before .before .before .before .before .before .before .before .before .args in on-fx (a .bytes .now) 0 _ _ _ _ (c .before .before .before .before .before .before .before .before .before .before .before .before .before .u32-at .ensures) _ _ (c .before .before .before .before .before .before .before .before .before .before .before .fx .given .1) (c .before .before .before .before .before .before .before .before .before .if1 .left) (if-after (a .last .now) (a .bytes .now) (c .before .before .before .before .before .before .before .before .before .before .before .before .before .before .shared-slice-known2 .given) _ (c .before .before .before .before .before .before .before .before .before .before .before .before .before .u32-at .ensures) _ _ (c .before .before .before .before .before .before .before .before .before .before .before .fx .given .1) (c .before .before .before .before .before .before .before .before .before .if1 .left) _ _ _ (c .before .before .before .before .before .before .before .before .between .ensures) (c .before .before .before .before .before .before .before .between2 .ensures) (c .before .before .before .before .before .before .is-below .ensures) _ _ _ (c .before .before .before .before .before .if2 .taken) (on-state-outputs _ (a .bytes .now) _ _ _ _ _ _ (c .before .before .before .before .state-outputs-at .ensures) (c .before .before .end .given .1) (λ v. if-ne _ (length (a .bytes .now)) _ _ _ (c .if3 .left) refl))))  -- returns-5
+    (λ c. let a = c .before .before .before .before .before .before .before .before .before .before .before .args in on-fx (a .bytes .now) 0 _ _ _ _ (c .before .before .before .before .before .before .before .before .u32-at .ensures) _ _ (c .before .before .before .before .before .before .fx .given .1) (c .before .before .before .before .if1 .left) (if-not-after (a .last .now) (a .bytes .now) (c .before .before .before .before .before .before .before .before .before .shared-slice-known2 .given) _ (c .before .before .before .before .before .before .before .before .u32-at .ensures) _ _ (c .before .before .before .before .before .before .fx .given .1) (c .before .before .before .before .if1 .left) _ _ _ (c .before .before .before .between .ensures) (c .before .before .between2 .ensures) (c .before .is-below .ensures) _ _ _ (c .if2 .left) refl)))  -- returns-6

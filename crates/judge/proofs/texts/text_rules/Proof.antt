@@ -12,5 +12,5 @@ text-rules-spec =
     (λ c. search tests depth 8)  -- returns
     (λ c. search tests depth 8)  -- returns-2
     (λ c κs. search needs)  -- first-unprintable-requires
-    (λ c. text-fine (c .before .before .before .before .before .args .most) (c .before .before .before .before .before .args .bytes .now) _ (c .before .first-unprintable .ensures) (c .before .before .before .if1 .left) (c .before .before .if2 .left) (c .if3 .taken))  -- returns-3
-    (λ c. text-unprintable (c .before .before .before .before .before .args .most) (c .before .before .before .before .before .args .bytes .now) _ (c .before .first-unprintable .ensures) (c .before .before .before .if1 .left) (c .before .before .if2 .left) (c .if3 .left)))  -- returns-4
+    (λ c. let a = c .before .before .before .before .before .args in text-fine (a .most) (a .bytes .now) _ (c .before .first-unprintable .ensures) (c .before .before .before .if1 .left) (c .before .before .if2 .left) (c .if3 .taken))  -- returns-3
+    (λ c. let a = c .before .before .before .before .before .args in text-unprintable (a .most) (a .bytes .now) _ (c .before .first-unprintable .ensures) (c .before .before .before .if1 .left) (c .before .before .if2 .left) (c .if3 .left)))  -- returns-4

@@ -14,11 +14,11 @@ put-field-spec =
     tie.close
     (tie.spec
     (λ c κs. search needs)  -- field-at-requires
-    (λ c. omega (arith, phase-small (c .before .before .before .before .before .before .args .w .kind) (c .before .before .before .before .before .before .args .w .phase) (isField (c .before .before .before .before .before .before .args .segment)) refl (sym (c .before .before .field-at .ensures) ∙ c .before .if1 .taken)))  -- add-phase
+    (λ c. let a = c .before .before .before .before .before .before .args in omega (arith, phase-small (a .w .kind) (a .w .phase) (isField (a .segment)) refl (sym (c .before .before .field-at .ensures) ∙ c .before .if1 .taken)))  -- add-phase
     (λ c κs. search needs)  -- list-at-requires
     (λ c κs. search needs)  -- entered-requires
     (λ c κs. search needs)  -- settle-requires
     (λ c. search needs)  -- same-length
-    (λ c. field-named (c .before .before .before .before .before .before .before .before .before .before .before .before .args .w) (c .before .before .before .before .before .before .before .before .before .before .before .before .args .buf .now) (c .before .before .before .before .before .before .before .before .before .before .before .before .args .segment) (c .before .before .before .before .before .before .before .before .before .before .before .before .args .rules) (c .before .before .before .before .before .before .before .before .before .before .before .before .args .first .now ++ c .before .before .before .before .before .before .before .before .before .before .before .before .args .second .now) _ (c .before .before .before .before .before .before .before .before .field-at .ensures) (c .before .before .before .before .before .before .before .if1 .taken) _ (c .before .before .before .before .before .list-at .ensures) _ (c .before .before .before .before .entered .ensures) _ _ (c .before .before .settle .ensures))  -- returns
+    (λ c. let a = c .before .before .before .before .before .before .before .before .before .before .before .before .args in field-named (a .w) (a .buf .now) (a .segment) (a .rules) (a .first .now ++ a .second .now) _ (c .before .before .before .before .before .before .before .before .field-at .ensures) (c .before .before .before .before .before .before .before .if1 .taken) _ (c .before .before .before .before .before .list-at .ensures) _ (c .before .before .before .before .entered .ensures) _ _ (c .before .before .settle .ensures))  -- returns
     (λ c κs. search needs)  -- refused-requires
-    (λ c. no-field (c .before .before .before .before .before .before .args .w) (c .before .before .before .before .before .before .args .buf .now) (c .before .before .before .before .before .before .args .segment) (c .before .before .before .before .before .before .args .rules) (c .before .before .before .before .before .before .args .first .now ++ c .before .before .before .before .before .before .args .second .now) _ (c .before .before .field-at .ensures) (c .before .if1 .left) _ (c .refused .ensures)))  -- returns-2
+    (λ c. let a = c .before .before .before .before .before .before .args in no-field (a .w) (a .buf .now) (a .segment) (a .rules) (a .first .now ++ a .second .now) _ (c .before .before .field-at .ensures) (c .before .if1 .left) _ (c .refused .ensures)))  -- returns-2
