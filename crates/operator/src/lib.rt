@@ -1,0 +1,17 @@
+// The functions that the operator's command calls beside those of the phone program.
+ghost use mathlib.Core.Path.{_≡_};
+ghost use Rattle.table.specs.Table.{tabled};
+ghost use Rattle.operator.specs.Listing.{listing, listed};
+use table::Tabled;
+
+// The check with a lent table. How many rows were written; or number × 2^32 + place.
+#[no_mangle]
+pub extern "C" fn cellfacet_rows(bytes: &[u8], table: &mut [u32]) -> u64
+    ensures { λ r. ⌜ listing r (now (table .exit)) ≡ listed (tabled (now (bytes .entry)) (now (table .entry))) ⌝ }
+{
+    match table::rows::check_table(bytes, table) {
+        Tabled::Listed(rows, _) => (rows % 4294967296) as u64,
+        Tabled::Refused(refusal) => refusal.number as u64 * 4294967296
+            + (refusal.place % 4294967296) as u64,
+    }
+}
