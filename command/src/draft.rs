@@ -31,7 +31,8 @@ impl Draft<'_> {
 
 /// The merge of all of the files, of which there is at least one; or why there is none.
 pub fn merged(files: &[OsString]) -> Result<Vec<u8>, String> {
-    let drafts: Result<Vec<_>, _> = files.iter().map(|file| Draft::read(file.as_ref())).collect();
+    let drafts: Result<Vec<_>, _> =
+        files.iter().map(|file| Draft::read(file.as_ref())).collect();
     let drafts = drafts?;
     let mut merged = drafts[0].bytes.clone();
     let mut room = vec![0; merged.len()];
