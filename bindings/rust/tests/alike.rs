@@ -1,11 +1,14 @@
 //! The bindings answer as the independent program does, and as the header says.
 #![allow(missing_docs)]
 
+use std::collections::BTreeSet;
+
 use cellfacet::{Reason, Slot};
 use cellfacet_tests::draft;
 use cellfacet_tests::generate::damage::damaged;
 use cellfacet_tests::generate::valid::transaction;
-use cellfacet_tests::generate::Random;
+use cellfacet_tests::generate::{Kind, Random, Requests};
+use cellfacet_tests::lines::unhex;
 
 const SEED: u64 = 20_251_116;
 const COUNT: usize = 2_000;
@@ -55,6 +58,25 @@ fn slots_alike(bytes: &[u8]) {
         let held = draft::fill(&mut bytes.to_vec(), number, &ones).is_err();
         assert_eq!(filled, held || bytes[place..].starts_with(&ones));
     }
+}
+
+#[test]
+fn random_merges() {
+    let mut met = BTreeSet::new();
+    for request in Requests::new(SEED, vec![Kind::Merge]).take(COUNT) {
+        let words: Vec<&str> = request.split(' ').collect();
+        let ["merge", first, second, room] = words[..] else {
+            continue;
+        };
+        let (first, second) = (unhex(first).expect("hex"), unhex(second).expect("hex"));
+        let room: usize = room.parse().expect("a number");
+        let (mut out, mut buffer) = (vec![0xa5; room], vec![0xa5; room]);
+        let answer = shown(cellfacet::merge(&first, &second, &mut out));
+        assert_eq!(answer, expected(draft::merge(&first, &second, &mut buffer)), "{request}");
+        assert_eq!(out, buffer, "{request}");
+        met.insert(answer.0);
+    }
+    assert_eq!(met, BTreeSet::from([0, 14, 17, 18, 19, 20]));
 }
 
 #[test]
