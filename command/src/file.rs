@@ -24,8 +24,7 @@ pub fn replace(path: &Path, bytes: &[u8]) -> io::Result<()> {
         _ => Path::new("."),
     };
     let opened = File::open(folder)?;
-    let beside = folder.join(format!(".cellfacet-{}", process::id()));
-    let file = OpenOptions::new().write(true).create_new(true).open(&beside)?;
+    let (beside, file) = beside(folder)?;
     let written = write(file, bytes, &target).and_then(|()| fs::rename(&beside, &target));
     if let Err(error) = written {
         // The error that is told is the first one.
@@ -43,6 +42,18 @@ fn target(path: &Path) -> io::Result<PathBuf> {
         Ok(_) => Err(io::Error::other("not a regular file")),
         Err(error) if error.kind() == ErrorKind::NotFound => Ok(path.to_path_buf()),
         Err(error) => Err(error),
+    }
+}
+
+/// A new file in a folder, under a name that was free.
+fn beside(folder: &Path) -> io::Result<(PathBuf, File)> {
+    let mut turn = 0;
+    loop {
+        let path = folder.join(format!(".cellfacet-{}-{turn}", process::id()));
+        match OpenOptions::new().write(true).create_new(true).open(&path) {
+            Err(error) if error.kind() == ErrorKind::AlreadyExists => turn += 1,
+            opened => return opened.map(|file| (path, file)),
+        }
     }
 }
 

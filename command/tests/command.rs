@@ -224,6 +224,22 @@ fn merge_to_what_cannot_be_written() {
     assert_eq!(folder.names(), before, "nothing else is left");
 }
 
+/// A limit on the size of files ends the command when it writes.
+#[cfg(unix)]
+#[test]
+fn a_crash_while_writing_leaves_the_file() {
+    let folder = Folder::new("merge-crash");
+    folder.put("out", b"kept");
+    let line = "ulimit -f 0 && exec \"$0\" merge out first second";
+    let mut shell = Command::new("sh");
+    shell.args(["-c", line, env!("CARGO_BIN_EXE_cellfacet")]).current_dir(&folder.0);
+    let output = shell.output().expect("a shell");
+    assert_eq!(output.status.code(), None, "ended by a signal");
+    assert_eq!(folder.get("out"), b"kept");
+    folder.says("merge out first second", "out: 392 bytes, 2 of 2 slots filled\n");
+    assert_eq!(folder.get("out"), CASE_A);
+}
+
 #[cfg(unix)]
 #[test]
 fn merge_keeps_permissions_and_follows_links() {
