@@ -16,7 +16,6 @@ use Rattle.element.specs.declared.OperationRead.{OperationRead}
 use Rattle.element.specs.declared.OperationRead.the-variants as P
 use Rattle.transaction.specs.declared.Entry.{Entry}
 use Rattle.transaction.specs.declared.Entry.the-variants as E
-use Rattle.table.proofs.Walking.{on-number-refused}
 use Rattle.table.specs.declared.Row.{Row}
 use Rattle.entry.specs.Entry.{missingEntry}
 use Rattle.entry.specs.Typed.{onOutput, onInput, onOperation, assetAt, txidAt, onTyped}
@@ -57,4 +56,4 @@ module _ (x y : Typed) (p : x ≡ y) (s : List ℕ) (k : ℕ) (r : Row) where
 
 pub ruleset typing = (typed-output, no-output, typed-input, no-input, typed-operation, no-operation, row-missing, row-typed, W.if-eq, W.if-ne)
 
-pub ruleset passing = (W.on-value, W.on-short, on-number-refused, W.on-part, W.on-cut, W.on-part-refused, W.tests)
+pub ruleset passing = (W.on-value, W.on-short, W.on-number-refused, W.on-part, W.on-cut, W.on-part-refused, W.tests)

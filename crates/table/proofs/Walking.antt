@@ -1,16 +1,9 @@
 -- The steps of the walk, where it is known what the code found. Assumes nothing.
 use Prim.Native.Nat.{ℕ}
-use mathlib.Core.Path.{_≡_, sym, ap, _∙_}
+use mathlib.Core.Path.{_≡_, ap}
 use mathlib.Core.List.{List}
 use lib.Dec.{eqb}
 use borrow.Author.Tests.{ne-eqb}
-use Rattle.wire.specs.declared.Refusal.{Refusal}
-use Rattle.wire.specs.declared.Number.{Number}
-use Rattle.wire.specs.declared.Number.the-variants as N
-use Rattle.wire.specs.Format.{read}
-use Rattle.wire.specs.Fields.{number}
-use Rattle.wire.specs.Answer.{valued}
-use Rattle.wire.proofs.Bytes.{found}
 use Rattle.wire.proofs.Reading as W
 use Rattle.element.specs.Operations.{secpFx, nftFx, fxOf, fxOutputs}
 use Rattle.element.specs.Answer.{outputAt}
@@ -24,12 +17,6 @@ use Rattle.table.specs.declared.Cursor.{Cursor}
 use Rattle.table.specs.declared.Row.{Row}
 use Rattle.table.specs.declared.Step.{Step}
 use Rattle.table.specs.declared.Step.the-variants as T
-
--- a number that is not there, whatever its refusal
-pub on-number-refused : {R : Type 0} (k : ℕ) (s : List ℕ) (at : ℕ) (z : R) (stop : Refusal → R) (go : ℕ → ℕ → R) (x : Number) (e : Refusal)
-    → x ≡ valued (number k) s at → x ≡ N.Refused e → z ≡ stop e → z ≡ number k .run s at stop go
-on-number-refused k s at z stop go x e p q r =
-    r ∙ sym (W.run-refused (number k) s at stop go e (W.number-refused-inv (read (number k) s at) e (sym (number k .same s at N.Refused N.Value) ∙ found p q)))
 
 pub found-made : (r : Row) (c d : Cursor) → c ≡ d → T.Found r c ≡ T.Found r d
 found-made r c d e = ap (T.Found r) e
@@ -50,6 +37,6 @@ by-kind k j left fx inner s at w z h e = rw h e
 pub by-stage : (t u : Stage) (at left fx inner : ℕ) (w : Layout) (s : List ℕ) (z : Step) → t ≡ u → z ≡ stepIn u at left fx inner w s → z ≡ stepIn t at left fx inner w s
 by-stage t u at left fx inner w s z h e = rw h e
 
-pub ruleset stepping = (W.on-value, on-number-refused, W.on-part, W.on-part-refused, on-transferable, on-transferable-refused, on-output, on-output-refused, on-operation, on-operation-refused, found-made, moved-made)
+pub ruleset stepping = (W.on-value, W.on-number-refused, W.on-part, W.on-part-refused, on-transferable, on-transferable-refused, on-output, on-output-refused, on-operation, on-operation-refused, found-made, moved-made)
 
 pub ruleset staging = (by-kind, by-stage, W.if-eq, W.if-ne, moved-made)

@@ -203,10 +203,15 @@ module _ {R : Type 0} (k : ℕ) (s : List ℕ) (at : ℕ) (z : R) (stop : Refusa
     pub on-value-there : (v n : ℕ) → x ≡ valued (number k) s at → x ≡ N.Value v n → Slice s → (Stands s at (number k .write v) n → z ≡ go v n) → z ≡ number k .run s at stop go
     on-value-there v n p q b e = on-value v n p q (e (number k .sound s at v n (slice-bytes s b) (value-took k s at x v n p q) .1))
 
+    -- its own refusal, handed up
+    pub on-number-refused : (e : Refusal) → x ≡ valued (number k) s at → x ≡ N.Refused e → z ≡ stop e → z ≡ number k .run s at stop go
+    on-number-refused e p q r =
+        r ∙ sym (run-refused (number k) s at stop go e (number-refused-inv (read (number k) s at) e (sym (number k .same s at N.Refused N.Value) ∙ found p q)))
+
     pub on-short : (e : Refusal) → x ≡ valued (number k) s at → x ≡ N.Refused e → (f : Refusal) → f ≡ cutAt k s at → z ≡ stop f → z ≡ number k .run s at stop go
     on-short e p q f g r =
         let o = number-refused-inv (read (number k) s at) e (sym (number k .same s at N.Refused N.Value) ∙ found p q) in
-        r ∙ ap stop (g ∙ sym (number-stops k s at e o)) ∙ sym (run-refused (number k) s at stop go e o)
+        on-number-refused e p q (r ∙ ap stop (g ∙ sym (number-stops k s at e o)))
 
 -- ---- bytes handed over by value
 

@@ -1,0 +1,78 @@
+-- Slots joined in place. Assumes nothing.
+use Prim.Native.Nat.{ℕ, zero, suc, _+_, _-_, _*_, _≤_, _<_}
+use mathlib.Core.Path.{_≡_, refl, sym, ap, ap₂, _∙_}
+use mathlib.Core.Bool.{Bool, true, false, _&&_}
+use mathlib.Core.List.{List, [], _∷_, _++_, append-assoc, append-nil}
+use native.Mathlib.Omega.{arith}
+use native.Mathlib.Numerals.{sub-one}
+use native.Mathlib.Nat.{not-suc-le-zero}
+use lib.ListN.{length, take, drop, length-drop, drop-of-length-le}
+use lib.Seq.{take-all, drop-drop, length-take-le}
+use lib.Dec.{eqb}
+use borrow.Author.Tests.{eq-eqb, ne-eqb}
+use Rattle.wire.specs.Bytes.{pick}
+use Rattle.transaction.specs.Slots.{signatureWidth, blank, slotAt, put}
+use Rattle.slot.specs.Joining.{same}
+use Rattle.slot.specs.Walk.{slotRun, joinedAt, joinAll}
+use Rattle.slot.proofs.Blocks.{blank-fits}
+
+-- ---- one slot
+
+-- 65 bytes lent to the copying of as many
+lent-slot : (d s y : List ℕ) (p n : ℕ) → y ≡ take (length (take n (drop p d))) s ++ drop (length s) (take n (drop p d)) → n ≡ 65 → length s ≡ 65 → p + 65 ≤ length d
+    → take p d ++ (y ++ drop n (drop p d)) ≡ put p s d
+unfolding put signatureWidth
+lent-slot d s y p n e h l f =
+    let w : length (take n (drop p d)) ≡ n = length-take-le n (drop p d) (omega (arith, length-drop p d)) in
+    let a : take (length (take n (drop p d))) s ≡ s = take-all (length (take n (drop p d))) s (omega arith) in
+    let b : drop (length s) (take n (drop p d)) ≡ [] = drop-of-length-le (take n (drop p d)) {i = length s} (omega arith) in
+    let q : y ≡ s = e ∙ ap₂ (λ (u v : List ℕ). u ++ v) a b ∙ append-nil s in
+    let r : drop n (drop p d) ≡ drop (p + 65) d = ap (λ (i : ℕ). drop i (drop p d)) h ∙ drop-drop 65 p d in
+    ap₂ (λ (u v : List ℕ). take p d ++ (u ++ v)) q r ∙ sym (append-assoc (take p d) s (drop (p + 65) d))
+
+module _ (p : ℕ) (s d : List ℕ) where
+  pub joined-short : (length s ≡ 65 → ⊥) → d ≡ joinedAt p s d
+  unfolding joinedAt
+  joined-short n = rw (ne-eqb (length s) 65 n)
+
+  module _ (x : List ℕ) (w : x ≡ slotAt d p) (r : Bool) (e : r ≡ same x blank) where
+    test : (t : Bool) → r ≡ t → same (slotAt d p) blank ≡ t
+    test t q = ap (λ (z : List ℕ). same z blank) (sym w) ∙ sym e ∙ q
+
+    pub joined-filled : r ≡ false → d ≡ joinedAt p s d
+    unfolding joinedAt
+    joined-filled q = go (eqb (length s) 65) (same (slotAt d p) blank) (test false q)
+      where
+        go : (a b : Bool) → b ≡ false → d ≡ pick (a && b) (put p s d) d
+        go true b h = rw h
+        go false b h = refl
+
+    -- the lent slot comes back as y
+    pub joined-blank : (y : List ℕ) → y ≡ take (length (take (p + 65 - p) (drop p d))) s ++ drop (length s) (take (p + 65 - p) (drop p d)) → r ≡ true → length s ≡ 65
+        → take p d ++ (y ++ drop (p + 65 - p) (drop p d)) ≡ joinedAt p s d
+    unfolding joinedAt
+    joined-blank y h q l =
+        lent-slot d s y p (p + 65 - p) h (omega arith) l (blank-fits d p x r w e q)
+        ∙ sym (rw (eq-eqb (length s) 65 l, test true q))
+
+-- ---- one slot after the other
+
+module _ (e : List ℕ) where
+  pub join-append : (ps qs d : List ℕ) → joinAll (ps ++ qs) e d ≡ joinAll qs e (joinAll ps e d)
+  unfolding joinAll
+  join-append [] qs d = refl
+  join-append (p ∷ ps) qs d = join-append ps qs (joinedAt p (slotAt e p) d)
+
+  -- what is left is y
+  module _ (p : ℕ) (d y : List ℕ) where
+    pub join-on : (n : ℕ) → joinAll (slotRun n p) e d ≡ y → 0 < n → (s : List ℕ) → s ≡ slotAt e p → (z : List ℕ) → z ≡ joinedAt p s d → joinAll (slotRun (n - 1) (p + 65)) e z ≡ y
+    unfolding joinAll slotRun
+    join-on zero w h s i z q = absurd (not-suc-le-zero h)
+    join-on (suc n) w h s i z q = rw (q, i, sub-one (suc n)) w
+
+    pub join-end : (n : ℕ) → joinAll (slotRun n p) e d ≡ y → n ≤ 0 → d ≡ y
+    unfolding joinAll slotRun
+    join-end zero w h = w
+    join-end (suc n) w h = absurd (not-suc-le-zero h)
+
+pub ruleset joining-slot = (joined-short, joined-filled, joined-blank)

@@ -1,0 +1,14 @@
+-- `slot::compare::is_blank` meets its contract. Assumes nothing.
+use Rattle.slot.proofs.Blocks.{slotted}
+use borrow.Author.Needs.{needs}
+use Rattle.slot.proofs.compare.is_blank.Statement.{statement}
+use Rattle.slot.proofs.compare.is_blank.Tie as tie
+
+pub is-blank-spec : {M : Type 1} → statement M
+is-blank-spec =
+    tie.close
+    (tie.spec
+    (λ c. search slotted)  -- returns
+    (λ c. search needs)  -- slice-aggregate-same-run
+    (λ c κs. search needs)  -- same-run-requires
+    (λ c. search slotted))  -- returns-2

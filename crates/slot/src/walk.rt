@@ -1,0 +1,99 @@
+// The slots of a draft, walked credential by credential by the counts that stand there.
+ghost use mathlib.Core.Path.{_≡_};
+ghost use Prim.Native.Nat.{_+_, _*_, _≤_};
+ghost use lib.ListN.{length};
+ghost use Rattle.slot.specs.Joining.{firstClash};
+ghost use Rattle.slot.specs.Walk.{runAt, slotRun, walk, found, placed};
+use crate::Found;
+use crate::Run;
+use crate::compare;
+use wire::Number;
+use wire::Part;
+
+// The slots of the credential that starts at a place.
+pub fn run_at(s: &[u8], at: usize) -> Run
+    ensures { λ r. ⌜ r ≡ runAt (now (s .entry)) at ⌝ }
+{
+    let Part::Next(i) = wire::part_at(s, at, 4) else {
+        return Run::End;
+    };
+    let Number::Value(count, first) = wire::u32_at(s, i) else {
+        return Run::End;
+    };
+    let Part::Next(next) = wire::part_at(s, first, 65 * count as usize) else {
+        return Run::End;
+    };
+    Run::Slots(first, count, next)
+}
+
+// The first of so many slots from at on that holds two different signatures; the one at that place is number k.
+fn clash_in(first: &[u8], second: &[u8], at: usize, count: u64, k: usize) -> Found
+    requires { ⌜ at + 65 * count ≤ length (now first) ⌝ }
+    requires { ⌜ k ≤ at ⌝ }
+    ensures { λ r. ⌜ r ≡ found (firstClash k (slotRun count at) (now (first .entry)) (now (second .entry))) ⌝ }
+{
+    let mut left = count;
+    let mut p = at;
+    let mut n = k;
+    while 0 < left {
+        if compare::clash(compare::slot_of(first, p), compare::slot_of(second, p)) {
+            return Found::At(n);
+        }
+        p += 65;
+        n += 1;
+        left -= 1;
+    }
+    Found::Nothing
+}
+
+// The number of the first slot in which two drafts, whose credential count stands at a place, hold different signatures.
+pub fn first_clash(first: &[u8], second: &[u8], at: usize) -> Found
+    ensures { λ r. ⌜ r ≡ found (firstClash 0 (walk (now (first .entry)) at) (now (first .entry)) (now (second .entry))) ⌝ }
+{
+    let Number::Value(count, start) = wire::u32_at(first, at) else {
+        return Found::Nothing;
+    };
+    let mut left = count;
+    let mut q = start;
+    let mut k: usize = 0;
+    while 0 < left {
+        let Run::Slots(p, n, next) = run_at(first, q) else {
+            return Found::Nothing;
+        };
+        match clash_in(first, second, p, n, k) {
+            Found::At(slot) => {
+                return Found::At(slot);
+            }
+            Found::Nothing => {
+                q = next;
+                k += n as usize;
+                left -= 1;
+            }
+        }
+    }
+    Found::Nothing
+}
+
+// Where slot k stands, in a draft whose credential count stands at a place.
+pub fn place_of(s: &[u8], at: usize, k: usize) -> Found
+    ensures { λ r. ⌜ r ≡ placed (walk (now (s .entry)) at) k ⌝ }
+{
+    let Number::Value(count, start) = wire::u32_at(s, at) else {
+        return Found::Nothing;
+    };
+    let mut left = count;
+    let mut q = start;
+    let mut before = k;
+    while 0 < left {
+        let Run::Slots(p, n, next) = run_at(s, q) else {
+            return Found::Nothing;
+        };
+        if before < n as usize {
+            return Found::At(p + 65 * before);
+        }
+        before -= n as usize;
+        q = next;
+        left -= 1;
+    }
+    Found::Nothing
+}
