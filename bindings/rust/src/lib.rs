@@ -192,7 +192,7 @@ pub fn slots(bytes: &[u8]) -> Result<Vec<Slot>, Refusal> {
         // Type and count, then the signatures.
         let places = (entry.start + 8..entry.start + entry.length).step_by(SIGNATURE);
         places.map(move |place| {
-            let filled = bytes[place..place + SIGNATURE].iter().any(|&byte| byte != 0);
+            let filled = library::filled(bytes, place) == 1;
             Slot { credential, place, filled }
         })
     });
