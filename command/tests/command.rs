@@ -160,6 +160,18 @@ fn usage() {
     assert_eq!(folder.run("fill a"), (2, "".into(), help));
 }
 
+#[cfg(target_os = "linux")]
+#[test]
+fn what_cannot_be_printed_is_no_success() {
+    let folder = Folder::new("unprinted");
+    let full = fs::File::create("/dev/full").expect("a device that is full");
+    let mut command = Command::new(env!("CARGO_BIN_EXE_cellfacet"));
+    command.args(["check", "a"]).current_dir(&folder.0).stdout(full);
+    let output = command.output().expect("the command runs");
+    let message = "cellfacet: standard output: No space left on device (os error 28)\n";
+    assert_eq!((output.status.code(), &output.stderr[..]), (Some(1), message.as_bytes()));
+}
+
 #[test]
 fn merge_in_any_order() {
     let folder = Folder::new("merge");
