@@ -1,3 +1,4 @@
 -- That the claims hold
 pub mod Answering
 pub mod Measuring
+pub mod Filling

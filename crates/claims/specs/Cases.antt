@@ -2,7 +2,7 @@
 use mathlib.Core.Path.{_≡_, refl}
 use Prim.Native.Nat.{ℕ, _+_}
 use mathlib.Core.List.{List, [], _∷_, _++_}
-use lib.ListN.{length, take, drop}
+use lib.ListN.{length, take, drop, replicate}
 use Rattle.wire.specs.Bytes.{value, digits, below}
 use Rattle.wire.specs.Format.{read, verdict, Result, took, refused}
 use Rattle.wire.specs.Fields.{number, blobRun, constant}
@@ -13,13 +13,17 @@ use Rattle.element.specs.Owners.{owners}
 use Rattle.element.specs.Outputs.{amount, transferBody, output, transferableOutput}
 use Rattle.element.specs.Inputs.{key, indices, spend, inputAfter}
 use Rattle.element.specs.Operations.{terms, action, operation, fxId, stateOutputs, initialStateAfter}
-use Rattle.transaction.specs.Slots.{signatureWidth}
-use Rattle.transaction.specs.Credentials.{credentials}
+use Rattle.transaction.specs.Slots.{signatureWidth, blank, slotAt, put, putAll}
+use Rattle.transaction.specs.Credentials.{credentials, layout, places}
 use Rattle.transaction.specs.Entries.{rows, entriesFrom, credentialEntries}
 use Rattle.transaction.specs.Plan.{atLeast, form, wanted, asked, planEntries}
 use Rattle.transaction.specs.Signed as Any
 use Rattle.transaction.specs.Family.{Signed, head, unsigned, wants, check, entries}
 use Rattle.transaction.specs.Avm.{avm}
+use Rattle.slot.specs.Joining.{same, clashes, join, firstClash}
+use Rattle.draft.specs.declared.Answer.{Answer}
+use Rattle.draft.specs.Reader.{reader, body, slotCount, slot}
+use Rattle.draft.specs.Calls.{answerNumber, answerPlace, merged, mergeCall, fillCall}
 
 -- ---- the signed example of the AVM transaction format's page, byte by byte
 
@@ -80,6 +84,10 @@ ordered = edited 234 (0 ∷ 0 ∷ 0 ∷ 3 ∷ 0 ∷ 0 ∷ 0 ∷ 7 ∷ []) publis
 abbrev pub A : List ℕ
 A = edited 5 (0 ∷ []) ordered
 
+-- what an empty slot has
+abbrev empty : List ℕ
+empty = replicate 65 0
+
 -- ---- the transferable NFT operation of the same page: asset id, one spent output, type 13, indices 3, 7, group 12345, payload 43 11 00, and owners
 -- that begin with their threshold
 abbrev withoutLocktime : List ℕ
@@ -102,15 +110,24 @@ pub data Case : Type 0 where
   lists : List ℕ → List ℕ → Case
   -- bytes of an operation alone; number and place
   reads : List ℕ → ℕ → ℕ → Case
+  -- two drafts and the output buffer; number, place, and the buffer afterwards
+  merges : List ℕ → List ℕ → List ℕ → ℕ → ℕ → List ℕ → Case
+  -- a draft, a slot and a signature; number, place, and the draft afterwards
+  fills : List ℕ → ℕ → List ℕ → ℕ → ℕ → List ℕ → Case
 
 abbrev rowsOf : Result (Signed (avm 256)) → List ℕ
 rowsOf (took v n) = rows (entries (avm 256) v)
 rowsOf (refused e) = []
 
+abbrev told : Answer × List ℕ → (ℕ × ℕ) × List ℕ
+told (a, s) = ((answerNumber a, answerPlace a), s)
+
 abbrev pub Holds : Case → Type 0
 Holds (checks s n p) = verdict (check (avm 256) s) ≡ (n, p)
 Holds (lists s rs) = rowsOf (check (avm 256) s) ≡ rs
 Holds (reads s n p) = verdict (read operation s 0) ≡ (n, p)
+Holds (merges d e out n p after) = told (mergeCall (reader (avm 256)) d e out) ≡ ((n, p), after)
+Holds (fills d k s n p after) = told (fillCall (reader (avm 256)) d k s) ≡ ((n, p), after)
 
 abbrev pub AllHold : List Case → Type 0
 AllHold [] = Unit {0}
@@ -143,6 +160,17 @@ table =
     ∷ checks (take 391 A) 2 327
     -- P12: memo length 257
     ∷ checks (edited 242 (0 ∷ 0 ∷ 1 ∷ 1 ∷ []) A) 8 242
+    -- P13: A with slot 0 emptied, merged with A with slot 1 emptied
+    ∷ merges (edited 262 empty A) (edited 327 empty A) (replicate 400 9) 0 392 (A ++ replicate 8 9)
+    -- P14: A merged with A whose last byte is 1
+    ∷ merges A (edited 391 (1 ∷ []) A) (replicate 400 9) 20 1 (replicate 400 9)
+    -- filling: an empty slot; a filled one by its own signature, by 65 zero bytes, by another signature; by 64 bytes; slot 2
+    ∷ fills (edited 327 empty A) 1 (take 65 (drop 327 A)) 0 392 A
+    ∷ fills A 1 (take 65 (drop 327 A)) 0 392 A
+    ∷ fills A 1 empty 0 392 A
+    ∷ fills A 1 (take 65 (drop 262 A)) 20 1 A
+    ∷ fills A 1 (take 64 (drop 327 A)) 21 0 A
+    ∷ fills A 2 (take 65 (drop 327 A)) 15 0 A
     -- the signed example as published; and with its indices put right, which is type 1 over a base body
     ∷ checks published 6 238
     ∷ checks ordered 8 250
@@ -151,5 +179,5 @@ table =
     ∷ []
 
 pub proved-cases : AllHold table
-unfolding Any.check unsigned head wants credentials signatureWidth owners amount transferBody output transferableOutput key indices spend inputAfter terms action operation fxId stateOutputs initialStateAfter guard string text printable unprintable denomination constant tag counted number blobRun items listRun listWrite value digits below rows entriesFrom credentialEntries form wanted asked planEntries atLeast entries
-proved-cases = (refl, (refl, (refl, (refl, (refl, (refl, (refl, (refl, (refl, (refl, (refl, (refl, (refl, (refl, (refl, (refl, tt))))))))))))))))
+unfolding Any.check unsigned head wants credentials signatureWidth owners amount transferBody output transferableOutput key indices spend inputAfter terms action operation fxId stateOutputs initialStateAfter guard string text printable unprintable denomination constant tag counted number blobRun items listRun listWrite value digits below rows entriesFrom credentialEntries form wanted asked planEntries atLeast entries blank slotAt put putAll layout places same clashes join firstClash body slotCount slot merged mergeCall fillCall
+proved-cases = (refl, (refl, (refl, (refl, (refl, (refl, (refl, (refl, (refl, (refl, (refl, (refl, (refl, (refl, (refl, (refl, (refl, (refl, (refl, (refl, (refl, (refl, (refl, (refl, tt))))))))))))))))))))))))

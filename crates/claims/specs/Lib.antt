@@ -2,3 +2,4 @@
 pub mod Cases
 pub mod Answers
 pub mod Lengths
+pub mod RoundTrip

@@ -1,8 +1,79 @@
-// Drafts: filling a slot, and merging two drafts.
+// Drafts: filling one slot, and merging two drafts of the same unsigned transaction.
+ghost use mathlib.Core.Path.{_≡_};
+ghost use mathlib.Core.List.{_++_};
+ghost use lib.ListN.{length, take, drop};
+ghost use Rattle.slot.specs.Walk.{joinedWith};
+ghost use Rattle.transaction.specs.Avm.{avm};
+ghost use Rattle.transaction.specs.Answer.{memoMost};
+ghost use Rattle.draft.specs.Reader.{reader};
+ghost use Rattle.draft.specs.Calls.{refuse, mergeCall, fillCall};
+use slot::Found;
+use transaction::Checked;
 use wire::Refusal;
 
 // Done, with the draft's length; or the refusal.
 pub enum Answer {
     Done(usize),
     Refused(Refusal),
+}
+
+fn refused(number: u32, place: usize) -> Answer
+    ensures { λ r. ⌜ r ≡ refuse number place ⌝ }
+{
+    Answer::Refused(Refusal { number, place })
+}
+
+// Puts a signature into slot number k, if no other is there.
+pub fn fill(draft: &mut [u8], k: usize, signature: &[u8]) -> Answer
+    ensures { λ r. ⌜ (r, now (draft .exit)) ≡ fillCall (reader (avm memoMost)) (now (draft .entry)) k (now (signature .entry)) ⌝ }
+{
+    let Checked::Accepted(layout, end) = transaction::check::check(draft) else {
+        return refused(wire::numbers::FIRST_NOT_ACCEPTED, 0);
+    };
+    let Found::At(at) = slot::walk::place_of(draft, layout.credentials_at, k) else {
+        return refused(wire::numbers::NO_ENTRY, 0);
+    };
+    if signature.len() != 65 {
+        return refused(wire::numbers::NOT_A_SIGNATURE, 0);
+    }
+    if slot::compare::clash(slot::compare::slot_of(draft, at), signature) {
+        return refused(wire::numbers::CONFLICT, k);
+    }
+    slot::join::join_at(draft, at, signature);
+    Answer::Done(end)
+}
+
+// The first draft's bytes, and what its empty slots take from the second.
+fn put_merge(room: &mut [u8], first: &[u8], second: &[u8], at: usize)
+    ensures { λ _. ⌜ now (room .exit) ≡ joinedWith (now (second .entry)) at (take (length (now (room .entry))) (now (first .entry)) ++ drop (length (now (first .entry))) (now (room .entry))) ⌝ }
+{
+    wire::put_bytes(room, first);
+    slot::join::join_slots(room, second, at);
+}
+
+// Joins the second draft's signatures to the first's, at the front of out.
+pub fn merge(first: &[u8], second: &[u8], out: &mut [u8]) -> Answer
+    ensures { λ r. ⌜ (r, now (out .exit)) ≡ mergeCall (reader (avm memoMost)) (now (first .entry)) (now (second .entry)) (now (out .entry)) ⌝ }
+{
+    let Checked::Accepted(layout, end) = transaction::check::check(first) else {
+        return refused(wire::numbers::FIRST_NOT_ACCEPTED, 0);
+    };
+    let Checked::Accepted(other, _) = transaction::check::check(second) else {
+        return refused(wire::numbers::SECOND_NOT_ACCEPTED, 0);
+    };
+    let at = layout.credentials_at;
+    if !slot::compare::same_bytes(
+        wire::between(first, 0, at),
+        wire::between(second, 0, other.credentials_at),
+    ) {
+        return refused(wire::numbers::DRAFTS_DIFFER, 0);
+    }
+    if let Found::At(k) = slot::walk::first_clash(first, second, at) {
+        return refused(wire::numbers::CONFLICT, k);
+    }
+    if out.len() < end {
+        return refused(wire::numbers::NO_ROOM, 0);
+    }
+    put_merge(&mut out[..end], first, second, at);
+    Answer::Done(end)
 }

@@ -1,6 +1,6 @@
 -- Slots joined in place. Assumes nothing.
 use Prim.Native.Nat.{ℕ, zero, suc, _+_, _-_, _*_, _≤_, _<_}
-use mathlib.Core.Path.{_≡_, refl, sym, ap, ap₂, _∙_}
+use mathlib.Core.Path.{_≡_, refl, sym, ap, ap₂, _∙_, subst⁻¹}
 use mathlib.Core.Bool.{Bool, true, false, _&&_}
 use mathlib.Core.List.{List, [], _∷_, _++_, append-assoc, append-nil}
 use native.Mathlib.Omega.{arith}
@@ -11,9 +11,11 @@ use lib.Seq.{take-all, drop-drop, length-take-le}
 use lib.Dec.{eqb}
 use borrow.Author.Tests.{eq-eqb, ne-eqb}
 use Rattle.wire.specs.Bytes.{pick}
-use Rattle.transaction.specs.Slots.{signatureWidth, blank, slotAt, put}
-use Rattle.slot.specs.Joining.{same}
+use Rattle.transaction.specs.Slots.{signatureWidth, blank, slotAt, put, putAll, Spaced, length-slotAt}
+use Rattle.slot.specs.Joining.{same, join}
 use Rattle.slot.specs.Walk.{slotRun, joinedAt, joinAll}
+use Rattle.slot.proofs.Comparing.{same-of-eq, same-no, dec-same, join-blank, join-filled, length-join}
+use Rattle.slot.proofs.Putting.{spaced-le, put-own, length-put, put-slot-behind}
 use Rattle.slot.proofs.Blocks.{blank-fits}
 
 -- ---- one slot
@@ -76,3 +78,34 @@ module _ (e : List ℕ) where
     join-end (suc n) w h = absurd (not-suc-le-zero h)
 
 pub ruleset joining-slot = (joined-short, joined-filled, joined-blank)
+
+-- ---- in place, and as a whole
+
+pub joined-put : (p : ℕ) (s d : List ℕ) → length s ≡ signatureWidth → joinedAt p s d ≡ put p (join (slotAt d p) s) d
+unfolding joinedAt signatureWidth
+joined-put p s d h = rw (eq-eqb (length s) 65 h) (go (dec-same (slotAt d p) blank))
+  where
+    go : Dec (slotAt d p ≡ blank) → pick (true && same (slotAt d p) blank) (put p s d) d ≡ put p (join (slotAt d p) s) d
+    go (yes e) = rw (same-of-eq (slotAt d p) blank e, join-blank (slotAt d p) s e)
+    go (no n) = rw (same-no (slotAt d p) blank n, join-filled (slotAt d p) s n) (sym (put-own p d))
+
+put-alike : (f g : ℕ → List ℕ) (lo : ℕ) (ps : List ℕ) (n : ℕ) (d : List ℕ) → Spaced lo ps n → ((q : ℕ) → lo ≤ q → f q ≡ g q) → putAll ps f d ≡ putAll ps g d
+unfolding putAll
+put-alike f g lo [] n d h e = refl
+put-alike f g lo (p ∷ ps) n d h e =
+    ap (λ (s : List ℕ). putAll ps f (put p s d)) (e p (h .0)) ∙ put-alike f g (p + signatureWidth) ps n (put p (g p) d) (h .1) (λ q k. e q (omega arith))
+
+-- joining slot by slot is putting each slot's join into d
+pub joined-all : (e : List ℕ) (lo : ℕ) (ps d : List ℕ) → Spaced lo ps (length d) → length e ≡ length d → joinAll ps e d ≡ putAll ps (λ p. join (slotAt d p) (slotAt e p)) d
+unfolding joinAll putAll
+joined-all e lo [] d h l = refl
+joined-all e lo (p ∷ ps) d h l =
+    let fits : p + signatureWidth ≤ length d = spaced-le (p + signatureWidth) ps (length d) (h .1) in
+    let s : List ℕ = join (slotAt d p) (slotAt e p) in
+    let le : length (slotAt e p) ≡ signatureWidth = length-slotAt e p (omega arith) in
+    let ls : length s ≡ signatureWidth = length-join (slotAt d p) (slotAt e p) (length-slotAt d p fits) le in
+    let kept : length (put p s d) ≡ length d = length-put p s d ls fits in
+    ap (joinAll ps e) (joined-put p (slotAt e p) d le)
+    ∙ joined-all e (p + signatureWidth) ps (put p s d) (subst⁻¹ (λ (n : ℕ). Spaced (p + signatureWidth) ps n) kept (h .1)) (l ∙ sym kept)
+    ∙ put-alike (λ q. join (slotAt (put p s d) q) (slotAt e q)) (λ q. join (slotAt d q) (slotAt e q)) (p + signatureWidth) ps (length d) (put p s d) (h .1)
+    (λ q k. ap (λ (z : List ℕ). join z (slotAt e q)) (put-slot-behind p s d ls fits q k))

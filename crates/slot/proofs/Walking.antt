@@ -124,11 +124,11 @@ clash-front d e k (p ∷ ps) qs j h = go (clashes (slotAt d p) (slotAt e p)) h (
     go true h ih = h
     go false h ih = ih h
 
-found-none : (o : Option ℕ) → Walk.found o ≡ F.Nothing → o ≡ none
+pub found-none : (o : Option ℕ) → Walk.found o ≡ F.Nothing → o ≡ none
 found-none none h = refl
 found-none (some k) h = let z : _≡_ {A = ℕ} 0 1 = cc in absurd (omega arith)
 
-found-some : (o : Option ℕ) (j : ℕ) → Walk.found o ≡ F.At j → o ≡ some j
+pub found-some : (o : Option ℕ) (j : ℕ) → Walk.found o ≡ F.At j → o ≡ some j
 found-some none j h = let z : _≡_ {A = ℕ} 0 1 = cc in absurd (omega arith)
 found-some (some k) j h = let z : k ≡ j = cc in ap some z
 

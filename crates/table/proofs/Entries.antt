@@ -34,6 +34,7 @@ use Rattle.transaction.specs.Slots.{signatureWidth}
 use Rattle.transaction.specs.Credentials.{Want, credentialCode, Piece, signatures, each, layout, cons, pieces, credentials}
 use Rattle.transaction.proofs.Beside.{skipped, at-least-inv}
 use Rattle.transaction.proofs.Reading.{written-next}
+use Rattle.transaction.proofs.Verdicts.{layout-end}
 use Rattle.table.specs.Walk.{row, outputRows, inputRows, operationRows, stateOutputRows, stateRows, credentialRows, credentialsRest, ownRest, afterOutputs, rest, start}
 use Rattle.table.specs.declared.Row.{Row}
 
@@ -304,16 +305,7 @@ module _ (s : List ℕ) (b : Slice s) where
 
   -- where the credentials' count stands
   credentials-place : (k : Kind) (at : ℕ) (v : Value (plan memoMost k)) (n : ℕ) → read (form (plan memoMost k)) s at ≡ took v n → layoutFrom k at v .«credentials_at» ≡ n
-  unfolding form
-  credentials-place k at v n h =
-      let (outs, i, eo, e₁) = run-inv (atLeast 0 (notBelow transferableOutput)) s at _ v n h in
-      let (ins, m, ei, e₂) = run-inv (atLeast 0 input) s i _ v n e₁ in
-      let (note, o, en, e₃) = run-inv (memo memoMost) s m _ v n e₂ in
-      let (own, c, ew, e₄) = run-inv (form (ownPlan k)) s o _ v n e₃ in
-      let same : (outs, (ins, (note, own))) ≡ v = cc in
-      let there : c ≡ n = cc in
-      subst (λ (w : Value (plan memoMost k)). layoutFrom k at w .«credentials_at» ≡ n) same
-      (omega (arith, written-next (atLeast 0 (notBelow transferableOutput)) s at outs i b eo, written-next (atLeast 0 input) s i ins m b ei, written-next (memo memoMost) s m note o b en, written-next (form (ownPlan k)) s o own c b ew))
+  credentials-place k at v n h = layout-end k at v ∙ sym (written-next (form (plan memoMost k)) s at v n b h)
 
   credentials-rows : (ws : List Want) (c : ℕ) (l : List (List ℕ)) (n : ℕ) → read (credentials ws) s c ≡ took l n
       → number 4 .run s c (λ e. []) (λ n first. credentialRows n s first) ≡ map located (credentialEntries ws (c + 4))

@@ -1,21 +1,27 @@
 -- What a caller of the check knows by its answer: the number, the place and the verdict. Assumes nothing.
-use Prim.Native.Nat.{ℕ, _≤_}
-use mathlib.Core.Path.{_≡_, refl, ap, _∙_}
+use Prim.Native.Nat.{ℕ, _+_, _≤_}
+use mathlib.Core.Path.{_≡_, refl, sym, ap, _∙_}
 use mathlib.Core.Bool.{Bool, true, false}
-use mathlib.Core.List.{List}
+use mathlib.Core.List.{List, _++_}
 use native.Mathlib.Omega.{arith}
-use lib.ListN.{length}
+use lib.ListN.{length, length-append}
 use lib.Dec.{leb}
 use borrow.Author.Tests.{leb-true}
 use Rattle.wire.specs.declared.Refusal.{Refusal}
 use Rattle.wire.specs.Bytes.{Bytes}
 use Rattle.wire.specs.Numbers.{refusal, tooLong}
 use Rattle.wire.specs.Format.{Result, took, refused, onResult, verdict, refused-placed}
+use Rattle.wire.specs.Series.{notBelow}
+use Rattle.element.specs.Strings.{memo}
+use Rattle.element.specs.Outputs.{transferableOutput}
+use Rattle.element.specs.Inputs.{input}
 use Rattle.transaction.specs.Signed as Any
-use Rattle.transaction.specs.Family.{Signed, check}
+use Rattle.transaction.specs.Plan.{Value, form, atLeast}
+use Rattle.transaction.specs.Family.{head, Unsigned, unsigned, Signed, check}
 use Rattle.transaction.specs.Codec.{Codec}
-use Rattle.transaction.specs.Avm.{avm}
-use Rattle.transaction.specs.Answer.{memoMost, layout, checked}
+use Rattle.transaction.specs.Avm.{ownPlan, plan, avm}
+use Rattle.transaction.specs.Answer.{memoMost, layoutFrom, layout, checked}
+use Rattle.transaction.specs.declared.Kind.{Kind}
 use Rattle.transaction.specs.declared.Layout.{Layout}
 use Rattle.transaction.specs.declared.Checked.the-variants as C
 use Rattle.transaction.proofs.Codec.{codec}
@@ -52,3 +58,20 @@ checked-refused s e q = ap verdict (refused-check s e q)
 -- what was read, where the lists are, and how many bytes there are
 pub checked-accepted : (s : List ℕ) (w : Layout) (n : ℕ) → C.Accepted w n ≡ checked s → (v : Signed (avm memoMost)) × (check (avm memoMost) s ≡ took v n) × (w ≡ layout (v .0))
 checked-accepted s w n = accepted-inv (λ v. layout (v .0)) (check (avm memoMost) s) w n
+
+-- ---- where the credentials' count stands
+
+pub layout-end : (k : Kind) (at : ℕ) (v : Value (plan memoMost k)) → layoutFrom k at v .«credentials_at» ≡ at + length (form (plan memoMost k) .write v)
+unfolding form
+layout-end k at (outs, (ins, (note, own))) =
+    let a : List ℕ = atLeast 0 (notBelow transferableOutput) .write outs in
+    let b : List ℕ = atLeast 0 input .write ins in
+    let c : List ℕ = memo memoMost .write note in
+    let d : List ℕ = form (ownPlan k) .write own in
+    omega (arith, length-append a (b ++ (c ++ d)), length-append b (c ++ d), length-append c d)
+
+pub layout-credentials : (u : Unsigned (avm memoMost)) → layout u .«credentials_at» ≡ length (unsigned (avm memoMost) .write u)
+unfolding unsigned
+layout-credentials (h, v) =
+    layout-end (h .kind) (length (head (avm memoMost) .write h)) v
+    ∙ sym (length-append (head (avm memoMost) .write h) (form (plan memoMost (h .kind)) .write v))

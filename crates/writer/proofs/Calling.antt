@@ -22,6 +22,7 @@ use Rattle.element.specs.Operations as Operations
 use Rattle.element.specs.Operations.{InitialState, initialStateAfter, initialState}
 use Rattle.transaction.specs.Entries.{outputEntry, exportedEntry, inputEntry, importedEntry}
 use Rattle.transaction.specs.Slots.{slotAt, putAll}
+use Rattle.transaction.specs.Credentials.{layout, blanks}
 use Rattle.transaction.specs.Signed as Any
 use Rattle.transaction.specs.Signed.{mostBytes}
 use Rattle.transaction.specs.Plan.{Elements, listOf, Value, form}
@@ -261,6 +262,10 @@ module _ (d : List ℕ) (v : Signed (avm memoMost)) (n : ℕ) (bs : Bytes d) (e 
 
   finish-done : C.finishBehind (C.readingCalls (v .0)) s .step .answer ≡ W.Done (length d)
   finish-done = ap (λ (x : Turn). x .step .answer) ends-alike ∙ avm-round-trip .finish-done d v n bs e s room
+
+  pub blank-written : take (length d) (C.finishBehind (C.readingCalls (v .0)) s .buffer)
+      ≡ Any.assemble (unsigned (avm memoMost)) (wants (avm memoMost)) (v .0) (blanks (layout (wants (avm memoMost) (v .0))))
+  blank-written = ap (λ (x : Turn). take (length d) (x .buffer)) ends-alike ∙ avm-round-trip .blank-written d v n bs e s room
 
   filled : putAll (Any.slotsAt (unsigned (avm memoMost)) (wants (avm memoMost)) d) (slotAt d) (take (length d) (C.finishBehind (C.readingCalls (v .0)) s .buffer)) ≡ d
   filled =

@@ -1,0 +1,17 @@
+-- `draft::put_merge` meets its contract. Assumes nothing.
+use mathlib.Core.Path.{ap, _∙_}
+use mathlib.Core.List.{List}
+use Prim.Native.Nat.{ℕ}
+use Rattle.slot.specs.Walk.{joinedWith}
+use borrow.Author.Needs.{needs}
+use Rattle.draft.proofs.put_merge.Statement.{statement}
+use Rattle.draft.proofs.put_merge.Tie as tie
+
+pub put-merge-spec : {M : Type 1} → statement M
+put-merge-spec =
+    tie.close
+    (tie.spec
+    (λ c κs. search needs)  -- put-bytes-requires
+    (λ c κs. search needs)  -- join-slots-requires
+    (λ c. search needs)  -- same-length
+    (λ c. c .before .before .join-slots .ensures ∙ ap (λ (s : List ℕ). joinedWith (c .before .before .before .before .before .before .before .before .before .before .before .args .second .now) (c .before .before .before .before .before .before .before .before .before .before .before .args .at) s) (c .before .before .before .before .before .before .put-bytes .ensures)))  -- returns

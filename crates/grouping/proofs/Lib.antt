@@ -1,0 +1,13 @@
+-- That demand 3 and the laws of filling hold
+pub mod Laws
+pub mod Merging
+pub mod Running
+pub mod Listing
+pub mod Pairing
+pub mod Demand
+pub mod Reading
+pub mod Ordering
+pub mod Filling
+pub mod Refilling
+pub mod Answering
+pub mod Theorems

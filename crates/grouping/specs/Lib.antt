@@ -1,0 +1,6 @@
+-- Groupings of merge calls, demand 3, filling, and what every call of merge and fill owes
+pub mod Groupings
+pub mod Demand
+pub mod Order
+pub mod Filling
+pub mod Answers
