@@ -17,7 +17,7 @@ use native.Mathlib.Nat.{zero-add, add-zero}
 use lib.ListN.{length, take, drop, getD, length-append, length-take, length-drop, drop-of-length-le}
 use lib.Seq.{drop-cons, take-at}
 use lib.Dec.{ltb, leb, eqb}
-use borrow.Author.Tests.{ltb-true, lt-leb, le-leb, eq-eqb, ne-eqb}
+use borrow.Author.Tests.{ltb-true, ltb-false, lt-leb, le-leb, eq-eqb, ne-eqb}
 use Rattle.wire.specs.declared.Refusal.{Refusal}
 use Rattle.wire.specs.declared.Part.{Part}
 use Rattle.wire.specs.declared.Part.the-variants as P
@@ -27,7 +27,7 @@ use Rattle.wire.specs.Bytes.{Bytes, digits, length-digits, below, pick, part}
 use Rattle.wire.specs.Format.{Format, Result, took, refused, onResult, read, Stands, stands-part, run-alike, run-alike-read}
 use Rattle.wire.specs.Numbers.{by, cutAt, notPrintable, unknownType}
 use Rattle.wire.specs.Fields.{blob, number, length-number}
-use Rattle.wire.specs.Sequence.{guard}
+use Rattle.wire.specs.Sequence.{guard, tag}
 use Rattle.wire.specs.Series.{items, listRun, left, increasing, nondecreasing, unordered, series, items-sized}
 use Rattle.wire.specs.Order.{keyBelow}
 use Rattle.wire.specs.Answer.{ended, valued, wholeAt}
@@ -38,8 +38,8 @@ use Rattle.element.specs.Strings.{unprintable, unprintable-le, string}
 use Rattle.element.specs.Owners.{Owners, owners, ownersFields}
 use Rattle.element.specs.Outputs.{transferBody, OutputType, Output, output, TransferableOutput, transferableOutput}
 use Rattle.element.specs.Inputs.{key, Input, spend, inputAfter, input}
-use Rattle.element.specs.Operations.{OperationType, OperationOwners, terms, termsFields, action, Operation, operation, Fx, secpFx, nftFx, fxCode, fxOf, fxOutputs, fxId, stateOutputs, InitialState, initialStateAfter, initialState}
-use Rattle.element.specs.Answer.{stringWhole, stringAt, ownersWhole, ownersAt, transferWhole, transferBodyAt, outputWhole, outputAt, transferableWhole, transferableAt, spendWhole, spendAt, termsWhole, termsAt, actionWhole, actionAt, operationWhole, operationAt}
+use Rattle.element.specs.Operations.{OperationType, mintNft, transferNft, operationCode, operationType, operationType-code, OperationOwners, operationOwners, terms, termsFields, recipients, action, Operation, operation, operationFields, Fx, secpFx, nftFx, fxCode, fxOf, fxOutputs, fxId, stateOutputs, InitialState, initialStateAfter, initialState}
+use Rattle.element.specs.Answer.{stringWhole, stringAt, ownersWhole, ownersAt, transferWhole, transferBodyAt, outputWhole, outputAt, transferableWhole, transferableAt, AllowedOutput, allowedOutput, allowedWhole, allowedAt, spendWhole, spendAt, termsWhole, termsAt, recipientsWhole, recipientsAt, actionWhole, actionAt, operationWhole, operationAt, askedWhole, askedByOperation}
 use Rattle.element.specs.declared.StringRead.{StringRead}
 use Rattle.element.specs.declared.StringRead.the-variants as S
 use Rattle.element.specs.declared.OwnersFields.{OwnersFields}
@@ -47,6 +47,7 @@ use Rattle.element.specs.declared.OwnersRead.{OwnersRead}
 use Rattle.element.specs.declared.OwnersRead.the-variants as H
 use Rattle.element.specs.declared.OutputFields.{OutputFields}
 use Rattle.element.specs.declared.OutputFields.the-variants as F
+use Rattle.element.specs.declared.Allowed.{Allowed}
 use Rattle.element.specs.declared.OutputRead.{OutputRead}
 use Rattle.element.specs.declared.OutputRead.the-variants as O
 use Rattle.element.specs.declared.InputFields.{InputFields}
@@ -55,7 +56,10 @@ use Rattle.element.specs.declared.InputRead.the-variants as I
 use Rattle.element.specs.declared.TermsFields.{TermsFields}
 use Rattle.element.specs.declared.TermsRead.{TermsRead}
 use Rattle.element.specs.declared.TermsRead.the-variants as T
+use Rattle.element.specs.declared.Recipients.{Recipients}
 use Rattle.element.specs.declared.Recipients.the-variants as Q
+use Rattle.element.specs.declared.RecipientsRead.{RecipientsRead}
+use Rattle.element.specs.declared.RecipientsRead.the-variants as X
 use Rattle.element.specs.declared.OperationFields.{OperationFields}
 use Rattle.element.specs.declared.OperationRead.{OperationRead}
 use Rattle.element.specs.declared.OperationRead.the-variants as Y
@@ -138,6 +142,10 @@ follows-none t x h = rw h
 
 pub ruleset follows = (follows-any, follows-none)
 
+-- the same, of bytes handed over
+pub follows-parts : (t : Bool) (p a q b : List ℕ) (y : Bool) → t ≡ true → y ≡ below p a → p ≡ q → a ≡ b → y ≡ pick t (below q b) true
+follows-parts t p a q b y h e f g = rw (h, ← f, ← g) e
+
 -- the first is above none
 first-below : (any : Bool) (p a : List ℕ) (t : Bool) → t ≡ pick any (below p a) true → 0 < length a → below (pick any p []) a ≡ t
 first-below true p a t e h = sym e
@@ -150,11 +158,12 @@ whole-is k s at n a w x h ha p q = W.whole-next k s at a x n ha p q ∙ sym (sta
 pub id-length : (k : ℕ) (s : List ℕ) (at : ℕ) (a : List ℕ) → a ≡ wholeAt k s at → length a ≡ k
 id-length k s at a h = ap length h ∙ W.whole-length k s at
 
--- parts, as addresses are: w is the writing of the part a
-module _ {R : Type 0} (k : ℕ) (s : List ℕ) (at n : ℕ) (any : Bool) (prev a w : List ℕ) (x : Part) (t : Bool) (z X Y : R)
-    (h : Stands s at w n) (ha : a ≡ wholeAt k s at) (p : x ≡ ended (blob k) s at) (q : x ≡ P.Next n) (e : t ≡ pick any (below prev a) true) where
+-- parts, as addresses are: w is the writing of the part at its place
+module _ {R : Type 0} (k : ℕ) (s : List ℕ) (at n : ℕ) (any : Bool) (prev w : List ℕ) (x : Part) (t : Bool) (z X Y : R)
+    (h : Stands s at w n) (p : x ≡ ended (blob k) s at) (q : x ≡ P.Next n) (e : t ≡ pick any (below prev (wholeAt k s at)) true) where
   part-test : ltb 0 k ≡ true → below (pick any prev []) w ≡ t
-  part-test j = rw (← (whole-is k s at n a w x h ha p q)) (first-below any prev a t e (omega (arith, ltb-true 0 k j, id-length k s at a ha)))
+  part-test j =
+      rw (← (whole-is k s at n (wholeAt k s at) w x h refl p q)) (first-below any prev (wholeAt k s at) t e (omega (arith, ltb-true 0 k j, W.whole-length k s at)))
 
   pub if-part-follows : t ≡ true → ltb 0 k ≡ true → z ≡ X → z ≡ pick (below (pick any prev []) w) X Y
   if-part-follows i j e = rw (part-test j, i) e
@@ -163,9 +172,9 @@ module _ {R : Type 0} (k : ℕ) (s : List ℕ) (at n : ℕ) (any : Bool) (prev a
   if-part-not i j e = rw (part-test j, i) e
 
 module _ {A R : Type 0} (E : List ℕ → Format A) (step : List ℕ → A → List ℕ) (s : List ℕ) (n at : ℕ) (stop : Refusal → R) (go : List A → ℕ → R) where
-  pub part-again : (k p q : ℕ) (a w : List ℕ) (x : Part) → Stands s p w q → a ≡ wholeAt k s p → x ≡ ended (blob k) s p → x ≡ P.Next q
-      → items E step a n .run s at stop go ≡ items E step w n .run s at stop go
-  part-again k p q a w x h ha i j = rw (whole-is k s p q a w x h ha i j)
+  pub part-again : (k p q : ℕ) (w : List ℕ) (x : Part) → Stands s p w q → x ≡ ended (blob k) s p → x ≡ P.Next q
+      → items E step (wholeAt k s p) n .run s at stop go ≡ items E step w n .run s at stop go
+  part-again k p q w x h i j = rw (whole-is k s p q (wholeAt k s p) w x h refl i j)
 
 -- numbers, as indices are
 module _ {R : Type 0} (any : Bool) (prev v : ℕ) (t : Bool) (z X Y : R) (e : t ≡ pick any (ltb prev v) true) (small : prev < 256 ^ 4) where
@@ -357,6 +366,20 @@ module _ {R : Type 0} (s : List ℕ) (at : ℕ) (z : R) (stop : Refusal → R) (
     pub on-output-refused : (e : Refusal) → x ≡ O.Refused e → z ≡ stop e → z ≡ output types .run s at stop go
     on-output-refused e q = on-refused (output types) O.Refused (outputWhole at) s at z stop go x p e q (λ v m i. cc) (λ d i. cc)
 
+-- an output that a list takes
+pub by-allowed : (a b : Allowed) (s : List ℕ) (at : ℕ) (z : OutputRead) → a ≡ b → z ≡ allowedAt b s at → z ≡ allowedAt a s at
+by-allowed a b s at z h e = rw h e
+
+module _ {R : Type 0} (a : Allowed) (s : List ℕ) (at : ℕ) (z : R) (stop : Refusal → R) (go : AllowedOutput a → ℕ → R) (x : OutputRead) (p : x ≡ allowedAt a s at) where
+  pub on-allowed : (f : OutputFields) (n : ℕ) → x ≡ O.Whole f n → Slice s → ((v : AllowedOutput a) → Stands s at (allowedOutput a .write v) n → z ≡ go v n)
+      → z ≡ allowedOutput a .run s at stop go
+  on-allowed f n q b e =
+      on-whole (allowedOutput a) O.Refused (allowedWhole a at) s at z stop go x p (O.Whole f n) n q (λ d i. cc) (λ v m i. cc)
+      (λ v i t. e v (allowedOutput a .sound s at v n (slice-bytes s b) t .1))
+
+  pub on-allowed-refused : (e : Refusal) → x ≡ O.Refused e → z ≡ stop e → z ≡ allowedOutput a .run s at stop go
+  on-allowed-refused e q = on-refused (allowedOutput a) O.Refused (allowedWhole a at) s at z stop go x p e q (λ v m i. cc) (λ d i. cc)
+
 -- ---- inputs
 
 -- an input behind its key
@@ -417,6 +440,61 @@ module _ {R : Type 0} (s : List ℕ) (at : ℕ) (z : R) (stop : Refusal → R) (
   pub on-terms-refused : (e : Refusal) → x ≡ T.Refused e → z ≡ stop e → z ≡ terms .run s at stop go
   on-terms-refused e q = on-refused terms T.Refused (termsWhole at) s at z stop go x p e q (λ v m i. cc) (λ d i. cc)
 
+-- behind the terms: what the type has
+module _ (kind : ℕ) (s : List ℕ) (at : ℕ) (z : RecipientsRead) where
+  pub if-mint : kind ≡ 12 → z ≡ recipientsAt mintNft s at → z ≡ recipientsAt (operationType kind) s at
+  if-mint h e = rw h e
+
+  pub if-transfer : (kind ≡ 12 → ⊥) → z ≡ recipientsAt transferNft s at → z ≡ recipientsAt (operationType kind) s at
+  if-transfer h e = rw (ne-eqb kind 12 h) e
+
+pub mint-recipients-made : (f at c d n : ℕ) → f ≡ at + 4 → c ≡ d → X.Whole (Q.Mint f c) n ≡ X.Whole (Q.Mint (at + 4) d) n
+mint-recipients-made f at c d n e g = rw (e, g)
+
+pub transfer-recipients-made : (w u : OwnersFields) (n : ℕ) → w ≡ u → X.Whole (Q.Transfer w) n ≡ X.Whole (Q.Transfer u) n
+transfer-recipients-made w u n e = rw e
+
+module _ {R : Type 0} (k : OperationType) (s : List ℕ) (at : ℕ) (z : R) (stop : Refusal → R) (go : OperationOwners k → ℕ → R) (x : RecipientsRead) (p : x ≡ recipientsAt k s at) where
+  pub on-recipients : (w : Recipients) (n : ℕ) → x ≡ X.Whole w n → ((v : OperationOwners k) → w ≡ recipients (at + 4) n (k, v) → z ≡ go v n) → z ≡ operationOwners k .run s at stop go
+  on-recipients w n q e =
+      on-whole (operationOwners k) X.Refused (recipientsWhole k at) s at z stop go x p (X.Whole w n) n q (λ d i. cc) (λ v m i. cc) (λ v i t. e v (cc))
+
+  pub on-recipients-refused : (e : Refusal) → x ≡ X.Refused e → z ≡ stop e → z ≡ operationOwners k .run s at stop go
+  on-recipients-refused e q = on-refused (operationOwners k) X.Refused (recipientsWhole k at) s at z stop go x p e q (λ v m i. cc) (λ d i. cc)
+
+-- the type of an operation, where the code has compared it with 12 and 13
+abbrev operationTag : Format OperationType
+operationTag = tag operationCode operationType operationType-code (number 4) (mintNft ∷ transferNft ∷ []) unknownType
+
+operation-type-run : {R : Type 0} (s : List ℕ) (at : ℕ) (stop : Refusal → R) (go : OperationType → ℕ → R)
+    → operationTag .run s at stop go ≡ number 4 .run s at stop (λ n m. pick (eqb n 12) (go mintNft m) (pick (eqb n 13) (go transferNft m) (stop (by unknownType at))))
+unfolding tag
+operation-type-run s at stop go = refl
+
+operation-known : {R : Type 0} (v : ℕ) (go : OperationType → R) (y : R) → 12 ≤ v → v ≤ 13
+    → pick (eqb v 12) (go mintNft) (pick (eqb v 13) (go transferNft) y) ≡ go (operationType v)
+operation-known v go y h i = cases (ltb v 13) refl
+  where
+    cases : (b : Bool) → ltb v 13 ≡ b → pick (eqb v 12) (go mintNft) (pick (eqb v 13) (go transferNft) y) ≡ go (operationType v)
+    cases true e = rw (eq-eqb v 12 (omega (arith, ltb-true v 13 e)))
+    cases false e = rw (ne-eqb v 12 (λ j. omega (arith, ltb-false v 13 e)), eq-eqb v 13 (omega (arith, ltb-false v 13 e)))
+
+module _ {R : Type 0} (s : List ℕ) (at : ℕ) (z : R) (stop : Refusal → R) (go : OperationType → ℕ → R) (x : Number) (p : x ≡ valued (number 4) s at) where
+  pub on-operation-type : (v n : ℕ) → x ≡ N.Value v n → Slice s → 12 ≤ v → v ≤ 13 → (n ≡ at + 4 → z ≡ go (operationType v) n) → z ≡ operationTag .run s at stop go
+  on-operation-type v n q b h i e =
+      W.on-value 4 s at z stop _ x v n p q (e (value-next 4 s at x v n p q b) ∙ sym (operation-known v (λ k. go k n) (stop (by unknownType at)) h i)) ∙ sym (operation-type-run s at stop go)
+
+  pub on-operation-type-below : (v n : ℕ) → x ≡ N.Value v n → v < 12 → z ≡ stop (by unknownType at) → z ≡ operationTag .run s at stop go
+  on-operation-type-below v n q h e =
+      W.on-value 4 s at z stop _ x v n p q (rw (ne-eqb v 12 (λ i. omega arith), ne-eqb v 13 (λ i. omega arith)) e) ∙ sym (operation-type-run s at stop go)
+
+  pub on-operation-type-above : (v n : ℕ) → x ≡ N.Value v n → 13 < v → z ≡ stop (by unknownType at) → z ≡ operationTag .run s at stop go
+  on-operation-type-above v n q h e =
+      W.on-value 4 s at z stop _ x v n p q (rw (ne-eqb v 12 (λ i. omega arith), ne-eqb v 13 (λ i. omega arith)) e) ∙ sym (operation-type-run s at stop go)
+
+  pub on-operation-type-short : (e : Refusal) → x ≡ N.Refused e → (f : Refusal) → f ≡ cutAt 4 s at → z ≡ stop f → z ≡ operationTag .run s at stop go
+  on-operation-type-short e q f g r = W.on-short 4 s at z stop _ x e p q f g r ∙ sym (operation-type-run s at stop go)
+
 -- what follows the pairs: type, terms, and what the type has
 module _ (place count at i o : ℕ) (v : Terms) (w : TermsFields) (n : ℕ) (hi : i ≡ at + 4) (hw : w ≡ termsFields i o v) (ho : o ≡ i + length (terms .write v)) where
   same-end : o ≡ at + 4 + length (terms .write v)
@@ -425,15 +503,9 @@ module _ (place count at i o : ℕ) (v : Terms) (w : TermsFields) (n : ℕ) (hi 
   same-terms : w ≡ termsFields (at + 4) (at + 4 + length (terms .write v)) v
   same-terms = hw ∙ ap₂ (λ j k. termsFields j k v) hi same-end
 
-  pub mint-action-made : (first c d : ℕ) → first ≡ o + 4 → c ≡ d
-      → Y.Whole record { «outputs_at» = place; «outputs_count» = count; terms = w; recipients = Q.Mint first c } n
-      ≡ Y.Whole record { «outputs_at» = place; «outputs_count» = count; terms = termsFields (at + 4) (at + 4 + length (terms .write v)) v; recipients = Q.Mint (at + 4 + length (terms .write v) + 4) d } n
-  mint-action-made first c d e f = rw (same-terms, e, same-end, f)
-
-  pub transfer-action-made : (u y : OwnersFields) → u ≡ y
-      → Y.Whole record { «outputs_at» = place; «outputs_count» = count; terms = w; recipients = Q.Transfer u } n
-      ≡ Y.Whole record { «outputs_at» = place; «outputs_count» = count; terms = termsFields (at + 4) (at + 4 + length (terms .write v)) v; recipients = Q.Transfer y } n
-  transfer-action-made u y e = rw (same-terms, e)
+  pub operation-made : (k : OperationType) (y : OperationOwners k) (u : Recipients) → u ≡ recipients (o + 4) n (k, y)
+      → Y.Whole record { «outputs_at» = place; «outputs_count» = count; terms = w; recipients = u } n ≡ actionWhole place count at (k, (v, y)) n
+  operation-made k y u e = rw (same-terms, e, same-end)
 
 -- the same, seen from the operation's start (its asset id is none of its fields)
 abbrev Action : Type 0
@@ -450,7 +522,20 @@ pub on-action : (s : List ℕ) (place count t : ℕ) (x : OperationRead) (go : A
     → ((v : Action) (n : ℕ) → actionWhole place count t v n ≡ go v n) → x ≡ action .run s t Y.Refused go
 on-action s place count t x go p e = p ∙ run-alike action s t Y.Refused _ _ e
 
+module _ {R : Type 0} (s : List ℕ) (at : ℕ) (z : R) (stop : Refusal → R) (go : Operation → ℕ → R) (x : Number) (p : x ≡ askedByOperation s at) where
+  pub on-asked : (c n : ℕ) → x ≡ N.Value c n → ((v : Operation) → c ≡ length (v .terms .0) → z ≡ go v n) → z ≡ operation .run s at stop go
+  on-asked c n q e = on-whole operation N.Refused askedWhole s at z stop go x p (N.Value c n) n q (λ d i. cc) (λ v m i. cc) (λ v i t. e v (cc))
+
+  pub on-asked-refused : (e : Refusal) → x ≡ N.Refused e → z ≡ stop e → z ≡ operation .run s at stop go
+  on-asked-refused e q = on-refused operation N.Refused askedWhole s at z stop go x p e q (λ v m i. cc) (λ d i. cc)
+
+pub asked-made : (at n : ℕ) (f : OperationFields) (v : Operation) → f ≡ operationFields at n v → N.Value (f .terms .«indices_count») n ≡ N.Value (length (v .terms .0)) n
+asked-made at n f v e = rw e
+
 module _ {R : Type 0} (s : List ℕ) (at : ℕ) (z : R) (stop : Refusal → R) (go : Operation → ℕ → R) (x : OperationRead) (p : x ≡ operationAt s at) where
+  pub on-operation-fields : (f : OperationFields) (n : ℕ) → x ≡ Y.Whole f n → ((v : Operation) → f ≡ operationFields at n v → z ≡ go v n) → z ≡ operation .run s at stop go
+  on-operation-fields f n q e = on-whole operation Y.Refused (operationWhole at) s at z stop go x p (Y.Whole f n) n q (λ d i. cc) (λ v m i. cc) (λ v i t. e v (cc))
+
   pub on-operation : (f : OperationFields) (n : ℕ) → x ≡ Y.Whole f n → ((v : Operation) → z ≡ go v n) → z ≡ operation .run s at stop go
   on-operation f n q e = on-whole operation Y.Refused (operationWhole at) s at z stop go x p (Y.Whole f n) n q (λ d i. cc) (λ v m i. cc) (λ v i t. e v)
 
@@ -539,7 +624,8 @@ pub ruleset wholly = (W.on-value, W.on-part, W.on-parts, W.on-numbers, W.tests, 
 -- the same, where places are counted from the start
 pub ruleset placed = (on-value-next, on-part-next, W.on-numbers, W.if-eq, W.if-ne, on-string-next, on-owners, nft-transfer-made, terms-made)
 
--- an operation behind its pairs, up to a refusal and through to its end
-pub ruleset acting = (on-value-next, W.on-short, W.if-eq, W.if-ne, on-terms, on-terms-refused, W.on-list-refused, on-owners-refused)
+-- an operation behind its pairs
+pub ruleset acting = (on-operation-type, on-operation-type-below, on-operation-type-above, on-operation-type-short, on-terms, on-terms-refused, on-recipients, on-recipients-refused, operation-made)
 
-pub ruleset acted = (on-value-next, W.if-eq, W.if-ne, on-terms, on-owners-list, on-owners, mint-action-made, transfer-action-made)
+-- behind its terms
+pub ruleset receiving = (on-value-next, W.on-short, on-owners-list, W.on-list-refused, on-owners, on-owners-refused, mint-recipients-made, transfer-recipients-made)

@@ -5,16 +5,22 @@ use mathlib.Core.List.{List}
 use lib.ListN.{length}
 use lib.Dec.{ltb}
 use Rattle.wire.specs.Bytes.{pick, below}
+use Rattle.wire.specs.Format.{Format}
 use Rattle.wire.specs.Order.{keyBelow}
+use Rattle.wire.specs.declared.Number.{Number}
+use Rattle.wire.specs.declared.Number.the-variants as N
 use Rattle.element.specs.Strings.{string}
 use Rattle.element.specs.Owners.{Owners, owners, ownersFields}
 use Rattle.element.specs.Outputs.{transferBody, OutputType, Output, output, TransferableOutput, transferableOutput, outputFields}
 use Rattle.element.specs.Inputs.{spend}
-use Rattle.element.specs.Operations.{OperationType, OperationOwners, terms, termsFields, recipients, action, Operation, operation, operationFields}
+use Rattle.element.specs.Operations.{OperationType, OperationOwners, operationOwners, terms, termsFields, recipients, action, Operation, operation, operationFields, secpFx, nftFx, fxOutputs}
 use Rattle.element.specs.declared.StringRead.{StringRead}
 use Rattle.element.specs.declared.StringRead.the-variants as S
 use Rattle.element.specs.declared.OwnersRead.{OwnersRead}
 use Rattle.element.specs.declared.OwnersRead.the-variants as W
+use Rattle.element.specs.declared.Allowed.{Allowed}
+use Rattle.element.specs.declared.Allowed.the-variants as A
+use Rattle.element.specs.declared.OutputFields.{OutputFields}
 use Rattle.element.specs.declared.OutputFields.the-variants as F
 use Rattle.element.specs.declared.OutputRead.{OutputRead}
 use Rattle.element.specs.declared.OutputRead.the-variants as O
@@ -22,6 +28,8 @@ use Rattle.element.specs.declared.InputRead.{InputRead}
 use Rattle.element.specs.declared.InputRead.the-variants as I
 use Rattle.element.specs.declared.TermsRead.{TermsRead}
 use Rattle.element.specs.declared.TermsRead.the-variants as T
+use Rattle.element.specs.declared.RecipientsRead.{RecipientsRead}
+use Rattle.element.specs.declared.RecipientsRead.the-variants as R
 use Rattle.element.specs.declared.OperationRead.{OperationRead}
 use Rattle.element.specs.declared.OperationRead.the-variants as P
 
@@ -57,6 +65,28 @@ transferableWhole at v n = O.Whole (outputFields (at + 32) n (v .output)) n
 abbrev pub transferableAt : List ℕ → ℕ → OutputRead
 transferableAt s at = transferableOutput .run s at O.Refused (transferableWhole at)
 
+-- an output of a list, by which outputs that takes
+abbrev pub AllowedOutput : Allowed → Type 0
+AllowedOutput A.Transferable = TransferableOutput
+AllowedOutput A.Secp = Output
+AllowedOutput A.Nft = Output
+
+abbrev pub allowedOutput : (a : Allowed) → Format (AllowedOutput a)
+allowedOutput A.Transferable = transferableOutput
+allowedOutput A.Secp = output (fxOutputs secpFx)
+allowedOutput A.Nft = output (fxOutputs nftFx)
+
+abbrev pub allowedFields : (a : Allowed) → ℕ → ℕ → AllowedOutput a → OutputFields
+allowedFields A.Transferable at n v = outputFields (at + 32) n (v .output)
+allowedFields A.Secp at n v = outputFields at n v
+allowedFields A.Nft at n v = outputFields at n v
+
+abbrev pub allowedWhole : (a : Allowed) → ℕ → AllowedOutput a → ℕ → OutputRead
+allowedWhole a at v n = O.Whole (allowedFields a at n v) n
+
+abbrev pub allowedAt : Allowed → List ℕ → ℕ → OutputRead
+allowedAt a s at = allowedOutput a .run s at O.Refused (allowedWhole a at)
+
 -- an input behind its key, whose index is known
 abbrev pub spendWhole : ℕ → List ℕ × (Unit {0} × (ℕ × List ℕ)) → ℕ → InputRead
 spendWhole index (asset, (type, (amount, list))) n =
@@ -70,6 +100,13 @@ termsWhole at v n = T.Whole (termsFields at n v) n
 
 abbrev pub termsAt : List ℕ → ℕ → TermsRead
 termsAt s at = terms .run s at T.Refused (termsWhole at)
+
+-- behind the terms
+abbrev pub recipientsWhole : (k : OperationType) → ℕ → OperationOwners k → ℕ → RecipientsRead
+recipientsWhole k at o n = R.Whole (recipients (at + 4) n (k, o)) n
+
+abbrev pub recipientsAt : OperationType → List ℕ → ℕ → RecipientsRead
+recipientsAt k s at = operationOwners k .run s at R.Refused (recipientsWhole k at)
 
 -- behind the pairs, whose place and number are known
 abbrev pub actionWhole : ℕ → ℕ → ℕ → (k : OperationType) × ((List ℕ × (ℕ × List ℕ)) × OperationOwners k) → ℕ → OperationRead
@@ -91,6 +128,13 @@ operationWhole at v n = P.Whole (operationFields at n v) n
 
 abbrev pub operationAt : List ℕ → ℕ → OperationRead
 operationAt s at = operation .run s at P.Refused (operationWhole at)
+
+-- how many address indices an operation has
+abbrev pub askedWhole : Operation → ℕ → Number
+askedWhole v n = N.Value (length (v .terms .0)) n
+
+abbrev pub askedByOperation : List ℕ → ℕ → Number
+askedByOperation s at = operation .run s at N.Refused askedWhole
 
 -- ---- orders as code keeps them: the first of a list has none before it
 

@@ -51,7 +51,7 @@ terms = andThen indices (λ list. andThen (number 4) (λ group. payload))
 
 -- type, terms, and what the type has
 unfoldable pub action : Format ((k : OperationType) × ((List ℕ × (ℕ × List ℕ)) × OperationOwners k))
-unfolding andThen tag counted
+unfolding andThen counted
 action =
     andThen (tag operationCode operationType operationType-code (number 4) (mintNft ∷ transferNft ∷ []) unknownType) (λ k.
     andThen terms (λ v. operationOwners k))

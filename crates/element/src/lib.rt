@@ -51,6 +51,13 @@ pub enum OutputRead {
     Refused(Refusal),
 }
 
+// Which outputs a list takes: transferable ones, or those of an FxID.
+pub enum Allowed {
+    Transferable,
+    Secp,
+    Nft,
+}
+
 // An input's fields beside its identifiers.
 pub struct InputFields {
     pub index: u64,
@@ -68,6 +75,11 @@ pub enum InputRead {
 pub enum Recipients {
     Mint { owners_at: usize, owners_count: u64 },
     Transfer(OwnersFields),
+}
+
+pub enum RecipientsRead {
+    Whole(Recipients, usize),
+    Refused(Refusal),
 }
 
 // What an operation says of its outputs: who may sign, the group and the payload.

@@ -3,12 +3,13 @@ ghost use mathlib.Core.Path.{_≡_};
 ghost use Rattle.wire.specs.Series.{increasing, series, unordered};
 ghost use Rattle.wire.specs.Answer.{ended};
 ghost use Rattle.element.specs.Inputs.{key};
-ghost use Rattle.element.specs.Operations.{operation, fxOf, stateOutputs, initialState};
-ghost use Rattle.element.specs.Answer.{termsAt, actionAt, operationAt};
+ghost use Rattle.element.specs.Operations.{operation, mintNft, transferNft, operationType, fxOf, stateOutputs, initialState};
+ghost use Rattle.element.specs.Answer.{termsAt, recipientsAt, actionAt, operationAt, askedByOperation};
 use crate::OperationFields;
 use crate::OperationRead;
 use crate::OwnersRead;
 use crate::Recipients;
+use crate::RecipientsRead;
 use crate::StringRead;
 use crate::TermsFields;
 use crate::TermsRead;
@@ -99,6 +100,48 @@ pub fn operation_at(s: &[u8], at: usize) -> OperationRead
     }
 }
 
+// Behind the terms of a mint: a list of owners.
+fn mint_owners_at(s: &[u8], at: usize) -> RecipientsRead
+    ensures { λ r. ⌜ r ≡ recipientsAt mintNft (now (s .entry)) at ⌝ }
+{
+    let Number::Value(owners_count, owners_at) = wire::u32_at(s, at) else {
+        return RecipientsRead::Refused(wire::cut(s, at, 4));
+    };
+    match owners::owners_list_at(s, owners_at, owners_count) {
+        Part::Refused(refusal) => RecipientsRead::Refused(refusal),
+        Part::Next(next) => RecipientsRead::Whole(
+            Recipients::Mint {
+                owners_at,
+                owners_count,
+            },
+            next,
+        ),
+    }
+}
+
+// Behind the terms of a transfer: owners.
+fn transfer_owners_at(s: &[u8], at: usize) -> RecipientsRead
+    ensures { λ r. ⌜ r ≡ recipientsAt transferNft (now (s .entry)) at ⌝ }
+{
+    match owners::owners_at(s, at) {
+        OwnersRead::Refused(refusal) => RecipientsRead::Refused(refusal),
+        OwnersRead::Whole(owners, next) => RecipientsRead::Whole(
+            Recipients::Transfer(owners),
+            next,
+        ),
+    }
+}
+
+// Behind the terms, by the operation's type: 12 or 13.
+fn recipients_at(s: &[u8], at: usize, kind: u64) -> RecipientsRead
+    ensures { λ r. ⌜ r ≡ recipientsAt (operationType kind) (now (s .entry)) at ⌝ }
+{
+    if kind == 12 {
+        return mint_owners_at(s, at);
+    }
+    transfer_owners_at(s, at)
+}
+
 // What follows an operation's pairs.
 fn action_at(s: &[u8], at: usize, outputs_at: usize, outputs_count: u64) -> OperationRead
     ensures { λ r. ⌜ r ≡ actionAt «outputs_at» «outputs_count» (now (s .entry)) at ⌝ }
@@ -106,38 +149,13 @@ fn action_at(s: &[u8], at: usize, outputs_at: usize, outputs_count: u64) -> Oper
     let Number::Value(kind, i) = wire::u32_at(s, at) else {
         return OperationRead::Refused(wire::cut(s, at, 4));
     };
-    if kind == 12 {
-        match terms_at(s, i) {
-            TermsRead::Refused(refusal) => {
-                return OperationRead::Refused(refusal);
-            }
-            TermsRead::Whole(terms, o) => {
-                let Number::Value(owners_count, owners_at) = wire::u32_at(s, o) else {
-                    return OperationRead::Refused(wire::cut(s, o, 4));
-                };
-                match owners::owners_list_at(s, owners_at, owners_count) {
-                    Part::Refused(refusal) => {
-                        return OperationRead::Refused(refusal);
-                    }
-                    Part::Next(next) => {
-                        return OperationRead::Whole(
-                            OperationFields {
-                                outputs_at,
-                                outputs_count,
-                                terms,
-                                recipients: Recipients::Mint {
-                                    owners_at,
-                                    owners_count,
-                                },
-                            },
-                            next,
-                        );
-                    }
-                }
-            }
-        }
+    if kind < 12 {
+        return OperationRead::Refused(Refusal {
+            number: wire::numbers::UNKNOWN_TYPE,
+            place: at,
+        });
     }
-    if kind != 13 {
+    if 13 < kind {
         return OperationRead::Refused(Refusal {
             number: wire::numbers::UNKNOWN_TYPE,
             place: at,
@@ -145,18 +163,33 @@ fn action_at(s: &[u8], at: usize, outputs_at: usize, outputs_count: u64) -> Oper
     }
     match terms_at(s, i) {
         TermsRead::Refused(refusal) => OperationRead::Refused(refusal),
-        TermsRead::Whole(terms, o) => match owners::owners_at(s, o) {
-            OwnersRead::Refused(refusal) => OperationRead::Refused(refusal),
-            OwnersRead::Whole(owners, next) => OperationRead::Whole(
+        TermsRead::Whole(terms, o) => match recipients_at(s, o, kind) {
+            RecipientsRead::Refused(refusal) => OperationRead::Refused(refusal),
+            RecipientsRead::Whole(recipients, next) => OperationRead::Whole(
                 OperationFields {
                     outputs_at,
                     outputs_count,
                     terms,
-                    recipients: Recipients::Transfer(owners),
+                    recipients,
                 },
                 next,
             ),
         },
+    }
+}
+
+// How many address indices an operation has, and the place behind it.
+pub fn asked_by_operation(s: &[u8], at: usize) -> Number
+    ensures { λ r. ⌜ r ≡ askedByOperation (now (s .entry)) at ⌝ }
+{
+    match operation_at(s, at) {
+        OperationRead::Refused(refusal) => {
+            return Number::Refused(refusal);
+        }
+        OperationRead::Whole(fields, next) => {
+            let terms = fields.terms;
+            return Number::Value(terms.indices_count, next);
+        }
     }
 }
 
@@ -167,11 +200,11 @@ pub fn operations_from(s: &[u8], start: usize, count: u64) -> Part
     let mut left = count;
     let mut at = start;
     while 0 < left {
-        match operation_at(s, at) {
-            OperationRead::Refused(refusal) => {
+        match asked_by_operation(s, at) {
+            Number::Refused(refusal) => {
                 return Part::Refused(refusal);
             }
-            OperationRead::Whole(_, next) => {
+            Number::Value(_, next) => {
                 at = next;
                 left -= 1;
             }

@@ -4,7 +4,8 @@ ghost use Rattle.wire.specs.Series.{nondecreasing};
 ghost use Rattle.wire.specs.Answer.{ended};
 ghost use Rattle.element.specs.Outputs.{output, transferableOutput};
 ghost use Rattle.element.specs.Operations.{secpFx, nftFx, fxOutputs};
-ghost use Rattle.element.specs.Answer.{transferBodyAt, outputAt, transferableAt};
+ghost use Rattle.element.specs.Answer.{transferBodyAt, outputAt, transferableAt, allowedOutput, allowedAt};
+use crate::Allowed;
 use crate::OutputFields;
 use crate::OutputRead;
 use crate::OwnersRead;
@@ -134,86 +135,62 @@ pub fn transferable_at(s: &[u8], at: usize) -> OutputRead
     }
 }
 
-// So many transferable outputs from start, none below the one before.
+// An output that the list takes.
+fn allowed_at(s: &[u8], at: usize, allowed: Allowed) -> OutputRead
+    ensures { λ r. ⌜ r ≡ allowedAt allowed (now (s .entry)) at ⌝ }
+{
+    match allowed {
+        Allowed::Transferable => transferable_at(s, at),
+        Allowed::Secp => secp_at(s, at),
+        Allowed::Nft => nft_at(s, at),
+    }
+}
+
+// So many outputs from start, none below the one before.
+fn allowed_from(s: &[u8], start: usize, count: u64, allowed: Allowed) -> Part
+    ensures { λ r. ⌜ r ≡ ended (nondecreasing (allowedOutput allowed) count) (now (s .entry)) start ⌝ }
+{
+    let mut left = count;
+    let mut prev = start;
+    let mut at = start;
+    while 0 < left {
+        match allowed_at(s, at, allowed) {
+            OutputRead::Refused(refusal) => {
+                return Part::Refused(refusal);
+            }
+            OutputRead::Whole(_, next) => {
+                if wire::parts_below(s, at, next, prev, at) {
+                    return Part::Refused(Refusal {
+                        number: wire::numbers::OUT_OF_ORDER,
+                        place: at,
+                    });
+                }
+                prev = at;
+                at = next;
+                left -= 1;
+            }
+        }
+    }
+    Part::Next(at)
+}
+
+// So many transferable outputs from start.
 pub fn outputs_from(s: &[u8], start: usize, count: u64) -> Part
     ensures { λ r. ⌜ r ≡ ended (nondecreasing transferableOutput count) (now (s .entry)) start ⌝ }
 {
-    let mut left = count;
-    let mut prev = start;
-    let mut at = start;
-    while 0 < left {
-        match transferable_at(s, at) {
-            OutputRead::Refused(refusal) => {
-                return Part::Refused(refusal);
-            }
-            OutputRead::Whole(_, next) => {
-                if wire::parts_below(s, at, next, prev, at) {
-                    return Part::Refused(Refusal {
-                        number: wire::numbers::OUT_OF_ORDER,
-                        place: at,
-                    });
-                }
-                prev = at;
-                at = next;
-                left -= 1;
-            }
-        }
-    }
-    Part::Next(at)
+    allowed_from(s, start, count, Allowed::Transferable)
 }
 
-// So many outputs under FxID 0 from start, none below the one before.
+// So many outputs under FxID 0 from start.
 pub fn secp_from(s: &[u8], start: usize, count: u64) -> Part
     ensures { λ r. ⌜ r ≡ ended (nondecreasing (output (fxOutputs secpFx)) count) (now (s .entry)) start ⌝ }
 {
-    let mut left = count;
-    let mut prev = start;
-    let mut at = start;
-    while 0 < left {
-        match secp_at(s, at) {
-            OutputRead::Refused(refusal) => {
-                return Part::Refused(refusal);
-            }
-            OutputRead::Whole(_, next) => {
-                if wire::parts_below(s, at, next, prev, at) {
-                    return Part::Refused(Refusal {
-                        number: wire::numbers::OUT_OF_ORDER,
-                        place: at,
-                    });
-                }
-                prev = at;
-                at = next;
-                left -= 1;
-            }
-        }
-    }
-    Part::Next(at)
+    allowed_from(s, start, count, Allowed::Secp)
 }
 
-// So many outputs under FxID 1 from start, none below the one before.
+// So many outputs under FxID 1 from start.
 pub fn nft_from(s: &[u8], start: usize, count: u64) -> Part
     ensures { λ r. ⌜ r ≡ ended (nondecreasing (output (fxOutputs nftFx)) count) (now (s .entry)) start ⌝ }
 {
-    let mut left = count;
-    let mut prev = start;
-    let mut at = start;
-    while 0 < left {
-        match nft_at(s, at) {
-            OutputRead::Refused(refusal) => {
-                return Part::Refused(refusal);
-            }
-            OutputRead::Whole(_, next) => {
-                if wire::parts_below(s, at, next, prev, at) {
-                    return Part::Refused(Refusal {
-                        number: wire::numbers::OUT_OF_ORDER,
-                        place: at,
-                    });
-                }
-                prev = at;
-                at = next;
-                left -= 1;
-            }
-        }
-    }
-    Part::Next(at)
+    allowed_from(s, start, count, Allowed::Nft)
 }

@@ -2,7 +2,7 @@
 ghost use mathlib.Core.Path.{_≡_};
 ghost use Rattle.wire.specs.Fields.{blob};
 ghost use Rattle.wire.specs.Series.{increasing, unordered};
-ghost use Rattle.wire.specs.Answer.{ended};
+ghost use Rattle.wire.specs.Answer.{ended, wholeAt};
 ghost use Rattle.element.specs.Owners.{owners};
 ghost use Rattle.element.specs.Answer.{addressFollows, ownersAt};
 use crate::OwnersFields;
@@ -11,12 +11,12 @@ use wire::Number;
 use wire::Part;
 use wire::Refusal;
 
-// May this address stand behind the one before, if there is any?
-fn address_follows(any: bool, prev: [u8; 20], address: [u8; 20]) -> bool
-    ensures { λ r. ⌜ r ≡ addressFollows any prev address ⌝ }
+// May the address at this place stand behind the one at prev, if there is any?
+fn address_follows(s: &[u8], any: bool, prev: usize, at: usize) -> bool
+    ensures { λ r. ⌜ r ≡ addressFollows any (wholeAt 20 (now (s .entry)) prev) (wholeAt 20 (now (s .entry)) at) ⌝ }
 {
     if any {
-        return wire::address_below(prev, address);
+        return wire::address_below(wire::address_at(s, prev), wire::address_at(s, at));
     }
     true
 }
@@ -27,16 +27,15 @@ pub fn addresses_from(s: &[u8], start: usize, count: u64) -> Part
 {
     let mut left = count;
     let mut any = false;
-    let mut prev = [0u8; 20];
+    let mut prev = start;
     let mut at = start;
     while 0 < left {
         let Part::Next(next) = wire::part_at(s, at, 20) else {
             return Part::Refused(wire::cut(s, at, 20));
         };
-        let address = wire::address_at(s, at);
-        if address_follows(any, prev, address) {
+        if address_follows(s, any, prev, at) {
             any = true;
-            prev = address;
+            prev = at;
             at = next;
             left -= 1;
         } else {

@@ -1,20 +1,32 @@
--- The check's answer as one number. Assumes nothing.
+-- The answers of check and merge as one number. Assumes nothing.
 use Prim.Native.Nat.{ℕ, _+_, _*_, _≤_}
-use mathlib.Core.Path.{_≡_, sym, ap, _∙_}
-use mathlib.Core.List.{List}
+use lib.Dec.{leb}
+use mathlib.Core.Path.{_≡_, refl, sym, ap, _∙_, subst}
+use mathlib.Core.Bool.{Bool, true, false}
+use mathlib.Core.Option.{Option, none, some}
+use mathlib.Core.List.{List, [], _∷_}
 use native.Mathlib.Omega.{arith}
 use lib.ListN.{length}
 use Rattle.wire.specs.Format.{verdict}
 use Rattle.wire.specs.declared.Refusal.{Refusal}
 use Rattle.wire.proofs.Bytes.{Slice, slice-bytes, found}
-use Rattle.transaction.specs.Family.{check}
+use Rattle.wire.specs.Numbers.{refusal}
+use Rattle.transaction.specs.Slots.{signatureWidth, Spaced}
+use Rattle.transaction.specs.Family.{unsigned, wants, check}
 use Rattle.transaction.specs.Avm.{avm}
 use Rattle.transaction.specs.Answer.{memoMost, checked}
 use Rattle.transaction.specs.declared.Layout.{Layout}
 use Rattle.transaction.specs.declared.Checked.{Checked}
 use Rattle.transaction.specs.declared.Checked.the-variants as C
 use Rattle.transaction.proofs.Verdicts.{checked-number, checked-place, checked-accepted, checked-refused}
-use Rattle.phone.specs.Packed.{packed}
+use Rattle.transaction.proofs.Signed.{parts-of, spaced-slots}
+use Rattle.slot.specs.Joining.{same, firstClash}
+use Rattle.slot.proofs.Comparing.{first-some}
+use Rattle.draft.specs.Reader.{Reader, reader, body}
+use Rattle.draft.specs.Calls.{answerNumber, answerPlace, refuse, merged, decideMerge, mergeCall}
+use Rattle.draft.specs.declared.Answer.{Answer}
+use Rattle.draft.specs.declared.Answer.the-variants as A
+use Rattle.phone.specs.Packed.{packed, packedCall}
 
 -- x is what the check answered
 module _ (s : List ℕ) (b : Slice s) (x : Checked) (p : x ≡ checked s) where
@@ -30,3 +42,58 @@ module _ (s : List ℕ) (b : Slice s) (x : Checked) (p : x ≡ checked s) where
   refused-small e q = (checked-number s e (found q p) .1, checked-place s e (slice-bytes s b) (found q p))
 
 pub ruleset packing = (accepted-packed, refused-packed)
+
+-- ---- merge
+
+-- there are no more slots than bytes
+spaced-count : (lo : ℕ) (ps : List ℕ) (n : ℕ) → Spaced lo ps n → lo + length ps ≤ n
+unfolding signatureWidth
+spaced-count lo [] n h = omega arith
+spaced-count lo (p ∷ ps) n h = let k : p + signatureWidth + length ps ≤ n = spaced-count (p + signatureWidth) ps n (h .1) in omega arith
+
+module _ (d e out : List ℕ) (b : Slice d) where
+  abbrev R : Reader
+  R = reader (avm memoMost)
+
+  -- the slot of a conflict is a small number
+  slot-small : R .accepts d ≡ true → (k : ℕ) → firstClash 0 (R .slots d) d e ≡ some k → k ≤ 65536
+  slot-small h k q =
+      let (u, l, p) = parts-of (unsigned (avm memoMost)) (wants (avm memoMost)) d (slice-bytes d b) h in
+      let c = first-some 0 (R .slots d) d e k q in
+      omega (arith, p .short, spaced-count 0 (R .slots d) (length d) (spaced-slots (unsigned (avm memoMost)) (wants (avm memoMost)) d u l p), c .at, c .k-in)
+
+  module _ (f : Refusal) (s : List ℕ) where
+    small : (n p : ℕ) (t : List ℕ) → n ≤ 20 → p ≤ 65536 → _≡_ {A = Answer × List ℕ} (A.Refused f, s) (refuse n p, t) → (f .number ≤ 20) × (f .place ≤ 65536)
+    small n p t h k q =
+        let y : A.Refused f ≡ refuse n p = ap (λ (z : Answer × List ℕ). z .0) q in
+        let z : refusal n p ≡ f = cc in subst (λ (g : Refusal). (g .number ≤ 20) × (g .place ≤ 65536)) z (h, k)
+
+    decided-small : (u v w : Bool) (o : Option ℕ) (r : Bool) (m : List ℕ) → (u ≡ true → (k : ℕ) → o ≡ some k → k ≤ 65536)
+        → (A.Refused f, s) ≡ decideMerge u v w o r m out → (f .number ≤ 20) × (f .place ≤ 65536)
+    decided-small false v w o r m h q = small 17 0 out (omega arith) (omega arith) q
+    decided-small true false w o r m h q = small 18 0 out (omega arith) (omega arith) q
+    decided-small true true false o r m h q = small 19 0 out (omega arith) (omega arith) q
+    decided-small true true true (some k) r m h q = small 20 k out (omega arith) (h refl k refl) q
+    decided-small true true true none false m h q = small 14 0 out (omega arith) (omega arith) q
+    decided-small true true true none true m h q =
+        let y : A.Refused f ≡ A.Done (length m) = ap (λ (z : Answer × List ℕ). z .0) q in
+        let z : _≡_ {A = ℕ} 0 1 = cc in
+        absurd (omega arith)
+
+  -- a is what merge answered, and s what it left of out
+  module _ (a : Answer) (s : List ℕ) (p : (a, s) ≡ mergeCall R d e out) where
+    pub merge-small : (f : Refusal) → a ≡ A.Refused f → (f .number ≤ 20) × (f .place ≤ 65536)
+    unfolding mergeCall
+    merge-small f q =
+        decided-small f s (R .accepts d) (R .accepts e) (same (body R d) (body R e)) (firstClash 0 (R .slots d) d e) (leb (length d) (length out)) (merged R d e) slot-small
+        (ap (λ (x : Answer). (x, s)) (sym q) ∙ p)
+
+    pub merge-done : (n : ℕ) → a ≡ A.Done n → (n, s) ≡ packedCall (mergeCall R d e out)
+    merge-done n q =
+        let z : n ≡ packed (answerNumber (A.Done n), answerPlace (A.Done n)) = omega arith in
+        ap (λ (i : ℕ). (i, s)) z ∙ ap (λ (x : Answer). packedCall (x, s)) (sym q) ∙ ap packedCall p
+
+    pub merge-refused : (f : Refusal) → a ≡ A.Refused f → (f .number * 4294967296 + f .place, s) ≡ packedCall (mergeCall R d e out)
+    merge-refused f q = ap (λ (x : Answer). packedCall (x, s)) (sym q) ∙ ap packedCall p
+
+pub ruleset merged-packing = (merge-done, merge-refused)

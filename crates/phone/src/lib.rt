@@ -4,7 +4,10 @@ ghost use Rattle.wire.specs.Format.{verdict};
 ghost use Rattle.transaction.specs.Family.{check};
 ghost use Rattle.transaction.specs.Avm.{avm};
 ghost use Rattle.transaction.specs.Answer.{memoMost};
-ghost use Rattle.phone.specs.Packed.{packed};
+ghost use Rattle.draft.specs.Reader.{reader};
+ghost use Rattle.draft.specs.Calls.{mergeCall};
+ghost use Rattle.phone.specs.Packed.{packed, packedCall};
+use draft::Answer;
 use transaction::Checked;
 
 // Accepted, and how many bytes; or the first broken rule and its place.
@@ -15,5 +18,16 @@ pub extern "C" fn cellfacet_check(bytes: &[u8]) -> u64
     match transaction::check::check(bytes) {
         Checked::Accepted(_, end) => end as u64,
         Checked::Refused(refusal) => refusal.number as u64 * 4294967296 + refusal.place as u64,
+    }
+}
+
+// The merge at the front of out, and how many bytes; or the refusal, and out as it was.
+#[no_mangle]
+pub extern "C" fn cellfacet_merge(first: &[u8], second: &[u8], out: &mut [u8]) -> u64
+    ensures { λ r. ⌜ (r, now (out .exit)) ≡ packedCall (mergeCall (reader (avm memoMost)) (now (first .entry)) (now (second .entry)) (now (out .entry))) ⌝ }
+{
+    match draft::merge(first, second, out) {
+        Answer::Done(end) => end as u64,
+        Answer::Refused(refusal) => refusal.number as u64 * 4294967296 + refusal.place as u64,
     }
 }

@@ -24,11 +24,8 @@ use Rattle.wire.specs.Answer.{ended, valued}
 use Rattle.wire.proofs.Bytes.{Slice, slice-bytes, found}
 use Rattle.wire.proofs.Reading as W
 use Rattle.element.specs.Strings.{string, text, denomination}
-use Rattle.element.specs.Operations.{Operation, operation, operationFields}
-use Rattle.element.specs.Answer.{stringWhole, stringAt, operationWhole, operationAt}
-use Rattle.element.specs.declared.OperationFields.{OperationFields}
-use Rattle.element.specs.declared.OperationRead.{OperationRead}
-use Rattle.element.specs.declared.OperationRead.the-variants as Y
+use Rattle.element.specs.Operations.{operation}
+use Rattle.element.specs.Answer.{stringWhole, stringAt}
 use Rattle.element.specs.declared.StringRead.{StringRead}
 use Rattle.element.specs.declared.StringRead.the-variants as S
 use Rattle.element.proofs.Reading.{answer-took, answer-refused, on-value-next, on-part-next, on-string-refused}
@@ -288,14 +285,9 @@ module _ (s : List ℕ) (q at : ℕ) where
   operations-end zero z y i h e = e ∙ i
   operations-end (suc n) z y i h e = absurd (not-suc-le-zero h)
 
--- an operation's index count
-module _ {R : Type 0} (s : List ℕ) (at : ℕ) (z : R) (stop : Refusal → R) (go : Operation → ℕ → R) (x : OperationRead) (p : x ≡ operationAt s at) where
-  pub on-operation-count : (f : OperationFields) (n : ℕ) → x ≡ Y.Whole f n → ((v : Operation) → f .terms .«indices_count» ≡ length (v .terms .0) → z ≡ go v n) → z ≡ operation .run s at stop go
-  on-operation-count f n q e =
-      let (v, m, t, i) = answer-took operation s at Y.Refused (operationWhole at) x p (Y.Whole f n) q (λ e i. let z : _≡_ {A = ℕ} 0 1 = cc in omega arith) in
-      let em : m ≡ n = cc in
-      let ef : f ≡ operationFields at m v = cc in
-      e v (ap (λ (g : OperationFields). g .terms .«indices_count») ef) ∙ sym (W.run-took operation s at stop go v n (t ∙ ap (took v) em))
+-- an answer that is taken apart and made again
+pub made-again : {A : Type 0} (x y z : A) → x ≡ z → x ≡ y → y ≡ z
+made-again x y z p q = sym q ∙ p
 
 pub same : {A : Type 0} (a : A) → a ≡ a
 same a = refl

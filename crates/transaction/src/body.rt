@@ -197,13 +197,32 @@ pub fn own_at(s: &[u8], at: usize, kind: Kind) -> ListRead
     }
 }
 
+// The lists of the base part, of any length. Each is called in a function of its own, so that the room of its answer is free behind it.
+fn base_outputs_at(s: &[u8], at: usize) -> ListRead
+    ensures { λ r. ⌜ r ≡ outputsAt 0 (now (s .entry)) at ⌝ }
+{
+    match outputs_at(s, at, 0) {
+        ListRead::Refused(refusal) => ListRead::Refused(refusal),
+        ListRead::Whole(first, count, next) => ListRead::Whole(first, count, next),
+    }
+}
+
+fn base_inputs_at(s: &[u8], at: usize) -> ListRead
+    ensures { λ r. ⌜ r ≡ inputsAt 0 (now (s .entry)) at ⌝ }
+{
+    match inputs_at(s, at, 0) {
+        ListRead::Refused(refusal) => ListRead::Refused(refusal),
+        ListRead::Whole(first, count, next) => ListRead::Whole(first, count, next),
+    }
+}
+
 // Outputs, inputs, memo and the own part.
 pub fn body_at(s: &[u8], at: usize, kind: Kind) -> UnsignedRead
     ensures { λ r. ⌜ r ≡ bodyAt kind (now (s .entry)) at ⌝ }
 {
-    match outputs_at(s, at, 0) {
+    match base_outputs_at(s, at) {
         ListRead::Refused(refusal) => UnsignedRead::Refused(refusal),
-        ListRead::Whole(_, outputs_count, i) => match inputs_at(s, i, 0) {
+        ListRead::Whole(_, outputs_count, i) => match base_inputs_at(s, i) {
             ListRead::Refused(refusal) => UnsignedRead::Refused(refusal),
             ListRead::Whole(inputs_at, inputs_count, m) => match element::strings::string_at(
                 s,

@@ -21,9 +21,13 @@ pub fn check(s: &[u8]) -> Checked
         });
     }
     match body::unsigned_at(s) {
-        UnsignedRead::Refused(refusal) => Checked::Refused(refusal),
+        UnsignedRead::Refused(refusal) => {
+            return Checked::Refused(refusal);
+        }
         UnsignedRead::Whole(layout, at) => match credentials::credentials_at(s, at, layout) {
-            Part::Refused(refusal) => Checked::Refused(refusal),
+            Part::Refused(refusal) => {
+                return Checked::Refused(refusal);
+            }
             Part::Next(end) => {
                 if end != s.len() {
                     return Checked::Refused(Refusal {
@@ -31,7 +35,7 @@ pub fn check(s: &[u8]) -> Checked
                         place: end,
                     });
                 }
-                Checked::Accepted(layout, end)
+                return Checked::Accepted(layout, end);
             }
         },
     }

@@ -6,7 +6,6 @@ ghost use Rattle.transaction.specs.Credentials.{signatures, credentialPi
 ghost use Rattle.transaction.specs.Answer.{besideInputs, besideOperations, besideOwn, ownWants, credentialsBeside};
 use crate::Kind;
 use crate::Layout;
-use element::OperationRead;
 use wire::Number;
 use wire::Part;
 use wire::Refusal;
@@ -94,26 +93,33 @@ pub fn beside_operations(s: &[u8], count: u64, first: usize, start: usize) -> Pa
     let mut q = first;
     let mut at = start;
     while 0 < left {
-        match element::operations::operation_at(s, q) {
-            OperationRead::Refused(refusal) => {
+        match element::operations::asked_by_operation(s, q) {
+            Number::Refused(refusal) => {
                 return Part::Refused(refusal);
             }
-            OperationRead::Whole(fields, next) => {
-                let terms = fields.terms;
-                match credential_at(s, at, 14, terms.indices_count) {
-                    Part::Refused(refusal) => {
-                        return Part::Refused(refusal);
-                    }
-                    Part::Next(m) => {
-                        q = next;
-                        at = m;
-                        left -= 1;
-                    }
+            Number::Value(indices, next) => match credential_at(s, at, 14, indices) {
+                Part::Refused(refusal) => {
+                    return Part::Refused(refusal);
                 }
-            }
+                Part::Next(m) => {
+                    q = next;
+                    at = m;
+                    left -= 1;
+                }
+            },
         }
     }
     Part::Next(at)
+}
+
+// Those of the base part, in a function of its own, so that the room of the answer is free behind it.
+fn beside_base_inputs(s: &[u8], count: u64, first: usize, start: usize) -> Part
+    ensures { λ r. ⌜ r ≡ besideInputs count (now (s .entry)) first start ⌝ }
+{
+    match beside_inputs(s, count, first, start) {
+        Part::Refused(refusal) => Part::Refused(refusal),
+        Part::Next(next) => Part::Next(next),
+    }
 }
 
 // Those that the own part wants.
@@ -165,7 +171,7 @@ pub fn credentials_at(s: &[u8], at: usize, layout: Layout) -> Part
             place: at,
         });
     }
-    match beside_inputs(s, inputs, layout.inputs_at, first) {
+    match beside_base_inputs(s, inputs, layout.inputs_at, first) {
         Part::Refused(refusal) => Part::Refused(refusal),
         Part::Next(m) => beside_own(s, kind, own, layout.own_at, m),
     }

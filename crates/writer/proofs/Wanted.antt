@@ -29,7 +29,7 @@ use Rattle.transaction.specs.declared.Layout.{Layout}
 use Rattle.transaction.proofs.Beside.{skipped, at-least-inv}
 use Rattle.transaction.proofs.Reading.{written-next}
 use Rattle.writer.specs.Steps.{blankOf}
-use Rattle.writer.specs.Closing.{askedByInput, askedByOperation, askedAt, blankCredential, blanksFrom, ownType, closingOf, counted}
+use Rattle.writer.specs.Closing.{askedByInput, askedAt, blankCredential, blanksFrom, ownType, closingOf, counted}
 use Rattle.writer.proofs.Blanks.{length-blank, blanks-on}
 
 -- ---- blank credentials, one behind the other
@@ -90,7 +90,7 @@ unfolding askedAt askedByInput
 asked-input prev s q v m b e = sym (skipped prev s q v m b e N.Refused N.Value)
 
 asked-operation : (s : List ℕ) (q : ℕ) (v : Operation) (m : ℕ) → read operation s q ≡ took v m → N.Value (length (v .terms .0)) m ≡ askedAt 14 s q
-unfolding askedAt askedByOperation
+unfolding askedAt
 asked-operation s q v m e = sym (run-took operation s q N.Refused (λ v next. N.Value (length (v .terms .0)) next) v m e)
 
 inputs-blank : (n : ℕ) (prev s : List ℕ) (q : ℕ) (l : List Input) (e : ℕ) → Slice s → read (items input (left input) prev n) s q ≡ took l e

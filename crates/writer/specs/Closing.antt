@@ -11,7 +11,7 @@ use Rattle.wire.specs.declared.Number.{Number}
 use Rattle.wire.specs.declared.Number.the-variants as N
 use Rattle.wire.specs.declared.Part.{Part}
 use Rattle.wire.specs.declared.Part.the-variants as P
-use Rattle.element.specs.Operations.{operation}
+use Rattle.element.specs.Answer.{askedByOperation}
 use Rattle.transaction.specs.Signed.{mostBytes}
 use Rattle.transaction.specs.Answer.{ownWants}
 use Rattle.transaction.specs.Plan.{shut}
@@ -34,12 +34,9 @@ askedByInput s q =
     blob (4 * c) .run s first N.Refused λ list next.
     N.Value c next
 
-unfoldable pub askedByOperation : List ℕ → ℕ → Number
-askedByOperation s q = operation .run s q N.Refused λ v next. N.Value (length (v .terms .0)) next
-
 -- the credential's type tells what the element is
 unfoldable pub askedAt : ℕ → List ℕ → ℕ → Number
-unfolding askedByInput askedByOperation
+unfolding askedByInput
 askedAt t s q = pick (eqb t 14) (askedByOperation s q) (askedByInput s q)
 
 -- a credential of type t and n blank signatures

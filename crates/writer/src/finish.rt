@@ -10,11 +10,10 @@ ghost use Rattle.transaction.specs.Avm.{avm};
 ghost use Rattle.transaction.specs.Answer.{memoMost};
 ghost use Rattle.writer.specs.Steps.{overwrite, notDue, finishAt};
 ghost use Rattle.writer.specs.Code.{after};
-ghost use Rattle.writer.specs.Closing.{Blanks, Room, Closable, askedByInput, askedByOperation, askedAt, blankCredential, blanksFrom, ownType, closingOf, fitted, refusedStep, mostIn, closeStep, lastPhase};
+ghost use Rattle.writer.specs.Closing.{Blanks, Room, Closable, askedByInput, askedAt, blankCredential, blanksFrom, ownType, closingOf, fitted, refusedStep, mostIn, closeStep, lastPhase};
 use crate::Step;
 use crate::Writer;
 use crate::Written;
-use element::OperationRead;
 use transaction::Kind;
 use transaction::Layout;
 use transaction::UnsignedRead;
@@ -42,25 +41,12 @@ fn asked_by_input(s: &[u8], q: usize) -> Number
     Number::Value(count, next)
 }
 
-// How many indices the operation at q has, and the place behind it.
-fn asked_by_operation(s: &[u8], q: usize) -> Number
-    ensures { λ r. ⌜ r ≡ askedByOperation (now (s .entry)) q ⌝ }
-{
-    match element::operations::operation_at(s, q) {
-        OperationRead::Refused(refusal) => Number::Refused(refusal),
-        OperationRead::Whole(fields, next) => {
-            let terms = fields.terms;
-            Number::Value(terms.indices_count, next)
-        }
-    }
-}
-
 // How many signatures the element at q wants, by the type of its credential.
 fn asked_at(s: &[u8], q: usize, kind: u64) -> Number
     ensures { λ r. ⌜ r ≡ askedAt kind (now (s .entry)) q ⌝ }
 {
     if kind == 14 {
-        return asked_by_operation(s, q);
+        return element::operations::asked_by_operation(s, q);
     }
     asked_by_input(s, q)
 }

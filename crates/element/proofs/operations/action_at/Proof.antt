@@ -1,7 +1,6 @@
--- `element::operations::action_at` meets its contract.
--- Assumes nothing.
+-- `element::operations::action_at` meets its contract. Assumes nothing.
 use borrow.Author.Needs.{needs}
-use Rattle.element.proofs.Reading.{acting, acted}
+use Rattle.element.proofs.Reading.{acting}
 use Rattle.element.specs.Operations.{action}
 use Rattle.element.proofs.operations.action_at.Statement.{statement}
 use Rattle.element.proofs.operations.action_at.Tie as tie
@@ -16,27 +15,14 @@ action-at-spec =
     (λ c. search needs)  -- enum-told
     (λ c κs. search needs)  -- cut-requires
     (λ c. search acting depth 12)  -- returns
+    (λ c. search acting depth 12)  -- returns-2
+    (λ c. search acting depth 12)  -- returns-3
     (λ c κs. search needs)  -- terms-at-requires
     (λ c. search needs)  -- enum-known-refusal
-    (λ c. search acting depth 12)  -- returns-2
     (λ c. search needs)  -- enum-known-terms
-    (λ c κs. search needs)  -- u32-at-requires-2
-    (λ c. search needs)  -- enum-known-owners-count
-    (λ c. search needs)  -- enum-told-2
-    (λ c κs. search needs)  -- cut-requires-2
-    (λ c. search acting depth 12)  -- returns-3
-    (λ c κs. search needs)  -- owners-list-at-requires
+    (λ c κs. search needs)  -- recipients-at-requires
     (λ c. search needs)  -- enum-known-refusal-2
+    (λ c. search needs)  -- enum-known-recipients
     (λ c. search acting depth 12)  -- returns-4
-    (λ c. search needs)  -- enum-known-next
-    (λ c. search acted depth 12)  -- returns-5
-    (λ c. search acting depth 12)  -- returns-6
-    (λ c κs. search needs)  -- terms-at-requires-2
-    (λ c. search needs)  -- enum-known-refusal-3
-    (λ c. search needs)  -- enum-known-terms-2
-    (λ c κs. search needs)  -- owners-at-requires
-    (λ c. search needs)  -- enum-known-refusal-4
-    (λ c. search needs)  -- enum-known-owners
-    (λ c. search acting depth 12)  -- returns-7
-    (λ c. search acting depth 12)  -- returns-8
-    (λ c. search acted depth 12))  -- returns-9
+    (λ c. search acting depth 12)  -- returns-5
+    (λ c. search acting depth 12))  -- returns-6

@@ -1,4 +1,4 @@
--- `element::owners::addresses_from` meets its contract. The invariant: the reading of what is left, from here, is the whole reading; what is kept of the address before is its bytes.
+-- `element::owners::addresses_from` meets its contract. The invariant: the reading of what is left, from here, is the whole reading; what is kept of the address before is its place.
 -- Assumes nothing.
 use borrow.Author.Needs.{needs}
 use mathlib.Core.Path.{_≡_, refl}
@@ -7,7 +7,7 @@ use Rattle.wire.specs.Bytes.{pick}
 use Rattle.wire.specs.Fields.{blob}
 use Rattle.wire.specs.Sequence.{guard}
 use Rattle.wire.specs.Series.{above, seriesFrom, increasing}
-use Rattle.wire.specs.Answer.{ended}
+use Rattle.wire.specs.Answer.{ended, wholeAt}
 use Rattle.wire.proofs.Reading.{turn, list-end}
 use Rattle.element.proofs.Reading.{if-part-follows, if-part-not, part-again}
 use Rattle.element.proofs.owners.addresses_from.Statement.{statement}
@@ -15,7 +15,7 @@ use Rattle.element.proofs.owners.addresses_from.Tie as tie
 
 abbrev Inv-loop : tie.InvT-loop
 Inv-loop s start count left₀ any₀ prev₀ at₀ left any prev at =
-    ended (seriesFrom (above (blob 20)) (pick any prev []) left) s at ≡ ended (increasing (blob 20) count) s start
+    ended (seriesFrom (above (blob 20)) (pick any (wholeAt 20 s prev) []) left) s at ≡ ended (increasing (blob 20) count) s start
 
 abbrev μ-loop : tie.MeasureT-loop
 μ-loop s start count left₀ any₀ prev₀ at₀ left any prev at = left
@@ -33,7 +33,6 @@ addresses-from-spec =
     (λ c. search needs)  -- enum-told
     (λ c κs. search needs)  -- cut-requires
     (λ c. search turn depth 10)  -- returns
-    (λ c κs. search needs)  -- address-at-requires
     (λ c κs. search needs)  -- address-follows-requires
     (λ c. search needs)  -- sub-left
     (λ c. search needs)  -- loop-less

@@ -11,10 +11,10 @@ unfolding form
 body-at-spec =
     tie.close
     (tie.spec
-    (λ c κs. search needs)  -- outputs-at-requires
+    (λ c κs. search needs)  -- base-outputs-at-requires
     (λ c. search needs)  -- enum-known-refusal
     (λ c. search needs)  -- enum-known-outputs-count
-    (λ c κs. search needs)  -- inputs-at-requires
+    (λ c κs. search needs)  -- base-inputs-at-requires
     (λ c. search needs)  -- enum-known-refusal-2
     (λ c. search needs)  -- enum-known-inputs-at
     (λ c κs. search needs)  -- string-at-requires

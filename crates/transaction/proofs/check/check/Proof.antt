@@ -12,11 +12,11 @@ check-spec =
     (λ c. search checking depth 12)  -- returns
     (λ c κs. search needs)  -- unsigned-at-requires
     (λ c. search needs)  -- enum-known-refusal
+    (λ c. search checking depth 12)  -- returns-2
     (λ c. search needs)  -- enum-known-layout
     (λ c κs. search needs)  -- credentials-at-requires
     (λ c. search needs)  -- enum-known-refusal-2
-    (λ c. search needs)  -- enum-known-end
-    (λ c. search checking depth 12)  -- returns-2
     (λ c. search checking depth 12)  -- returns-3
+    (λ c. search needs)  -- enum-known-end
     (λ c. search checking depth 12)  -- returns-4
     (λ c. search checking depth 12))  -- returns-5

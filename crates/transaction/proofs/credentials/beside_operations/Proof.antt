@@ -3,8 +3,8 @@
 use borrow.Author.Needs.{needs}
 use mathlib.Core.Path.{_≡_, refl}
 use Rattle.transaction.specs.Answer.{besideOperations}
-use Rattle.element.proofs.Reading.{on-operation-refused}
-use Rattle.transaction.proofs.Reading.{operations-on, operations-end, on-operation-count, on-credential, on-credential-refused}
+use Rattle.element.proofs.Reading.{on-asked, on-asked-refused}
+use Rattle.transaction.proofs.Reading.{operations-on, operations-end, on-credential, on-credential-refused}
 use Rattle.transaction.proofs.credentials.beside_operations.Statement.{statement}
 use Rattle.transaction.proofs.credentials.beside_operations.Tie as tie
 
@@ -22,15 +22,15 @@ beside-operations-spec =
     Inv-loop
     μ-loop
     (λ c. refl)  -- loop-holds
-    (λ c κs. search needs)  -- operation-at-requires
+    (λ c κs. search needs)  -- asked-by-operation-requires
     (λ c. search needs)  -- enum-known-refusal
-    (λ c. search (operations-on, on-operation-refused, on-operation-count, on-credential-refused) depth 10)  -- returns
-    (λ c. search needs)  -- enum-known-fields
+    (λ c. search (operations-on, on-asked-refused, on-asked, on-credential-refused) depth 10)  -- returns
+    (λ c. search needs)  -- enum-known-indices
     (λ c κs. search needs)  -- credential-at-requires
     (λ c. search needs)  -- enum-known-refusal-2
-    (λ c. search (operations-on, on-operation-refused, on-operation-count, on-credential-refused) depth 10)  -- returns-2
+    (λ c. search (operations-on, on-asked-refused, on-asked, on-credential-refused) depth 10)  -- returns-2
     (λ c. search needs)  -- enum-known-m
     (λ c. search needs)  -- sub-left
     (λ c. search needs)  -- loop-less
-    (λ c. search (operations-on, on-operation-count, on-credential) depth 10)  -- loop-again
+    (λ c. search (operations-on, on-asked, on-credential) depth 10)  -- loop-again
     (λ c. search operations-end))  -- returns-3

@@ -18,7 +18,7 @@ credentials-at-spec =
     (λ c κs. search needs)  -- own-wants-requires
     (λ c. search (on-value, on-short, if-wanted, if-fewer, if-other, on-part-next′, on-part-refused′) depth 10)  -- returns-2
     (λ c. search (on-value, on-short, if-wanted, if-fewer, if-other, on-part-next′, on-part-refused′) depth 10)  -- returns-3
-    (λ c κs. search needs)  -- beside-inputs-requires
+    (λ c κs. search needs)  -- beside-base-inputs-requires
     (λ c. search needs)  -- enum-known-refusal
     (λ c. search needs)  -- enum-known-m
     (λ c κs. search needs)  -- beside-own-requires
