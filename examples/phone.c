@@ -1,47 +1,75 @@
 /*
- * Checks a transaction from a file, and then a damaged copy of it.
+ * Checks a transaction, joins two copies of it that two keyholders have signed, and meets two
+ * copies that cannot be joined. Built and run at the root of the repository by
  *
- *     rt staticlib phone
- *     gcc -Iinclude examples/phone.c target/staticlib/libphone.a -o target/phone
- *     target/phone tests/data/case-a.tx
+ *     rt staticlib phone &&
+ *     gcc -Iinclude examples/phone.c target/staticlib/libphone.a -o target/phone &&
+ *     target/phone
  */
 #include "cellfacet.h"
 
 #include <stdio.h>
 #include <stdlib.h>
+#include <string.h>
 
-static void show(const char *name, const uint8_t *bytes, size_t length)
+/* A transaction has at most 65,536 bytes; one more, and it is refused. */
+struct draft {
+    uint8_t bytes[65537];
+    size_t length;
+};
+
+static void load(struct draft *draft, const char *path)
 {
-    uint64_t answer = cellfacet_check(bytes, length);
-    uint32_t place = cellfacet_place(answer);
-    if (cellfacet_number(answer) == CELLFACET_ACCEPTED)
-        printf("%s: accepted, %u bytes\n", name, (unsigned)place);
-    else
-        printf("%s: refused by rule %u at byte %u\n", name, (unsigned)cellfacet_number(answer), (unsigned)place);
+    FILE *file = fopen(path, "rb");
+    if (!file) {
+        perror(path);
+        exit(1);
+    }
+    draft->length = fread(draft->bytes, 1, sizeof draft->bytes, file);
+    fclose(file);
 }
 
-int main(int argc, char **argv)
+static void check(const char *what, const uint8_t *bytes, size_t length)
 {
-    FILE *file = fopen(argc > 1 ? argv[1] : "tests/data/case-a.tx", "rb");
-    if (!file) {
-        perror("phone");
-        return 1;
-    }
-    /* One byte more than a transaction may have, so that a longer file is refused. */
-    size_t most = 65537;
-    uint8_t *bytes = malloc(most);
-    if (!bytes)
-        return 1;
-    size_t length = fread(bytes, 1, most, file);
-    fclose(file);
+    uint64_t answer = cellfacet_check(bytes, length);
+    unsigned number = cellfacet_number(answer), place = cellfacet_place(answer);
+    if (number == CELLFACET_ACCEPTED)
+        printf("%s: accepted, %u bytes\n", what, place);
+    else
+        printf("%s: refused by rule %u at byte %u\n", what, number, place);
+}
 
-    show("as it is", bytes, length);
-    show("last byte missing", bytes, length > 0 ? length - 1 : 0);
-    if (length > 0) {
-        bytes[0] ^= 1;
-        show("first byte changed", bytes, length);
+/* Joins both into out, which is left as it was where they cannot be joined. */
+static void join(const char *what, const struct draft *first, const struct draft *second, struct draft *out)
+{
+    uint64_t answer = cellfacet_merge(first->bytes, first->length, second->bytes, second->length,
+                                      out->bytes, sizeof out->bytes);
+    unsigned number = cellfacet_number(answer), place = cellfacet_place(answer);
+    if (number == CELLFACET_DONE) {
+        out->length = place;
+        printf("%s: joined, %u bytes\n", what, place);
+    } else if (number == CELLFACET_CONFLICT) {
+        printf("%s: refused, different signatures in slot %u\n", what, place);
+    } else {
+        printf("%s: refused by rule %u\n", what, number);
     }
-    show("nothing", NULL, 0);
-    free(bytes);
+}
+
+int main(void)
+{
+    static struct draft whole, first, second, other, joined, none;
+    load(&whole, "tests/data/case-a.tx");
+    load(&first, "tests/data/case-a-slot-0.tx");
+    load(&second, "tests/data/case-a-slot-1.tx");
+    load(&other, "tests/data/case-a-conflict.tx");
+
+    check("signed by both", whole.bytes, whole.length);
+    check("last byte missing", whole.bytes, whole.length - 1);
+    check("nothing", NULL, 0);
+
+    join("one keyholder's copy and the other's", &first, &second, &joined);
+    int same = joined.length == whole.length && memcmp(joined.bytes, whole.bytes, whole.length) == 0;
+    printf("the result is%s what both have signed\n", same ? "" : " not");
+    join("the result and a copy signed otherwise", &joined, &other, &none);
     return 0;
 }

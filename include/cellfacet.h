@@ -1,9 +1,9 @@
 /*
- * Cellfacet for C: checks signed AVM (X-Chain) transactions.
+ * Cellfacet for C: checks signed AVM (X-Chain) transactions, and merges drafts of one.
  *
  * Build the library with `rt staticlib phone` and link target/staticlib/libphone.a; beside it
- * only the C library is needed. It keeps no state, allocates nothing, does not write to the
- * bytes that it is given, and may be called from several threads at once.
+ * only the C library is needed. It keeps no state, allocates nothing, writes to no memory but
+ * the output of a merge, and may be called from several threads at once.
  *
  * Every answer is one 64-bit number, number * 2^32 + place. cellfacet_number and
  * cellfacet_place take it apart.
@@ -25,6 +25,11 @@ extern "C" {
 enum {
     /* Accepted: one signed transaction, and nothing behind it. Place: its number of bytes. */
     CELLFACET_ACCEPTED = 0,
+    /* Merged. Place: the number of bytes written. */
+    CELLFACET_DONE = 0,
+
+    /* cellfacet_check answers with these. */
+
     /* More than 65,536 bytes. Place: 0. */
     CELLFACET_TOO_LONG = 1,
     /* A field is not wholly there. Place: the start of that field. */
@@ -52,22 +57,26 @@ enum {
     /* Bytes stand behind the end of the transaction. Place: the first of them. */
     CELLFACET_BYTES_AFTER_END = 13,
 
-    /* The rest of the table. A check never answers with these. */
+    /* cellfacet_merge answers with these, which are judged in this order. */
 
-    /* No room in the memory lent for the result. Place: 0. */
+    /* The first draft is not accepted: cellfacet_check tells why. Place: 0. */
+    CELLFACET_FIRST_NOT_ACCEPTED = 17,
+    /* The second draft is not accepted. Place: 0. */
+    CELLFACET_SECOND_NOT_ACCEPTED = 18,
+    /* The drafts differ before the credential count: they are of different unsigned
+       transactions. Place: 0. */
+    CELLFACET_DRAFTS_DIFFER = 19,
+    /* Two different signatures in one slot. Place: the number of the first such slot. */
+    CELLFACET_CONFLICT = 20,
+    /* The output has fewer bytes than a draft. Place: 0. */
     CELLFACET_NO_ROOM = 14,
+
+    /* The rest of the table, which no function of this header answers with. */
+
     /* There is no such entry or slot. Place: 0. */
     CELLFACET_NO_ENTRY = 15,
     /* A step of the writer is not due. Place: 0. */
     CELLFACET_STEP_NOT_DUE = 16,
-    /* The first draft is not accepted. Place: 0. */
-    CELLFACET_FIRST_NOT_ACCEPTED = 17,
-    /* The second draft is not accepted. Place: 0. */
-    CELLFACET_SECOND_NOT_ACCEPTED = 18,
-    /* The drafts differ before the credential count. Place: 0. */
-    CELLFACET_DRAFTS_DIFFER = 19,
-    /* Two different signatures in one slot. Place: the number of the first such slot. */
-    CELLFACET_CONFLICT = 20,
     /* A signature is not 65 bytes. Place: 0. */
     CELLFACET_NOT_A_SIGNATURE = 21
 };
@@ -83,7 +92,27 @@ enum {
  */
 uint64_t cellfacet_check(const uint8_t *bytes, size_t length);
 
-/* The number of an answer: CELLFACET_ACCEPTED, or why the bytes are refused. */
+/*
+ * Merges two drafts of one unsigned transaction, signed or not, into the front of `out`.
+ *
+ * A draft is any accepted transaction. Its signatures stand in slots of 65 bytes, numbered from
+ * 0 across its credentials; a slot of zero bytes only is empty. In the merge each slot holds the
+ * signature that either draft holds there, and is empty where both are; all other bytes are as
+ * in both. So copies may be merged in any order, and more than once.
+ *
+ * first, second and out each point to as many bytes as the length behind them says, or may be
+ * NULL where it is 0. `out` shares no byte with the drafts, and nothing else reads or writes it
+ * during the call, nor writes the drafts. Any bytes will do. Room for a draft is enough: the
+ * length of either, or 65,536.
+ *
+ * On CELLFACET_DONE the merge stands at the front of `out`, and no byte behind it has changed.
+ * On any other number no byte of `out` has.
+ */
+uint64_t cellfacet_merge(const uint8_t *first, size_t first_length,
+                         const uint8_t *second, size_t second_length,
+                         uint8_t *out, size_t out_length);
+
+/* The number of an answer: CELLFACET_ACCEPTED or CELLFACET_DONE, or why it is a refusal. */
 static inline uint32_t cellfacet_number(uint64_t answer)
 {
     return (uint32_t)(answer >> 32);

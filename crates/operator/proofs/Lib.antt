@@ -1,0 +1,2 @@
+-- What is proved of the answers to the operator's command
+pub mod Listing

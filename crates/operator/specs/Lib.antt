@@ -1,0 +1,2 @@
+-- What the operator's command is answered
+pub mod Listing
