@@ -30,7 +30,6 @@ typedef uint64_t merge_call(const uint8_t *first, size_t first_length, const uin
 table_call cellfacet_probe_table;
 entry_call cellfacet_probe_entry;
 fill_call cellfacet_probe_fill;
-merge_call cellfacet_merge;
 
 static unsigned char stack[STACK] __attribute__((aligned(16)));
 static ucontext_t caller, callee;
