@@ -5,7 +5,7 @@ use mathlib.Core.List.{List}
 use Rattle.transaction.specs.Avm.{avm}
 use Rattle.transaction.specs.Answer.{memoMost}
 use Rattle.draft.specs.Reader.{reader}
-use Rattle.writer.proofs.Calling.{methods-round-trip, blank-written}
+use Rattle.run.proofs.Calling.{methods-round-trip, blank-written}
 use Rattle.grouping.specs.Filling.{Fills}
 use Rattle.grouping.proofs.Theorems.{avm-reading-filled}
 use Rattle.claims.specs.RoundTrip.{RoundTrips}

@@ -11,7 +11,7 @@ use Rattle.transaction.specs.Answer.{memoMost}
 use Rattle.draft.specs.Reader.{reader}
 use Rattle.writer.specs.Steps.{fresh}
 use Rattle.writer.specs.declared.Written.the-variants as W
-use Rattle.writer.specs.Calls.{AllCallsDone, readingCalls, finishBehind}
+use Rattle.run.specs.Calls.{AllCallsDone, readingCalls, finishBehind}
 use Rattle.grouping.specs.Filling.{Fills}
 
 -- d is accepted, v is its reading, and the buffer s has room for it, whatever it holds

@@ -1,12 +1,11 @@
 -- What is known of bytes once the check has answered. Assumes nothing.
-use mathlib.Core.Path.{_≡_, refl, sym, ap, ap₂, _∙_, subst}
+use mathlib.Core.Path.{_≡_, refl, sym, ap, ap₂, _∙_}
 use mathlib.Core.Bool.{true, false}
 use mathlib.Core.List.{List}
 use Prim.Native.Nat.{ℕ, _-_}
 use native.Mathlib.Omega.{arith}
 use lib.ListN.{length, take}
 use Rattle.wire.specs.Bytes.{part}
-use Rattle.wire.specs.Format.{took, write-inj}
 use Rattle.wire.specs.declared.Refusal.{Refusal}
 use Rattle.wire.proofs.Bytes.{Slice, slice-bytes, found}
 use Rattle.transaction.specs.Slots.{Spaced}
@@ -19,7 +18,7 @@ use Rattle.transaction.specs.Answer.{memoMost, checked}
 use Rattle.transaction.specs.declared.Layout.{Layout}
 use Rattle.transaction.specs.declared.Checked.{Checked}
 use Rattle.transaction.specs.declared.Checked.the-variants as C
-use Rattle.transaction.proofs.Signed.{parts-took, check-of, read-body, slots-eq, unsigned-eq, length-eq, spaced-slots}
+use Rattle.transaction.proofs.Signed.{parts-took, check-of, read-body, slots-eq, unsigned-eq, length-eq, spaced-slots, same-unsigned}
 use Rattle.transaction.proofs.Verdicts.{refused-check, checked-accepted, layout-credentials}
 use Rattle.slot.specs.Walk.{walk}
 use Rattle.draft.specs.Reader.{Reader, reader, body}
@@ -73,11 +72,9 @@ unfolding body
 alike d e v w m n h k q =
     let F = unsigned (avm memoMost) in
     let W = wants (avm memoMost) in
-    let same : k .value ≡ h .value =
-    write-inj F (k .value) (h .value) (k .parts .unsigned-good) (h .parts .unsigned-good)
-    (sym (unsigned-eq F W e (k .value) (k .signatures) (k .parts)) ∙ sym q ∙ unsigned-eq F W d (h .value) (h .signatures) (h .parts)) in
-    let p : Parts F W e (h .value) (k .signatures) = subst (λ (u : Unsigned (avm memoMost)). Parts F W e u (k .signatures)) same (k .parts) in (
+    let p : Parts F W e (h .value) (k .signatures) = same-unsigned F W d e (h .value) (k .value) (h .signatures) (k .signatures) (h .parts) (k .parts) q in
+    let r : length (F .write (h .value)) ≡ length (F .write (k .value)) = ap endOf (sym (read-body F W e (h .value) (k .signatures) p) ∙ read-body F W e (k .value) (k .signatures) (k .parts)) in (
       slots-eq F W e (h .value) (k .signatures) p ∙ sym (slots-eq F W d (h .value) (h .signatures) (h .parts)),
       length-eq F W e (h .value) (k .signatures) p ∙ sym (length-eq F W d (h .value) (h .signatures) (h .parts)),
-      h .end ∙ ap (λ (u : Unsigned (avm memoMost)). length (unsigned (avm memoMost) .write u)) (sym same) ∙ sym (k .end),
+      h .end ∙ r ∙ sym (k .end),
     )

@@ -6,12 +6,12 @@ use Prim.Native.Nat.{ℕ, _-_}
 use native.Mathlib.Omega.{arith}
 use lib.ListN.{length, getD, length-append, length-map, List·getD-map}
 use Rattle.wire.specs.Bytes.{Bytes}
-use Rattle.wire.specs.Format.{Format, write-inj}
+use Rattle.wire.specs.Format.{Format}
 use Rattle.transaction.specs.Slots.{slotAt, Outside}
 use Rattle.transaction.specs.Credentials.{Want, Piece, layout, pieces, credentials, places}
 use Rattle.transaction.specs.Signed.{slotsAt, assemble, Parts}
 use Rattle.transaction.proofs.CredentialLaws.{length-pieces, by-front, pieces-outside, slots-good}
-use Rattle.transaction.proofs.Signed.{parts-of, bytes-of, accepted-of, slots-eq, unsigned-eq, length-eq, slot-eq, spaced-slots}
+use Rattle.transaction.proofs.Signed.{parts-of, bytes-of, accepted-of, slots-eq, unsigned-eq, length-eq, slot-eq, spaced-slots, same-unsigned}
 use Rattle.slot.proofs.Putting.{by-slots}
 use Rattle.draft.specs.Reader.{Reader, signedReader, Draft, body}
 use Rattle.grouping.specs.Demand.{Frame}
@@ -73,8 +73,7 @@ module _ {U : Type 0} (unsigned : Format U) (wants : U → List Want) where
         alike = λ d e hd he h.
             let (u, l, p) = parts d hd in
             let (v, m, q) = parts e he in
-            let same : v ≡ u = write-inj unsigned v u (q .unsigned-good) (p .unsigned-good) (sym (unsigned-eq unsigned wants e v m q) ∙ sym h ∙ unsigned-eq unsigned wants d u l p) in
-            let q′ : Parts unsigned wants e u m = subst (λ (w : U). Parts unsigned wants e w m) same q in
+            let q′ : Parts unsigned wants e u m = same-unsigned unsigned wants d e u v l m p q h in
             (slots-eq unsigned wants e u m q′ ∙ sym (slots-eq unsigned wants d u l p), frame-of d e u l m p q′);
         refilled = λ d e hd be f.
             let (u, l, p) = parts d hd in

@@ -84,6 +84,13 @@ module _ {U : Type 0} (body : Format U) (wants : U → List Want) where
   parts-inj d u v l m p q =
       write-inj (signed body wants) (u, l) (v, m) (p .unsigned-good, p .signatures-good) (q .unsigned-good, q .signatures-good) (sym (p .same) ∙ q .same)
 
+  -- of two transactions that are the same before the credential count, the second is of the first's unsigned part
+  pub same-unsigned : (d e : List ℕ) (u v : U) (l m : List (List ℕ)) → Parts body wants d u l → Parts body wants e v m
+      → take (credentialsAt body wants d) d ≡ take (credentialsAt body wants e) e → Parts body wants e u m
+  same-unsigned d e u v l m p q h =
+      subst (λ (w : U). Parts body wants e w m)
+      (write-inj body v u (q .unsigned-good) (p .unsigned-good) (sym (unsigned-eq e v m q) ∙ sym h ∙ unsigned-eq d u l p)) q
+
   -- the blank transaction of any value that the format has, where it is not too long
   pub blank-parts : (u : U) → body .Good u → length (body .write u) + size (layout (wants u)) ≤ mostBytes
       → Parts body wants (assemble body wants u (blanks (layout (wants u)))) u (blanks (layout (wants u)))

@@ -1,15 +1,13 @@
 -- Each name of a part has one format, whatever the type and the phase: what a step by that name puts. Assumes nothing.
-use Prim.Native.Nat.{ℕ, zero, suc, _+_, _≤_}
-use mathlib.Core.Path.{_≡_, refl, sym, ap, ap₂, _∙_, subst}
+use Prim.Native.Nat.{ℕ, zero, suc, _+_}
+use mathlib.Core.Path.{_≡_, refl, sym, ap, ap₂, _∙_}
 use mathlib.Core.Bool.{Bool, true, false, _&&_, false≢true}
-use mathlib.Core.List.{List, [], _++_}
-use native.Mathlib.Omega.{arith}
+use mathlib.Core.List.{List, _++_}
 use lib.ListN.{length}
 use lib.Dec.{eqb, leb}
 use borrow.Author.Tests.{eqb-true}
-use Rattle.wire.specs.Bytes.{digits, pick}
-use Rattle.wire.specs.Numbers.{refusal, noRoom, stepNotDue, bytesAfterEnd, ruleNumber, cutShort}
-use Rattle.wire.specs.Format.{Format, Result, took, refused, onResult, read}
+use Rattle.wire.specs.Bytes.{pick}
+use Rattle.wire.specs.Numbers.{noRoom, stepNotDue}
 use Rattle.element.specs.Outputs.{TransferableOutput}
 use Rattle.element.specs.Inputs.{Input}
 use Rattle.transaction.specs.Entries.{EntryAt}
@@ -20,15 +18,16 @@ use Rattle.transaction.specs.declared.Kind.{Kind}
 use Rattle.transaction.specs.declared.Kind.the-variants as K
 use Rattle.transaction.specs.declared.Segment.{Segment}
 use Rattle.transaction.specs.declared.Segment.the-variants as S
+use Rattle.judge.specs.declared.Verdict.{Verdict}
+use Rattle.judge.specs.declared.Verdict.the-variants as J
+use Rattle.judge.specs.Given.{Given, given}
+use Rattle.judge.specs.Judged.{judged, onFine}
+use Rattle.judge.proofs.Verdicts.{judged-on}
+use Rattle.due.specs.Plans.{segmentCode, isSegment, tail, behind, due, planOf, dueOf, isList, isField, isOpen}
+use Rattle.buffer.specs.Stores.{roomFor, overwrite, countOf}
 use Rattle.writer.specs.declared.Writer.{Writer}
-use Rattle.writer.specs.declared.Verdict.{Verdict}
-use Rattle.writer.specs.declared.Verdict.the-variants as J
-use Rattle.writer.specs.declared.Due.{Due}
-use Rattle.writer.specs.declared.Due.the-variants as D
-use Rattle.writer.specs.Steps.{Turn, Given, answered, guarded, judged, roomFor, overwrite, prev, sane, grown, appended, segmentCode, isSegment, tail, behind, due, opening, opened, putAt, closeAt, planOf, put, close}
-use Rattle.writer.specs.Runs.{given}
-use Rattle.writer.specs.Code.{dueOf, isList, isField, isOpen, countOf, onFine, fieldNext, fieldStep, elementStep}
-use Rattle.writer.proofs.Laws.{judged-read}
+use Rattle.writer.specs.Steps.{answered, guarded, prev, sane, grown, appended, opening, opened, putAt}
+use Rattle.writer.specs.Code.{fieldStep, elementStep}
 
 -- ---- verdicts, taken one behind the other
 
@@ -39,19 +38,6 @@ guarded-on true w s v u = go (leb (w .at) (length s))
     go true = refl
     go false = refl
 guarded-on false w s v u = refl
-
-pub judged-on : {A : Type 0} (F : Format A) (g : Given) (u : Verdict) → judged F g u ≡ onFine (judged F g J.Fine) u
-judged-on {A} F g u = judged-read F g u ∙ go (g .whole) (read F (g .bytes) 0) ∙ ap (λ (v : Verdict). onFine v u) (sym (judged-read F g J.Fine))
-  where
-    left-over : (b : Bool) → pick b u (J.Refuse bytesAfterEnd) ≡ onFine (pick b J.Fine (J.Refuse bytesAfterEnd)) u
-    left-over true = refl
-    left-over false = refl
-
-    go : (t : Bool) (o : Result A) → pick t (onResult o (λ e. J.Refuse (e .number)) (λ a m. pick (eqb m (length (g .bytes))) u (J.Refuse bytesAfterEnd))) (J.Refuse (ruleNumber cutShort))
-        ≡ onFine (pick t (onResult o (λ e. J.Refuse (e .number)) (λ a m. pick (eqb m (length (g .bytes))) J.Fine (J.Refuse bytesAfterEnd))) (J.Refuse (ruleNumber cutShort))) u
-    go true (took a m) = left-over (eqb m (length (g .bytes)))
-    go true (refused e) = refl
-    go false o = refl
 
 -- ---- the parts of a plan
 
@@ -199,8 +185,4 @@ module _ (w : Writer) (s : List ℕ) (l : Segment) (g : Given) where
   element-here m E q e =
       let R : Verdict = roomFor (w .at + length (g .bytes)) s in
       ap (λ (v : Verdict). answered v w s (grown w (length (g .bytes))) (appended w s (g .bytes)))
-      (go (sane w) R ∙ ap (guarded (sane w) w s) (sym (judged-on (E .element (prev w s)) g R)) ∙ ap (λ (t : Bool). guarded (t && sane w) w s (judged (E .element (prev w s)) g R)) (sym e))
-    where
-      go : (t : Bool) (R : Verdict) → onFine (guarded t w s (judged (E .element (prev w s)) g J.Fine)) (pick t R (J.Refuse stepNotDue)) ≡ guarded t w s (onFine (judged (E .element (prev w s)) g J.Fine) R)
-      go true R = sym (guarded-on true w s (judged (E .element (prev w s)) g J.Fine) R)
-      go false R = refl
+      (sym (guarded-on (sane w) w s (judged (E .element (prev w s)) g J.Fine) R) ∙ ap (guarded (sane w) w s) (sym (judged-on (E .element (prev w s)) g R)) ∙ ap (λ (t : Bool). guarded (t && sane w) w s (judged (E .element (prev w s)) g R)) (sym e))

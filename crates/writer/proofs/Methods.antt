@@ -1,48 +1,54 @@
 -- The public steps, from what the code below them answered. Assumes nothing.
 use Prim.Native.Nat.{ℕ, suc, _+_, _*_, _/_, _%_, _^_, _≤_, _<_}
-use mathlib.Core.Path.{_≡_, refl, sym, ap, ap₂, _∙_, subst}
+use mathlib.Core.Path.{_≡_, refl, sym, ap, ap₂, _∙_}
 use mathlib.Core.Bool.{Bool, true, false, false≢true}
-use mathlib.Core.List.{List, [], _++_, append-assoc}
+use mathlib.Core.List.{List, [], _++_, append-assoc, append-nil}
 use native.Mathlib.Omega.{arith}
-use native.Mathlib.Nat.{mod-eq-of-lt, add-zero, div-le-self}
+use native.Mathlib.Nat.{mod-eq-of-lt, add-zero, zero-add, div-le-self}
+use native.Mathlib.Numerals.{add-one}
 use lib.ListN.{length, length-append}
 use lib.Dec.{ltb, leb, eqb}
 use borrow.Author.Tests.{leb-true, eqb-true}
 use Rattle.wire.specs.Bytes.{digits, length-digits, pick}
-use Rattle.wire.specs.Numbers.{ruleNumber, cutShort, badLength, notPrintable, emptyList, stepNotDue}
+use Rattle.wire.specs.Numbers.{ruleNumber, cutShort, badLength, emptyList, stepNotDue}
 use Rattle.wire.specs.Fields.{blob}
 use Rattle.wire.specs.Series.{notBelow}
+use Rattle.wire.specs.declared.Refusal.{Refusal}
+use Rattle.wire.specs.declared.Part.{Part}
+use Rattle.wire.specs.declared.Part.the-variants as P
 use Rattle.element.specs.Outputs.{transferableOutput}
-use Rattle.element.specs.Strings.{text, unprintable}
 use Rattle.element.specs.Inputs.{input}
 use Rattle.element.specs.Operations.{operation, initialState}
 use Rattle.transaction.specs.Plan.{Plan, shut, end, field, many, Elements}
 use Rattle.transaction.specs.Family.{head}
-use Rattle.transaction.specs.Avm.{avm, operations}
+use Rattle.transaction.specs.Avm.{avm}
 use Rattle.transaction.specs.Answer.{memoMost}
 use Rattle.transaction.specs.declared.Segment.{Segment}
 use Rattle.transaction.specs.declared.Segment.the-variants as S
+use Rattle.judge.specs.declared.Verdict.{Verdict}
+use Rattle.judge.specs.declared.Verdict.the-variants as J
+use Rattle.judge.specs.Given.{Given, headBytes, given, outputGiven, inputGiven}
+use Rattle.judge.specs.Judged.{judged, onFine}
+use Rattle.judge.specs.Elements.{outputFront, outputHead, inputHead, numbersBytes}
+use Rattle.judge.specs.Texts.{kindRules, listRules, memoRules, textRules, denominationRules}
+use Rattle.judge.proofs.Verdicts.{pick-fine, judged-read, judged-on}
+use Rattle.judge.proofs.Outputs.{built-written, output-bytes}
+use Rattle.judge.proofs.Inputs.{written-input, input-bytes, length-numbers}
+use Rattle.judge.proofs.FieldLaws.{string-write, text-write, string-judged, text-judged, denomination-write, denomination-judged, id-judged, head-judged, front-is}
+use Rattle.due.specs.declared.Due.{Due}
+use Rattle.due.specs.declared.Due.the-variants as D
+use Rattle.due.specs.Plans.{tail, due, planOf, dueOf, isList, isEnd}
+use Rattle.due.proofs.Rows.{Live, due-next, phase-small}
+use Rattle.blank.specs.Closing.{closing, closable}
 use Rattle.writer.specs.declared.Writer.{Writer}
 use Rattle.writer.specs.declared.Step.{Step}
-use Rattle.writer.specs.declared.Due.{Due}
-use Rattle.writer.specs.declared.Due.the-variants as D
-use Rattle.writer.specs.declared.Verdict.{Verdict}
-use Rattle.writer.specs.declared.Verdict.the-variants as J
-use Rattle.writer.specs.Steps.{Given, answered, guarded, guardedIn, judged, roomFor, overwrite, prev, tail, due, opening, opened, closeAt, planOf, headBytes, start, put, close}
-use Rattle.writer.specs.Runs.{given}
-use Rattle.writer.specs.Fields.{outputGiven, inputGiven, addOutput, addInput, addOperation, addState, putMemo, putName, putSymbol, putDenomination, putChain}
-use Rattle.writer.specs.Elements.{outputFront, outputHead, inputHead, numbersBytes}
-use Rattle.writer.specs.Texts.{kindRules, listRules, memoRules, textRules, denominationRules}
-use Rattle.writer.specs.Code.{after, refusedStep, dueOf, isList, countOf, onFine, fieldStep, startStep, dueAt, namedField, namedElement}
-use Rattle.writer.proofs.Laws.{pick-fine, judged-read}
-use Rattle.writer.proofs.Keeping.{Live, due-next}
-use Rattle.writer.proofs.Rows.{phase-small}
-use Rattle.writer.proofs.Fitting.{guarded-on, judged-on, opening-is}
+use Rattle.writer.specs.Steps.{answered, guarded, guardedIn, prev, opening, opened, closeAt, start, put, close, finish, finishAt}
+use Rattle.writer.specs.Fields.{addOutput, addInput, addOperation, addState, putMemo, putName, putSymbol, putDenomination, putChain}
+use Rattle.writer.specs.Code.{after, refusedStep, fieldStep, startStep, dueAt, namedField, namedElement, storedStep}
+use Rattle.writer.proofs.Fitting.{guarded-on, opening-is}
 use Rattle.writer.proofs.Naming.{field-is, put-element-named, element-bytes, refused-bytes}
-use Rattle.writer.proofs.Outputs.{built-written, output-bytes}
-use Rattle.writer.proofs.Inputs.{written-input, input-bytes}
-use Rattle.writer.proofs.Numbering.{length-numbers}
-use Rattle.writer.proofs.FieldLaws.{string-write, text-write, string-judged, text-judged, denomination-write, denomination-judged, id-judged, head-judged, front-is}
+use Rattle.buffer.specs.Stores.{roomFor, overwrite, countOf, stored}
+use Rattle.writer.proofs.Settling.{store-refused, store-done}
 
 -- a number that fits its digits
 fits-digits : (w n m : ℕ) → n ≤ m → m < 256 ^ w → digits w (n % 256 ^ w) ≡ digits w n
@@ -83,9 +89,10 @@ module _ (w : Writer) (s : List ℕ) (x : Verdict) (c : List ℕ) (r : Step) (u 
   unfolding blob
   chain-is e h = field-is w s S.Chain c c J.Fine refl (id-judged c e) (λ i. refl) J.Fine refl r u h
 
-  pub operation-is : (b : List ℕ) → x ≡ judged operation (given b) J.Fine → after r u ≡ namedElement w s S.Operation x b → after r u ≡ addOperation w s b
+  pub operation-is : (b : List ℕ) → x ≡ judged operation (given b) J.Fine → after r u ≡ namedElement w s S.Operation x (b ++ []) → after r u ≡ addOperation w s b
   operation-is b hx h =
-      h ∙ ap (λ (v : Verdict). namedElement w s S.Operation v b) hx
+      h ∙ ap (namedElement w s S.Operation x) (append-nil b)
+      ∙ ap (λ (v : Verdict). namedElement w s S.Operation v b) hx
       ∙ put-element-named w s S.Operation (given b) (judged operation (given b) J.Fine) refl (λ E e. ap (λ (F : Elements). judged (F .element (prev w s)) (given b) J.Fine) e)
 
 -- ---- closing a list
@@ -154,12 +161,14 @@ pub start-is : (w : Writer) (s : List ℕ) (kind network : ℕ) (chain : List �
     → (r : Step) (u : List ℕ) → after r u ≡ startStep w s v kind (front ++ chain) → after r u ≡ start (avm memoMost) w s kind network chain
 unfolding start
 start-is w s kind network chain long fk fn rules hr v hv front hf r u h =
-    let ys : List ℕ = headBytes (avm memoMost) kind network chain in
+    let ys : List ℕ = headBytes kind network chain in
     let R : Verdict = roomFor (length (ys ++ digits 4 0)) s in
     let t : Bool = eqb (w .phase) 0 in
     let same : front ++ chain ≡ ys =
     ap (λ (z : List ℕ). z ++ chain) (hf ∙ front-is kind network fk fn) ∙ append-assoc (digits 2 0) (digits 4 kind ++ digits 4 network) chain ∙ ap (λ (z : List ℕ). digits 2 0 ++ z) (append-assoc (digits 4 kind) (digits 4 network) chain) in
     h ∙ ap₂ (λ (x : Verdict) (z : List ℕ). startStep w s x kind z) (hv ∙ ap (λ (x : Verdict). guardedIn t w (length s) x) hr) same
+    ∙ ap₂ (λ (i j : ℕ). answered (onFine (guarded t w s (kindRules kind)) (roomFor i s)) w s (record { kind = kind; phase = 1; at = j + length (digits 4 0); list = j; count = 0; last = 0 }) (overwrite s 0 (ys ++ digits 4 0)))
+    (zero-add (length (ys ++ digits 4 0))) (zero-add (length ys))
     ∙ ap (λ (x : Verdict). answered x w s (opened kind 1 (length ys) (planOf (avm memoMost) kind)) (overwrite s 0 (ys ++ digits 4 0)))
     (sym (guarded-on t w s (kindRules kind) R) ∙ ap (λ (x : Verdict). guarded t w s (onFine x R)) (sym (head-judged kind network chain long)) ∙ ap (guarded t w s) (sym (judged-on (head (avm memoMost)) (given ys) R)))
 
@@ -182,9 +191,12 @@ module _ (w : Writer) (s : List ℕ) (asset : List ℕ) (amount locktime thresho
       (pick-fine (eqb (length addresses % 20) 0) _ (ruleNumber cutShort) (sym (judged-read (notBelow transferableOutput last) (outputGiven asset amount locktime threshold addresses) J.Fine) ∙ e) .0)
 
   pub output-is : (last : List ℕ) → last ≡ prev w s → (x : Verdict) → x ≡ outputRules last → (head : List ℕ) → head ≡ outputHead asset amount locktime threshold (length addresses / 20 % 256 ^ 4)
-      → (r : Step) (u : List ℕ) → after r u ≡ namedElement w s S.Output x (head ++ addresses) → after r u ≡ addOutput w s asset amount locktime threshold addresses
-  output-is last hl x hx head hh r u h = go (outputRules (prev w s)) refl
+      → (r : Step) (u : List ℕ) → after r u ≡ namedElement w s S.Output x ((head ++ addresses) ++ []) → after r u ≡ addOutput w s asset amount locktime threshold addresses
+  output-is last hl x hx head hh r u h₀ = go (outputRules (prev w s)) refl
     where
+      h : after r u ≡ namedElement w s S.Output x (head ++ addresses)
+      h = h₀ ∙ ap (namedElement w s S.Output x) (append-nil (head ++ addresses))
+
       rules : x ≡ outputRules (prev w s)
       rules = hx ∙ ap outputRules hl
 
@@ -219,8 +231,9 @@ module _ (w : Writer) (s : List ℕ) (txid : List ℕ) (index : ℕ) (asset : Li
   inputRules last = judged (input last) (inputGiven txid index asset amount indices) J.Fine
 
   pub input-is : (last : List ℕ) → last ≡ prev w s → (x : Verdict) → x ≡ inputRules last → (head : List ℕ) → head ≡ inputHead txid index asset amount (length indices % 256 ^ 4)
-      → (r : Step) (u : List ℕ) → after r u ≡ namedElement w s S.Input x (head ++ numbersBytes indices) → after r u ≡ addInput w s txid index asset amount indices
-  input-is last hl x hx head hh r u h =
+      → (r : Step) (u : List ℕ) → after r u ≡ namedElement w s S.Input x ((head ++ []) ++ numbersBytes indices) → after r u ≡ addInput w s txid index asset amount indices
+  input-is last hl x hx head hh r u h₀ =
+      let h : after r u ≡ namedElement w s S.Input x (head ++ numbersBytes indices) = h₀ ∙ ap (λ (z : List ℕ). namedElement w s S.Input x (z ++ numbersBytes indices)) (append-nil head) in
       let g : Given = inputGiven txid index asset amount indices in
       let long : length (head ++ numbersBytes indices) ≡ length (g .bytes) =
       omega (arith, length-append head (numbersBytes indices), ap length hh, input-head-long txid index asset amount (length indices % 256 ^ 4) (length indices), ap length (written-input txid index asset amount indices), length-append (inputHead txid index asset amount (length indices)) (numbersBytes indices)) in
@@ -232,7 +245,49 @@ module _ (w : Writer) (s : List ℕ) (txid : List ℕ) (index : ℕ) (asset : Li
 -- ---- initial states
 
 pub state-is : (w : Writer) (s last b : List ℕ) → last ≡ prev w s → (x : Verdict) → x ≡ judged (initialState last) (given b) J.Fine → (r : Step) (u : List ℕ)
-    → after r u ≡ namedElement w s S.State x b → after r u ≡ addState w s b
+    → after r u ≡ namedElement w s S.State x (b ++ []) → after r u ≡ addState w s b
 state-is w s last b hl x hx r u h =
-    h ∙ ap (λ (v : Verdict). namedElement w s S.State v b) (hx ∙ ap (λ (z : List ℕ). judged (initialState z) (given b) J.Fine) hl)
+    h ∙ ap (namedElement w s S.State x) (append-nil b)
+    ∙ ap (λ (v : Verdict). namedElement w s S.State v b) (hx ∙ ap (λ (z : List ℕ). judged (initialState z) (given b) J.Fine) hl)
     ∙ put-element-named w s S.State (given b) (judged (initialState (prev w s)) (given b) J.Fine) refl (λ E e. ap (λ (F : Elements). judged (F .element (prev w s)) (given b) J.Fine) e)
+
+-- ---- the finish
+
+module _ (w : Writer) (s : List ℕ) (t : Bool) (ht : t ≡ isEnd (dueAt w)) where
+  pub finish-not : t ≡ false → (r : Step) → r ≡ refusedStep w stepNotDue → after r s ≡ finish (avm memoMost) w s
+  unfolding finish finishAt answered
+  finish-not e r h = go (due (w .phase) (planOf (avm memoMost) (w .kind))) (sym ht ∙ e)
+    where
+      go : (q : Plan) → isEnd (dueOf q) ≡ false → after r s ≡ finishAt (avm memoMost) q w s
+      go shut e = ap (λ (y : Step). after y s) h
+      go end e = absurd (false≢true (sym e))
+      go (field l C q) e = ap (λ (y : Step). after y s) h
+      go (many l E q) e = ap (λ (y : Step). after y s) h
+
+  module _ (e : t ≡ true) where
+    pub finish-small : w .phase ≤ 8
+    finish-small = phase-small (w .kind) (w .phase) isEnd refl (sym ht ∙ e)
+
+    finish-end : finishAt (avm memoMost) end w s ≡ finish (avm memoMost) w s
+    unfolding finish
+    finish-end = go (due (w .phase) (planOf (avm memoMost) (w .kind))) (sym ht ∙ e)
+      where
+        go : (q : Plan) → isEnd (dueOf q) ≡ true → finishAt (avm memoMost) end w s ≡ finishAt (avm memoMost) q w s
+        go shut e = absurd (false≢true e)
+        go end e = refl
+        go (field l C q) e = absurd (false≢true e)
+        go (many l E q) e = absurd (false≢true e)
+
+    module _ (x : Part) (u : List ℕ)
+        (p : (x, u) ≡ stored (closable (avm memoMost) (w .at) s) (w .at + length (closing (avm memoMost) (w .at) s)) s (overwrite s (w .at) (closing (avm memoMost) (w .at) s))) where
+      pub finish-refused : (d : Refusal) → x ≡ P.Refused d → (r : Step) → r ≡ refusedStep w (d .number) → after r u ≡ finish (avm memoMost) w s
+      unfolding finishAt
+      finish-refused d q r h = store-refused _ _ w s _ x u p _ r _ d q h ∙ finish-end
+
+      pub finish-done : (m : ℕ) → x ≡ P.Next m → (r : Step) → r ≡ storedStep record { kind = w .kind; phase = w .phase + 1; at = m; list = m; count = 0; last = 0 } → after r u ≡ finish (avm memoMost) w s
+      unfolding finishAt
+      finish-done m q r h =
+          let n : ℕ = w .at + length (closing (avm memoMost) (w .at) s) in
+          store-done _ _ w s _ x u p _ r (λ (a : ℕ). record { kind = w .kind; phase = w .phase + 1; at = a; list = a; count = 0; last = 0 }) m q h
+          (ap₂ (λ (a k : ℕ). record { kind = w .kind; phase = k; at = a; list = n; count = 0; last = 0 }) (sym (add-zero n)) (add-one (w .phase)))
+          ∙ finish-end

@@ -2,7 +2,7 @@
 use Prim.Native.Nat.{ℕ, suc, _+_, _≤_}
 use mathlib.Core.Path.{_≡_, refl, sym, ap, ap₂, _∙_, subst}
 use mathlib.Core.Bool.{Bool, true, false, false≢true}
-use mathlib.Core.List.{List, _++_}
+use mathlib.Core.List.{List}
 use native.Mathlib.Omega.{arith}
 use lib.ListN.{length}
 use lib.Dec.{leb}
@@ -13,15 +13,19 @@ use Rattle.transaction.specs.Plan.{Plan, shut, end, field, many, Elements}
 use Rattle.transaction.specs.Avm.{avm}
 use Rattle.transaction.specs.Answer.{memoMost}
 use Rattle.transaction.specs.declared.Segment.{Segment}
+use Rattle.judge.specs.declared.Verdict.{Verdict}
+use Rattle.judge.specs.declared.Verdict.the-variants as J
+use Rattle.judge.specs.Given.{Given, given}
+use Rattle.judge.specs.Judged.{judged, onFine}
+use Rattle.judge.proofs.Verdicts.{not-fine}
+use Rattle.due.specs.Plans.{due, planOf, dueOf, isList, isField, isOpen}
+use Rattle.due.proofs.Rows.{Live, due-next}
+use Rattle.buffer.specs.Stores.{roomFor}
+use Rattle.buffer.proofs.Stores.{room-inv}
 use Rattle.writer.specs.declared.Writer.{Writer}
 use Rattle.writer.specs.declared.Step.{Step}
-use Rattle.writer.specs.declared.Verdict.{Verdict}
-use Rattle.writer.specs.declared.Verdict.the-variants as J
-use Rattle.writer.specs.Steps.{Turn, Given, answered, guarded, guardedIn, judged, roomFor, prev, sane, grown, appended, tail, due, planOf, putAt, put}
-use Rattle.writer.specs.Runs.{given}
-use Rattle.writer.specs.Code.{after, refusedStep, onFine, dueOf, isList, isField, isOpen, fieldStep, elementStep, dueAt, namedField, namedElement}
-use Rattle.writer.proofs.Laws.{not-fine, room-inv}
-use Rattle.writer.proofs.Keeping.{Live, due-next}
+use Rattle.writer.specs.Steps.{Turn, answered, guarded, guardedIn, prev, sane, grown, appended, putAt, put}
+use Rattle.writer.specs.Code.{after, refusedStep, fieldStep, elementStep, dueAt, namedField, namedElement}
 use Rattle.writer.proofs.Fitting.{fieldOf, isListName, Elementary, Proper, due-proper, same-segment, field-put, field-not, list-not, element-here}
 
 -- ---- as the code does it
@@ -41,6 +45,10 @@ module _ (w : Writer) (s : List ℕ) (l : Segment) (rules : Verdict) (ys : List 
   pub no-list : t ≡ isOpen l (dueAt w) → t ≡ false → (r : Step) → r ≡ refusedStep w stepNotDue → after r s ≡ namedElement w s l rules ys
   unfolding answered
   no-list p q r h = rw (sym p ∙ q) (ap (λ (x : Step). after x s) h)
+
+  pub not-sane : t ≡ isOpen l (dueAt w) → t ≡ true → (b : Bool) → b ≡ sane w → b ≡ false → (r : Step) → r ≡ refusedStep w stepNotDue → after r s ≡ namedElement w s l rules ys
+  unfolding answered
+  not-sane p q b hb k r h = rw (sym p ∙ q, sym hb ∙ k) (ap (λ (x : Step). after x s) h)
 
   pub element-named : t ≡ isOpen l (dueAt w) → t ≡ true → (b : Bool) → b ≡ sane w → (v : Verdict) → v ≡ guardedIn b w (length s) rules
       → (r : Step) (u : List ℕ) → after r u ≡ elementStep w s v ys → after r u ≡ namedElement w s l rules ys
@@ -118,13 +126,13 @@ refused-same (J.Refuse k) n w s a b c d = refl
 -- the bytes of an element matter only where its rules hold and it is not longer than a transaction
 module _ (w : Writer) (s : List ℕ) (l : Segment) (ys zs : List ℕ) where
   bars : Verdict → List ℕ → Verdict
-  bars rules xs = onFine (guarded (sane w) w s rules) (pick (sane w) (roomFor (w .at + length xs) s) (J.Refuse stepNotDue))
+  bars rules xs = onFine (guarded (sane w) w s rules) (roomFor (w .at + length xs) s)
 
   not-fine-rules : (rules : Verdict) (xs : List ℕ) → bars rules xs ≡ J.Fine → rules ≡ J.Fine
   unfolding bars
   not-fine-rules rules xs = go (sane w) (leb (w .at) (length s)) rules
     where
-      go : (a b : Bool) (rules : Verdict) → onFine (pick a (pick b rules (J.Refuse noRoom)) (J.Refuse stepNotDue)) (pick a (roomFor (w .at + length xs) s) (J.Refuse stepNotDue)) ≡ J.Fine → rules ≡ J.Fine
+      go : (a b : Bool) (rules : Verdict) → onFine (pick a (pick b rules (J.Refuse noRoom)) (J.Refuse stepNotDue)) (roomFor (w .at + length xs) s) ≡ J.Fine → rules ≡ J.Fine
       go true true J.Fine e = refl
       go true true (J.Refuse n) e = not-fine n e
       go true false rules e = not-fine noRoom e
@@ -134,7 +142,7 @@ module _ (w : Writer) (s : List ℕ) (l : Segment) (ys zs : List ℕ) where
   unfolding bars
   not-fine-room rules xs = go (sane w) (leb (w .at) (length s)) rules
     where
-      go : (a b : Bool) (rules : Verdict) → onFine (pick a (pick b rules (J.Refuse noRoom)) (J.Refuse stepNotDue)) (pick a (roomFor (w .at + length xs) s) (J.Refuse stepNotDue)) ≡ J.Fine → w .at + length xs ≤ mostBytes
+      go : (a b : Bool) (rules : Verdict) → onFine (pick a (pick b rules (J.Refuse noRoom)) (J.Refuse stepNotDue)) (roomFor (w .at + length xs) s) ≡ J.Fine → w .at + length xs ≤ mostBytes
       go true true J.Fine e = room-inv (w .at + length xs) s e .1
       go true true (J.Refuse n) e = not-fine n e
       go true false rules e = not-fine noRoom e
@@ -145,7 +153,7 @@ module _ (w : Writer) (s : List ℕ) (l : Segment) (ys zs : List ℕ) where
   element-bytes rules long e = ap (λ (t : Turn). pick (isOpen l (dueAt w)) t (answered (J.Refuse stepNotDue) w s w s)) (go (bars rules ys) refl)
     where
       same : bars rules ys ≡ bars rules zs
-      same = ap (λ (n : ℕ). onFine (guarded (sane w) w s rules) (pick (sane w) (roomFor (w .at + n) s) (J.Refuse stepNotDue))) long
+      same = ap (λ (n : ℕ). onFine (guarded (sane w) w s rules) (roomFor (w .at + n) s)) long
 
       go : (v : Verdict) → bars rules ys ≡ v → answered (bars rules ys) w s (grown w (length ys)) (appended w s ys) ≡ answered (bars rules zs) w s (grown w (length zs)) (appended w s zs)
       go J.Fine f =
@@ -162,8 +170,8 @@ module _ (w : Writer) (s : List ℕ) (l : Segment) (ys zs : List ℕ) where
       (refused-same (bars rules ys) (λ g. not-fine n (sym e ∙ not-fine-rules rules ys g)) w s (grown w (length ys)) (appended w s ys) (grown w (length zs)) (appended w s zs)
       ∙ ap (λ (v : Verdict). answered v w s (grown w (length zs)) (appended w s zs)) (ap (λ (v : Verdict). bars v ys) e ∙ go (sane w) (leb (w .at) (length s)) ∙ ap (λ (v : Verdict). bars v zs) (sym e)))
     where
-      go : (a b : Bool) → onFine (pick a (pick b (J.Refuse n) (J.Refuse noRoom)) (J.Refuse stepNotDue)) (pick a (roomFor (w .at + length ys) s) (J.Refuse stepNotDue))
-          ≡ onFine (pick a (pick b (J.Refuse n) (J.Refuse noRoom)) (J.Refuse stepNotDue)) (pick a (roomFor (w .at + length zs) s) (J.Refuse stepNotDue))
+      go : (a b : Bool) → onFine (pick a (pick b (J.Refuse n) (J.Refuse noRoom)) (J.Refuse stepNotDue)) (roomFor (w .at + length ys) s)
+          ≡ onFine (pick a (pick b (J.Refuse n) (J.Refuse noRoom)) (J.Refuse stepNotDue)) (roomFor (w .at + length zs) s)
       go true true = refl
       go true false = refl
       go false b = refl

@@ -1,163 +1,109 @@
--- What is left of a step whose rules are judged: room, and the stores. Assumes nothing.
-use Prim.Native.Nat.{ℕ, suc, _+_, _%_, _^_, _≤_, _<_}
+-- From what a store answered to the step. Assumes nothing.
+use Prim.Native.Nat.{ℕ, _+_, _-_, _*_, _≤_, _<_}
 use mathlib.Core.Path.{_≡_, refl, sym, ap, ap₂, _∙_}
-use mathlib.Core.Bool.{Bool, true, false, _&&_}
-use mathlib.Core.List.{List, [], _++_, append-nil}
+use mathlib.Core.Bool.{Bool, true, false}
+use mathlib.Core.List.{List, [], _∷_, _++_, append-nil}
 use native.Mathlib.Omega.{arith}
-use native.Mathlib.Nat.{mod-eq-of-lt}
-use lib.ListN.{length, length-append}
+use lib.ListN.{length, take, length-append}
 use lib.Dec.{leb, ltb}
 use borrow.Author.Tests.{leb-true, ltb-true}
 use Rattle.wire.specs.Bytes.{digits, length-digits, pick}
-use Rattle.wire.specs.Numbers.{stepNotDue}
-use Rattle.wire.proofs.Bytes.{found}
+use Rattle.wire.specs.declared.Refusal.{Refusal}
+use Rattle.wire.specs.declared.Part.{Part}
+use Rattle.wire.specs.declared.Part.the-variants as P
 use Rattle.transaction.specs.Signed.{mostBytes}
+use Rattle.judge.specs.declared.Verdict.{Verdict}
+use Rattle.judge.specs.declared.Verdict.the-variants as J
+use Rattle.judge.specs.Judged.{onFine}
+use Rattle.judge.specs.Elements.{numbersBytes}
+use Rattle.judge.proofs.Verdicts.{not-fine, both-true}
+use Rattle.buffer.specs.Stores.{roomFor, overwrite, countOf, withNumber, stored}
+use Rattle.buffer.proofs.Stores.{room-inv, length-overwrite, number-put, told-refused, told-next}
 use Rattle.writer.specs.declared.Writer.{Writer}
 use Rattle.writer.specs.declared.Step.{Step}
-use Rattle.writer.specs.declared.Verdict.{Verdict}
-use Rattle.writer.specs.declared.Verdict.the-variants as J
-use Rattle.writer.specs.Steps.{answered, roomIn, roomFor, overwrite, sane, grown, appended}
-use Rattle.writer.specs.Code.{after, refusedStep, storedStep, countOf, onFine, fieldNext, startStep}
-use Rattle.writer.proofs.Laws.{both-true, room-inv, length-overwrite}
-use Rattle.writer.proofs.Storing.{overwrite-more}
+use Rattle.writer.specs.Steps.{answered, sane, grown, appended}
+use Rattle.writer.specs.Code.{after, refusedStep, storedStep, settled, elementStep}
 
--- ---- refusals
+-- ---- what a store answered
 
-module _ (w : Writer) (s : List ℕ) (w′ : Writer) (s′ : List ℕ) (r : Step) (n : ℕ) (h : r ≡ refusedStep w n) where
-  pub rules-refuse : (v u : Verdict) → v ≡ J.Refuse n → after r s ≡ answered (onFine v u) w s w′ s′
+pub rest-fine : (v u : Verdict) → onFine v u ≡ J.Fine → u ≡ J.Fine
+rest-fine J.Fine u e = e
+rest-fine (J.Refuse n) u e = not-fine n e
+
+module _ (v : Verdict) (n : ℕ) (w : Writer) (s t : List ℕ) (x : Part) (u : List ℕ) (p : (x, u) ≡ stored v n s t) (w′ : Writer) (r : Step) where
+  pub store-refused : (t′ : List ℕ) (e : Refusal) → x ≡ P.Refused e → r ≡ refusedStep w (e .number) → after r u ≡ answered v w s w′ t′
   unfolding answered
-  rules-refuse v u e = rw e (ap (λ (x : Step). after x s) h)
+  store-refused t′ e q h = let (i, j) = told-refused n s t x u v p e q in rw i (ap₂ after h j)
 
-  pub room-refuses : (v x : Verdict) (m : ℕ) → v ≡ J.Fine → x ≡ roomIn m (length s) → x ≡ J.Refuse n → after r s ≡ answered (onFine v (roomFor m s)) w s w′ s′
-  unfolding answered roomFor
-  room-refuses v x m e p q = rw (e, sym p ∙ q) (ap (λ (y : Step). after y s) h)
+  -- f is the state behind a place
+  pub store-done : (f : ℕ → Writer) (m : ℕ) → x ≡ P.Next m → r ≡ storedStep (f m) → f n ≡ w′ → after r u ≡ answered v w s w′ t
+  unfolding answered
+  store-done f m q h g = let (i, k, j) = told-next n s t x u v p m q in rw i (ap₂ after (h ∙ ap (λ (a : ℕ). storedStep (f a)) k ∙ ap storedStep g) j)
 
 -- ---- a field
 
-module _ (w : Writer) (s first second : List ℕ) (opens : Bool) (phase : ℕ) where
-  abbrev whole : List ℕ
-  whole = (first ++ second) ++ countOf opens
+counts-bytes : (opens : Bool) → numbersBytes (take (pick opens 1 0) (0 ∷ [])) ≡ countOf opens
+unfolding numbersBytes
+counts-bytes true = append-nil (digits 4 0)
+counts-bytes false = refl
 
-  pub room-made : (x : Verdict) → x ≡ roomIn (w .at + length whole) (length s) → x ≡ J.Fine → w .at + length whole ≤ length s
-  unfolding roomFor
-  room-made x p q = room-inv (w .at + length whole) s (sym p ∙ q) .0
+pub counts-few : (opens : Bool) (k : ℕ) → k ≡ pick opens 1 0 → k ≤ 1
+counts-few true k h = omega arith
+counts-few false k h = omega arith
 
-  module _ (f : w .at + length whole ≤ length s) where
-    pub both-fit : w .at + length (first ++ second) ≤ length s
-    both-fit = omega (arith, length-append (first ++ second) (countOf opens))
+counts-long : (opens : Bool) → length (countOf opens) ≡ 4 * pick opens 1 0
+counts-long true = length-digits 4 0
+counts-long false = refl
 
-    pub sum-fits : w .at + length first + length second ≤ length s
-    sum-fits = omega (arith, both-fit, length-append first second)
+module _ (w : Writer) (s : List ℕ) (v : Verdict) (first second : List ℕ) (opens : Bool) (from : Writer) (k : ℕ) (hk : k ≡ pick opens 1 0) (x : Part) (u : List ℕ) where
+  abbrev fieldOf : List ℕ → Part × List ℕ
+  fieldOf c =
+      stored (onFine v (roomFor (from .at + length ((first ++ second) ++ c)) s)) (from .at + length ((first ++ second) ++ c)) s (overwrite s (from .at) ((first ++ second) ++ c))
 
-    module _ (e : opens ≡ true) where
-      pub count-fits : w .at + length first + length second + 4 ≤ length s
-      count-fits = omega (arith, length-append (first ++ second) (countOf opens), length-append first second, ap (λ (t : Bool). length (countOf t)) e, length-digits 4 0)
+  module _ (p : (x, u) ≡ fieldOf (numbersBytes (take k (0 ∷ [])))) where
+    stores : (x, u) ≡ fieldOf (countOf opens)
+    stores = p ∙ ap (λ (i : ℕ). fieldOf (numbersBytes (take i (0 ∷ [])))) hk ∙ ap fieldOf (counts-bytes opens)
 
-      pub count-fits-there : (t : List ℕ) → t ≡ overwrite s (w .at) (first ++ second) → w .at + length first + length second + 4 ≤ length t
-      count-fits-there t h = omega (arith, count-fits, ap length h, length-overwrite s (first ++ second) (w .at) both-fit)
+    pub settle-refused : (e : Refusal) → x ≡ P.Refused e → (r : Step) → r ≡ refusedStep w (e .number) → after r u ≡ settled w s v (first ++ second) opens from
+    settle-refused e q r h = store-refused _ _ w s _ x u stores _ r _ e q h
 
-    -- the list's count is behind the field
-    pub field-opens : opens ≡ true → (t u : List ℕ) (r : Step) → t ≡ overwrite s (w .at) (first ++ second) → u ≡ overwrite t (w .at + length first + length second) (digits 4 (0 % 256 ^ 4))
-        → r ≡ storedStep record { kind = w .kind; phase = phase; at = w .at + length first + length second + 4; list = w .at + length first + length second; count = 0; last = 0 }
-        → after r u ≡ answered J.Fine w s (fieldNext w phase (w .at + length (first ++ second)) opens) (overwrite s (w .at) whole)
-    unfolding answered
-    field-opens e t u r ht hu hr =
-        let n : w .at + length first + length second ≡ w .at + length (first ++ second) = omega (arith, length-append first second) in
-        let m : w .at + length first + length second + 4 ≡ w .at + length (first ++ second) + length (countOf opens) = rw e (omega (arith, length-append first second, length-digits 4 0)) in
-        let z : u ≡ overwrite s (w .at) whole =
-        hu ∙ ap₂ (λ (a : List ℕ) (i : ℕ). overwrite a i (digits 4 0)) ht n ∙ overwrite-more s (w .at) (first ++ second) (digits 4 0) both-fit
-        ∙ ap (λ (c : Bool). overwrite s (w .at) ((first ++ second) ++ countOf c)) (sym e) in
-        ap₂ after (hr ∙ ap₂ (λ (i j : ℕ). storedStep record { kind = w .kind; phase = phase; at = i; list = j; count = 0; last = 0 }) m n) z
+    -- the count is behind the field, and four bytes long
+    pub settle-place : (m : ℕ) → x ≡ P.Next m → 4 * k ≤ m
+    settle-place m q =
+        let (_, i, _) = told-next _ s _ x u _ stores m q in
+        omega (arith, i, length-append (first ++ second) (countOf opens), counts-long opens, hk)
 
-    pub field-alone : opens ≡ false → (u : List ℕ) (r : Step) → u ≡ overwrite s (w .at) (first ++ second)
-        → r ≡ storedStep record { kind = w .kind; phase = phase; at = w .at + length first + length second; list = w .at + length first + length second; count = 0; last = 0 }
-        → after r u ≡ answered J.Fine w s (fieldNext w phase (w .at + length (first ++ second)) opens) (overwrite s (w .at) whole)
-    unfolding answered
-    field-alone e u r hu hr =
-        let n : w .at + length first + length second ≡ w .at + length (first ++ second) = omega (arith, length-append first second) in
-        let m : w .at + length first + length second ≡ w .at + length (first ++ second) + length (countOf opens) = rw e (omega (arith, length-append first second)) in
-        let z : u ≡ overwrite s (w .at) whole = hu ∙ rw e (ap (overwrite s (w .at)) (sym (append-nil (first ++ second)))) in
-        ap₂ after (hr ∙ ap₂ (λ (i j : ℕ). storedStep record { kind = w .kind; phase = phase; at = i; list = j; count = 0; last = 0 }) m n) z
-
-pub all-fine : (v x : Verdict) (m : ℕ) (w : Writer) (s : List ℕ) (w′ : Writer) (s′ : List ℕ) (r : Step) (u : List ℕ) → v ≡ J.Fine → x ≡ roomIn m (length s) → x ≡ J.Fine
-    → after r u ≡ answered J.Fine w s w′ s′ → after r u ≡ answered (onFine v (roomFor m s)) w s w′ s′
-unfolding roomFor
-all-fine v x m w s w′ s′ r u e p q h = rw (e, sym p ∙ q) h
+    pub settle-done : (m : ℕ) → x ≡ P.Next m → (r : Step) → r ≡ storedStep record { kind = from .kind; phase = from .phase; at = m; list = m - 4 * k; count = 0; last = 0 }
+        → after r u ≡ settled w s v (first ++ second) opens from
+    settle-done m q r h =
+        let n : ℕ = from .at + length ((first ++ second) ++ countOf opens) in
+        let long : length ((first ++ second) ++ countOf opens) ≡ length (first ++ second) + length (countOf opens) = length-append (first ++ second) (countOf opens) in
+        let i : n ≡ from .at + length (first ++ second) + length (countOf opens) = omega arith in
+        let j : n - 4 * k ≡ from .at + length (first ++ second) = omega (arith, long, counts-long opens, hk) in
+        store-done _ _ w s _ x u stores _ r (λ (a : ℕ). record { kind = from .kind; phase = from .phase; at = a; list = a - 4 * k; count = 0; last = 0 }) m q h
+        (ap₂ (λ (a b : ℕ). record { kind = from .kind; phase = from .phase; at = a; list = b; count = 0; last = 0 }) i j)
 
 -- ---- an element
 
-module _ (w : Writer) (s first second : List ℕ) where
-  abbrev element : List ℕ
-  element = first ++ second
+-- the tests of `sane`
+pub sane-inv : (w : Writer) → sane w ≡ true → (w .list + 4 ≤ w .at) × (w .count < 65536)
+sane-inv w e =
+    let (a, b) = both-true (leb (w .list + 4) (w .at)) _ e in
+    let (_, c) = both-true (leb (w .last) (w .at)) (ltb (w .count) mostBytes) b in
+    (leb-true (w .list + 4) (w .at) a, ltb-true (w .count) mostBytes c)
 
-  same-place : w .at + length (element ++ []) ≡ w .at + length element
-  same-place = ap (λ (z : List ℕ). w .at + length z) (append-nil element)
+module _ (w : Writer) (s : List ℕ) (v : Verdict) (ys : List ℕ) (x : Part) (u : List ℕ)
+    (p : (x, u) ≡ stored (onFine v (roomFor (w .at + length ys) s)) (w .at + length ys) s (overwrite s (w .at) ys)) where
+  pub element-refused : (e : Refusal) → x ≡ P.Refused e → (r : Step) → r ≡ refusedStep w (e .number) → after r u ≡ elementStep w s v ys
+  element-refused e q r h = store-refused _ _ w s _ x u p _ r _ e q h
 
-  -- an element's room is that of a field with no count behind it
-  pub element-room : (x : Verdict) → x ≡ roomIn (w .at + length (element ++ [])) (length s) → x ≡ roomIn (w .at + length element) (length s)
-  element-room x h = h ∙ ap (λ (i : ℕ). roomIn i (length s)) same-place
-
-  -- the tests of `sane`
-  pub sane-inv : (t : Bool) → t ≡ sane w → t ≡ true → (w .list + 4 ≤ w .at) × (w .count < 65536)
-  sane-inv t p q =
-      let (a, b) = both-true (leb (w .list + 4) (w .at)) _ (sym p ∙ q) in
-      let (_, c) = both-true (leb (w .last) (w .at)) (ltb (w .count) mostBytes) b in
-      (leb-true (w .list + 4) (w .at) a, ltb-true (w .count) mostBytes c)
-
-  pub element-made : (x : Verdict) (t : Bool) → x ≡ roomIn (w .at + length (element ++ [])) (length s) → x ≡ J.Fine → t ≡ sane w → t ≡ true
-      → (w .at + length element ≤ length s) × ((w .list + 4 ≤ w .at) × (w .count < 65536))
-  unfolding roomFor
-  element-made x t p q a b = (room-inv (w .at + length element) s (sym (element-room x p) ∙ q) .0, sane-inv t a b)
-
-  module _ (f : (w .at + length element ≤ length s) × ((w .list + 4 ≤ w .at) × (w .count < 65536))) where
-    pub element-sum : w .at + length first + length second ≤ length s
-    element-sum = omega (arith, f .0, length-append first second)
-
-    pub element-count-fits : (t : List ℕ) → t ≡ overwrite s (w .at) element → w .list + 4 ≤ length t
-    element-count-fits t h = omega (arith, f .0, f .1 .0, ap length h, length-overwrite s element (w .at) (f .0))
-
-    pub element-stored : (t u : List ℕ) (r : Step) → t ≡ overwrite s (w .at) element → u ≡ overwrite t (w .list) (digits 4 ((w .count + 1) % 256 ^ 4))
-        → r ≡ storedStep record { kind = w .kind; phase = w .phase; at = w .at + length first + length second; list = w .list; count = w .count + 1; last = w .at }
-        → after r u ≡ answered J.Fine w s (grown w (length element)) (appended w s element)
-    unfolding answered grown appended
-    element-stored t u r ht hu hr =
-        let n : w .at + length first + length second ≡ w .at + length element = omega (arith, length-append first second) in
-        let small : (w .count + 1) % 256 ^ 4 ≡ w .count + 1 = mod-eq-of-lt (omega (arith, f .1 .1)) in
-        ap₂ after (hr ∙ ap (λ (i : ℕ). storedStep record { kind = w .kind; phase = w .phase; at = i; list = w .list; count = w .count + 1; last = w .at }) n)
-        (hu ∙ ap₂ (λ (a : List ℕ) (c : ℕ). overwrite a (w .list) (digits 4 c)) ht small)
-
-  module _ (w′ : Writer) (s′ : List ℕ) (v : Verdict) (t : Bool) (e : v ≡ J.Fine) (a : t ≡ sane w) where
-    pub not-sane : (r : Step) (u : Verdict) → r ≡ refusedStep w stepNotDue → t ≡ false → after r s ≡ answered (onFine v (pick (sane w) u (J.Refuse stepNotDue))) w s w′ s′
-    unfolding answered
-    not-sane r u h q = rw (e, sym a ∙ q) (ap (λ (x : Step). after x s) h)
-
-    module _ (q : t ≡ true) where
-      pub element-full : (r : Step) (n : ℕ) (x : Verdict) → r ≡ refusedStep w n → x ≡ roomIn (w .at + length (element ++ [])) (length s) → x ≡ J.Refuse n
-          → after r s ≡ answered (onFine v (pick (sane w) (roomFor (w .at + length element) s) (J.Refuse stepNotDue))) w s w′ s′
-      unfolding answered roomFor
-      element-full r n x h p y = rw (e, sym a ∙ q, sym (element-room x p) ∙ y) (ap (λ (z : Step). after z s) h)
-
-      pub element-done : (r : Step) (u : List ℕ) (x : Verdict) → x ≡ roomIn (w .at + length (element ++ [])) (length s) → x ≡ J.Fine → after r u ≡ answered J.Fine w s w′ s′
-          → after r u ≡ answered (onFine v (pick (sane w) (roomFor (w .at + length element) s) (J.Refuse stepNotDue))) w s w′ s′
-      unfolding roomFor
-      element-done r u x p y h = rw (e, sym a ∙ q, sym (element-room x p) ∙ y) h
-
--- ---- a start
-
-module _ (w : Writer) (s ys : List ℕ) (kind : ℕ) where
-  abbrev begun : Writer
-  begun = record { kind = kind; phase = 0; at = 0; list = 0; count = 0; last = 0 }
-
-  at-zero : 0 + length (ys ++ digits 4 0) ≡ length (ys ++ digits 4 0)
-  at-zero = omega arith
-
-  pub start-refused : (v x : Verdict) → v ≡ J.Fine → x ≡ roomIn (0 + length (ys ++ digits 4 0)) (length s) → (n : ℕ) → x ≡ J.Refuse n → (r : Step) → r ≡ refusedStep w n → after r s ≡ startStep w s v kind ys
-  unfolding answered roomFor
-  start-refused v x e p n q r h = rw (e, ← at-zero, sym p ∙ q) (ap (λ (y : Step). after y s) h)
-
-  pub start-done : (v x : Verdict) → v ≡ J.Fine → x ≡ roomIn (0 + length (ys ++ digits 4 0)) (length s) → x ≡ J.Fine → (r : Step) (u : List ℕ)
-      → after r u ≡ answered J.Fine begun s (fieldNext begun 1 (0 + length ys) true) (overwrite s 0 (ys ++ countOf true)) → after r u ≡ startStep w s v kind ys
-  unfolding answered roomFor
-  start-done v x e p q r u h =
-      let n : 0 + length ys ≡ length ys = omega arith in
-      rw (e, ← at-zero, sym p ∙ q) (h ∙ ap (λ (i : ℕ). after (storedStep record { kind = kind; phase = 1; at = i + length (digits 4 0); list = i; count = 0; last = 0 }) (overwrite s 0 (ys ++ digits 4 0))) n)
+  pub element-done : sane w ≡ true → (m : ℕ) → x ≡ P.Next m → (z : List ℕ) → z ≡ withNumber u (w .list) (w .count + 1) → (r : Step)
+      → r ≡ storedStep record { kind = w .kind; phase = w .phase; at = m; list = w .list; count = w .count + 1; last = w .at } → after r z ≡ elementStep w s v ys
+  unfolding answered grown appended
+  element-done t m q z hz r h =
+      let (a, b) = sane-inv w t in
+      let (i, k, j) = told-next (w .at + length ys) s (overwrite s (w .at) ys) x u (onFine v (roomFor (w .at + length ys) s)) p m q in
+      let (f, _) = room-inv (w .at + length ys) s (rest-fine v (roomFor (w .at + length ys) s) i) in
+      let l : length u ≡ length s = ap length j ∙ length-overwrite s ys (w .at) f in
+      rw i (ap₂ after (h ∙ ap (λ (n : ℕ). storedStep record { kind = w .kind; phase = w .phase; at = n; list = w .list; count = w .count + 1; last = w .at }) k)
+      (hz ∙ number-put u (w .list) (w .count + 1) (omega arith) (omega arith) ∙ ap (λ (y : List ℕ). overwrite y (w .list) (digits 4 (w .count + 1))) j))

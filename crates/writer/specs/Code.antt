@@ -1,22 +1,23 @@
--- What the functions below the steps answer: what is due, by type and phase; and a step once its rules are judged. Assumes nothing.
+-- What the functions below the methods answer: a step once its rules are judged. Assumes nothing.
 use Prim.Native.Nat.{ℕ, suc, _+_}
-use mathlib.Core.Bool.{Bool, true, false}
-use mathlib.Core.List.{List, [], _++_}
+use mathlib.Core.Bool.{Bool, true}
+use mathlib.Core.List.{List, _++_}
 use lib.ListN.{length}
-use Rattle.wire.specs.Bytes.{digits, pick}
+use Rattle.wire.specs.Bytes.{pick}
 use Rattle.wire.specs.Numbers.{refusal, stepNotDue}
-use Rattle.transaction.specs.Plan.{Plan, shut, end, field, many}
 use Rattle.transaction.specs.Avm.{avm}
 use Rattle.transaction.specs.Answer.{memoMost}
 use Rattle.transaction.specs.declared.Segment.{Segment}
+use Rattle.judge.specs.declared.Verdict.{Verdict}
+use Rattle.judge.specs.declared.Verdict.the-variants as J
+use Rattle.judge.specs.Judged.{onFine}
+use Rattle.due.specs.declared.Due.{Due}
+use Rattle.due.specs.Plans.{due, planOf, dueOf, isList, isField, isOpen}
 use Rattle.writer.specs.declared.Writer.{Writer}
 use Rattle.writer.specs.declared.Step.{Step}
 use Rattle.writer.specs.declared.Written.the-variants as W
-use Rattle.writer.specs.declared.Due.{Due}
-use Rattle.writer.specs.declared.Due.the-variants as D
-use Rattle.writer.specs.declared.Verdict.{Verdict}
-use Rattle.writer.specs.declared.Verdict.the-variants as J
-use Rattle.writer.specs.Steps.{Turn, answered, guarded, isSegment, roomFor, overwrite, sane, grown, appended, due, planOf}
+use Rattle.writer.specs.Steps.{Turn, answered, guarded, sane, grown, appended}
+use Rattle.buffer.specs.Stores.{roomFor, overwrite, countOf}
 
 -- what code answers, and what the buffer holds then
 abbrev pub after : Step → List ℕ → Turn
@@ -28,61 +29,30 @@ refusedStep w n = record { next = w; answer = W.Refused (refusal n 0) }
 abbrev pub storedStep : Writer → Step
 storedStep w = record { next = w; answer = W.Done (w .at) }
 
--- the first part of a plan: its name, and how many elements it needs
-abbrev pub dueOf : Plan → Due
-dueOf shut = D.Nothing
-dueOf end = D.End
-dueOf (field l F q) = D.Field l
-dueOf (many l E q) = D.List l (E .least)
+-- the state behind a field that ends at `at`, where a list that is next has its count behind the field
+abbrev pub fieldNext : Writer → ℕ → Bool → Writer
+fieldNext from at opens = record { kind = from .kind; phase = from .phase; at = at + length (countOf opens); list = at; count = 0; last = 0 }
 
-abbrev pub isList : Due → Bool
-isList D.Nothing = false
-isList D.End = false
-isList (D.Field l) = false
-isList (D.List l n) = true
+-- the bytes ys of a field where `from` has its start, with the next list's count behind them, once its rules are judged
+abbrev pub settled : Writer → List ℕ → Verdict → List ℕ → Bool → Writer → Turn
+settled w s v ys opens from =
+    answered (onFine v (roomFor (from .at + length (ys ++ countOf opens)) s)) w s (fieldNext from (from .at + length ys) opens) (overwrite s (from .at) (ys ++ countOf opens))
 
--- a field of that name is due; a list of that name is open
-abbrev pub isField : Segment → Due → Bool
-isField l D.Nothing = false
-isField l D.End = false
-isField l (D.Field m) = isSegment l m
-isField l (D.List m n) = false
+-- of a type, at a phase, from a place on
+abbrev pub begun : ℕ → ℕ → ℕ → Writer
+begun kind phase at = record { kind = kind; phase = phase; at = at; list = 0; count = 0; last = 0 }
 
-abbrev pub isOpen : Segment → Due → Bool
-isOpen l D.Nothing = false
-isOpen l D.End = false
-isOpen l (D.Field m) = false
-isOpen l (D.List m n) = isSegment l m
-
--- the count that is written as 0, where a list is due next
-abbrev pub countOf : Bool → List ℕ
-countOf opens = pick opens (digits 4 0) []
-
--- v, and then u
-abbrev pub onFine : Verdict → Verdict → Verdict
-onFine J.Fine u = u
-onFine (J.Refuse n) u = J.Refuse n
-
--- the state where the bytes written end at `at`, and a list that is next has its count behind them
-abbrev pub fieldNext : Writer → ℕ → ℕ → Bool → Writer
-fieldNext w phase at opens = record { kind = w .kind; phase = phase; at = at + length (countOf opens); list = at; count = 0; last = 0 }
-
--- a field of the bytes ys, with the next list's count behind it, once its rules are judged; and the phase that is next
+-- a field, and the phase that is next
 abbrev pub fieldStep : Writer → List ℕ → Verdict → List ℕ → Bool → ℕ → Turn
-fieldStep w s v ys opens phase =
-    answered (onFine v (roomFor (w .at + length (ys ++ countOf opens)) s)) w s (fieldNext w phase (w .at + length ys) opens) (overwrite s (w .at) (ys ++ countOf opens))
+fieldStep w s v ys opens phase = settled w s v ys opens (begun (w .kind) phase (w .at))
 
--- a start of the bytes ys, once its rules are judged: a list is next in every type
+-- a start: a list is next in every type
 abbrev pub startStep : Writer → List ℕ → Verdict → ℕ → List ℕ → Turn
-startStep w s v kind ys =
-    answered (onFine v (roomFor (length (ys ++ digits 4 0)) s))
-    w s (record { kind = kind; phase = 1; at = length ys + length (digits 4 0); list = length ys; count = 0; last = 0 }) (overwrite s 0 (ys ++ digits 4 0))
+startStep w s v kind ys = settled w s v ys true (begun kind 1 0)
 
 -- an element of the bytes ys, once its rules are judged
 abbrev pub elementStep : Writer → List ℕ → Verdict → List ℕ → Turn
-elementStep w s v ys =
-    answered (onFine v (pick (sane w) (roomFor (w .at + length ys) s) (J.Refuse stepNotDue)))
-    w s (grown w (length ys)) (appended w s ys)
+elementStep w s v ys = answered (onFine v (roomFor (w .at + length ys) s)) w s (grown w (length ys)) (appended w s ys)
 
 -- ---- a step by the name of a part
 

@@ -1,45 +1,14 @@
 -- The public steps of the AVM's writer: each puts the bytes that its fields are written as, by the format's own writing. Assumes nothing.
-use Prim.Native.Nat.{ℕ, zero, suc, _/_, _%_}
-use mathlib.Core.Bool.{true}
-use mathlib.Core.List.{List, [], _∷_}
-use lib.ListN.{length, take, drop}
-use lib.Dec.{eqb}
+use Prim.Native.Nat.{ℕ}
+use mathlib.Core.List.{List}
 use Rattle.wire.specs.Fields.{blob}
 use Rattle.element.specs.Strings.{memo, name, symbol, denomination}
-use Rattle.element.specs.Owners.{addressWidth}
-use Rattle.element.specs.Outputs.{secpTransfer, TransferableOutput, transferableOutput}
-use Rattle.element.specs.Inputs.{Input, input}
 use Rattle.transaction.specs.Avm.{avm}
 use Rattle.transaction.specs.Answer.{memoMost}
 use Rattle.transaction.specs.declared.Segment.the-variants as S
+use Rattle.judge.specs.Given.{given, outputGiven, inputGiven}
 use Rattle.writer.specs.declared.Writer.{Writer}
-use Rattle.writer.specs.Steps.{Turn, Given, put}
-use Rattle.writer.specs.Runs.{given}
-
--- n addresses that stand one behind the other
-unfoldable pub addressesOf : ℕ → List ℕ → List (List ℕ)
-addressesOf zero s = []
-addressesOf (suc n) s = take addressWidth s ∷ addressesOf n (drop addressWidth s)
-
-abbrev pub outputOf : List ℕ → ℕ → ℕ → ℕ → List ℕ → TransferableOutput
-outputOf asset amount locktime threshold addresses =
-    record {
-      asset = asset;
-      output = (secpTransfer, (amount, record { locktime = locktime; threshold = threshold; addresses = addressesOf (length addresses / addressWidth) addresses }));
-    }
-
--- an address slice that is no multiple of 20 is cut short
-abbrev pub outputGiven : List ℕ → ℕ → ℕ → ℕ → List ℕ → Given
-outputGiven asset amount locktime threshold addresses =
-    record { whole = eqb (length addresses % addressWidth) 0; bytes = transferableOutput .write (outputOf asset amount locktime threshold addresses) }
-
-abbrev pub inputOf : List ℕ → ℕ → List ℕ → ℕ → List ℕ → Input
-inputOf txid index asset amount indices = record { txid = txid; index = index; asset = asset; amount = amount; indices = indices }
-
-abbrev pub inputGiven : List ℕ → ℕ → List ℕ → ℕ → List ℕ → Given
-inputGiven txid index asset amount indices = given (input [] .write (inputOf txid index asset amount indices))
-
--- ---- the steps
+use Rattle.writer.specs.Steps.{Turn, put}
 
 abbrev pub addOutput : Writer → List ℕ → List ℕ → ℕ → ℕ → ℕ → List ℕ → Turn
 addOutput w s asset amount locktime threshold addresses = put (avm memoMost) w s S.Output (outputGiven asset amount locktime threshold addresses)

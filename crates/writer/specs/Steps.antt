@@ -1,25 +1,27 @@
 -- What each step of the writer answers, and what it leaves in the buffer (document 01, "Writing"), for any family. No rule is written here: what a
 -- step would add is read by the format that is due. Assumes nothing.
-use Prim.Native.Nat.{ℕ, zero, suc, _+_, _-_}
-use mathlib.Core.Bool.{Bool, true, false, _&&_}
-use mathlib.Core.List.{List, [], _∷_, _++_}
+use Prim.Native.Nat.{ℕ, suc, _+_, _-_}
+use mathlib.Core.Bool.{Bool, true, _&&_}
+use mathlib.Core.List.{List, [], _++_}
 use lib.ListN.{length, take, drop}
 use lib.Dec.{ltb, leb, eqb}
 use Rattle.wire.specs.Bytes.{digits, pick}
-use Rattle.wire.specs.Numbers.{ruleNumber, cutShort, emptyList, bytesAfterEnd, refusal, noRoom, stepNotDue}
-use Rattle.wire.specs.Format.{Format, read, Result, took, refused}
-use Rattle.transaction.specs.Credentials.{layout, credentials, blanks}
+use Rattle.wire.specs.Numbers.{ruleNumber, emptyList, refusal, noRoom, stepNotDue}
 use Rattle.transaction.specs.Signed.{mostBytes}
 use Rattle.transaction.specs.Plan.{Plan, shut, end, field, many}
-use Rattle.transaction.specs.Family.{Family, head, Unsigned, unsigned, wants}
+use Rattle.transaction.specs.Family.{Family, head}
 use Rattle.transaction.specs.declared.Segment.{Segment}
-use Rattle.transaction.specs.declared.Segment.the-variants as S
+use Rattle.judge.specs.declared.Verdict.{Verdict}
+use Rattle.judge.specs.declared.Verdict.the-variants as J
+use Rattle.judge.specs.Judged.{judged}
+use Rattle.judge.specs.Given.{headBytes, Given}
+use Rattle.due.specs.Plans.{isSegment, due, planOf}
+use Rattle.blank.specs.Closing.{closing, closable}
 use Rattle.writer.specs.declared.Writer.{Writer}
 use Rattle.writer.specs.declared.Step.{Step}
 use Rattle.writer.specs.declared.Written.{Written}
 use Rattle.writer.specs.declared.Written.the-variants as W
-use Rattle.writer.specs.declared.Verdict.{Verdict}
-use Rattle.writer.specs.declared.Verdict.the-variants as J
+use Rattle.buffer.specs.Stores.{roomFor, overwrite}
 
 -- nothing is written yet
 abbrev pub fresh : Writer
@@ -47,30 +49,7 @@ guardedIn isDue w length v = pick isDue (pick (leb (w .at) length) v (J.Refuse n
 abbrev pub guarded : Bool → Writer → List ℕ → Verdict → Verdict
 guarded isDue w s v = guardedIn isDue w (length s) v
 
--- what a step is given: the bytes that it would add, and whether they could be made: an address slice that is no multiple of 20 is cut short
-pub record Given : Type 0 where
-  pub whole : Bool
-  pub bytes : List ℕ
-
--- the rules are those of the format; and no byte may be left over
-unfoldable pub judged : {A : Type 0} → Format A → Given → Verdict → Verdict
-judged F g v =
-    pick (g .whole)
-    (F .run (g .bytes) 0 (λ e. J.Refuse (e .number)) λ a m. pick (eqb m (length (g .bytes))) v (J.Refuse bytesAfterEnd))
-    (J.Refuse (ruleNumber cutShort))
-
--- n bytes in all pass neither the buffer's end nor 65,536
-abbrev pub roomIn : ℕ → ℕ → Verdict
-roomIn n length = pick (leb n length) (pick (leb n mostBytes) J.Fine (J.Refuse noRoom)) (J.Refuse noRoom)
-
-unfoldable pub roomFor : ℕ → List ℕ → Verdict
-roomFor n s = roomIn n (length s)
-
 -- ---- the buffer
-
--- s with ys in place of as many bytes from `at` on
-unfoldable pub overwrite : List ℕ → ℕ → List ℕ → List ℕ
-overwrite s at ys = take at s ++ (ys ++ drop (length ys) (drop at s))
 
 -- the bytes of the open list's last element, none where it has no element
 unfoldable pub prev : Writer → List ℕ → List ℕ
@@ -90,21 +69,6 @@ appended w s ys = overwrite (overwrite s (w .at) ys) (w .list) (digits 4 (w .cou
 
 -- ---- the plan, from where the writer is
 
-abbrev pub tail : Plan → Plan
-tail shut = shut
-tail end = shut
-tail (field l F q) = q
-tail (many l E q) = q
-
-abbrev pub behind : ℕ → Plan → Plan
-behind zero p = p
-behind (suc k) p = tail (behind k p)
-
--- before the start nothing is due but the start
-abbrev pub due : ℕ → Plan → Plan
-due zero p = shut
-due (suc k) p = behind k p
-
 -- the step before a list writes its count as 0
 abbrev pub opening : Plan → List ℕ
 opening shut = []
@@ -117,20 +81,6 @@ abbrev pub opened : ℕ → ℕ → ℕ → Plan → Writer
 opened kind phase at q = record { kind = kind; phase = phase; at = at + length (opening q); list = at; count = 0; last = 0 }
 
 -- ---- the steps, by what is due
-
-abbrev pub segmentCode : Segment → ℕ
-segmentCode S.Output = 0
-segmentCode S.Input = 1
-segmentCode S.Memo = 2
-segmentCode S.Name = 3
-segmentCode S.Symbol = 4
-segmentCode S.Denomination = 5
-segmentCode S.State = 6
-segmentCode S.Operation = 7
-segmentCode S.Chain = 8
-
-abbrev pub isSegment : Segment → Segment → Bool
-isSegment l m = eqb (segmentCode l) (segmentCode m)
 
 abbrev pub notDue : Writer → List ℕ → Turn
 notDue w s = answered (J.Refuse stepNotDue) w s w s
@@ -156,47 +106,28 @@ closeAt (many m E q) w s =
     w s (opened (w .kind) (suc (w .phase)) (w .at) q) (overwrite s (w .at) (opening q))
 
 module _ (F : Family) where
-  -- the blank credentials that an unsigned part wants
-  abbrev pub blankOf : Unsigned F → List ℕ
-  blankOf u = credentials (wants F u) .write (blanks (layout (wants F u)))
-
-  -- the unsigned part is read back from what was written
-  abbrev pub blankBehind : Result (Unsigned F) → List ℕ
-  blankBehind (took u n) = blankOf u
-  blankBehind (refused e) = []
-
-  unfoldable pub closing : Writer → List ℕ → List ℕ
-  closing w s = blankBehind (read (unsigned F) (take (w .at) s) 0)
-
+  -- the blank credentials are written
   unfoldable pub finishAt : Plan → Writer → List ℕ → Turn
   finishAt shut w s = notDue w s
   finishAt end w s =
-      answered (guarded true w s (judged (unsigned F) record { whole = true; bytes = take (w .at) s } (roomFor (w .at + length (closing w s)) s)))
-      w s (opened (w .kind) (suc (w .phase)) (w .at + length (closing w s)) shut) (overwrite s (w .at) (closing w s))
+      answered (closable F (w .at) s) w s (opened (w .kind) (suc (w .phase)) (w .at + length (closing F (w .at) s)) shut) (overwrite s (w .at) (closing F (w .at) s))
   finishAt (field m C q) w s = notDue w s
   finishAt (many m E q) w s = notDue w s
 
   -- ---- the steps
 
-  abbrev pub planOf : ℕ → Plan
-  planOf kind = F .plan (F .kind kind)
-
-  -- codec, type, network and chain id, as they are given
-  abbrev pub headBytes : ℕ → ℕ → List ℕ → List ℕ
-  headBytes kind network chain = digits 2 0 ++ (digits 4 kind ++ (digits 4 network ++ chain))
-
   unfoldable pub start : Writer → List ℕ → ℕ → ℕ → List ℕ → Turn
   start w s kind network chain =
       let ys = headBytes kind network chain in
-      let q = planOf kind in
+      let q = planOf F kind in
       answered (guarded (eqb (w .phase) 0) w s (judged (head F) record { whole = true; bytes = ys } (roomFor (length (ys ++ opening q)) s)))
       w s (opened kind 1 (length ys) q) (overwrite s 0 (ys ++ opening q))
 
   unfoldable pub put : Writer → List ℕ → Segment → Given → Turn
-  put w s l g = putAt (due (w .phase) (planOf (w .kind))) w s l g
+  put w s l g = putAt (due (w .phase) (planOf F (w .kind))) w s l g
 
   unfoldable pub close : Writer → List ℕ → Turn
-  close w s = closeAt (due (w .phase) (planOf (w .kind))) w s
+  close w s = closeAt (due (w .phase) (planOf F (w .kind))) w s
 
   unfoldable pub finish : Writer → List ℕ → Turn
-  finish w s = finishAt (due (w .phase) (planOf (w .kind))) w s
+  finish w s = finishAt (due (w .phase) (planOf F (w .kind))) w s

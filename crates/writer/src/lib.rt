@@ -6,15 +6,16 @@ ghost use Rattle.transaction.specs.Answer.{memoMost};
 ghost use Rattle.writer.specs.Steps.{start, close, finish};
 ghost use Rattle.writer.specs.Code.{after};
 
-pub mod elements;
-pub mod finish;
-pub mod parts;
-pub mod plans;
-pub mod rules;
-pub mod store;
-pub mod texts;
+pub mod steps;
 
+use due::Due;
+use due::plans;
+use judge::Verdict;
+use judge::elements;
+use judge::rules;
+use judge::texts;
 use transaction::Segment;
+use wire::Part;
 use wire::Refusal;
 
 // How far a transaction is written: its type, how many parts are begun, the bytes written; and of the list that is open, where its count stands,
@@ -34,20 +35,6 @@ pub enum Written {
     Refused(Refusal),
 }
 
-// What bars a step, if anything does.
-pub enum Verdict {
-    Fine,
-    Refuse(u32),
-}
-
-// What is due: nothing, the finish, a field, or an element or the close of a list that needs so many elements.
-pub enum Due {
-    Nothing,
-    End,
-    Field(Segment),
-    List(Segment, u32),
-}
-
 pub struct Step {
     pub next: Writer,
     pub answer: Written,
@@ -59,10 +46,18 @@ impl Writer {
         ensures { λ r. ⌜ after r (now (buf .exit)) ≡ start (avm memoMost) self (now (buf .entry)) kind network chain ⌝ }
     {
         let rules = texts::kind_rules(kind);
-        let verdict = store::entered(self, buf.len(), self.phase == 0, rules);
+        let verdict = steps::entered(self, buf.len(), self.phase == 0, rules);
         let mut front = [0u8; 10];
         wire::put_number(&mut front, kind as u64 * 4294967296 + network as u64);
-        store::settle_start(self, buf, verdict, kind, &front, &chain)
+        let from = Writer {
+            kind,
+            phase: 1,
+            at: 0,
+            list: 0,
+            count: 0,
+            last: 0,
+        };
+        steps::settle(self, buf, verdict, &front, &chain, true, from)
     }
 
     // Closes the open list, and opens the next where one follows.
@@ -70,17 +65,25 @@ impl Writer {
         ensures { λ r. ⌜ after r (now (buf .exit)) ≡ close (avm memoMost) self (now (buf .entry)) ⌝ }
     {
         match plans::due_at(self.kind, self.phase) {
-            Due::Nothing => store::refused(self, wire::numbers::STEP_NOT_DUE),
-            Due::End => store::refused(self, wire::numbers::STEP_NOT_DUE),
-            Due::Field(_) => store::refused(self, wire::numbers::STEP_NOT_DUE),
+            Due::Nothing => steps::refused(self, wire::numbers::STEP_NOT_DUE),
+            Due::End => steps::refused(self, wire::numbers::STEP_NOT_DUE),
+            Due::Field(_) => steps::refused(self, wire::numbers::STEP_NOT_DUE),
             Due::List(_, least) => {
                 let phase = self.phase + 1;
                 let opens = plans::list_at(self.kind, phase);
                 let rules = texts::list_rules(self.count, least);
-                let verdict = store::entered(self, buf.len(), true, rules);
+                let verdict = steps::entered(self, buf.len(), true, rules);
                 let none = [0u8; 1];
                 let nothing = [0u8; 1];
-                store::settle_field(self, buf, verdict, &none[..0], &nothing[..0], opens, phase)
+                let from = Writer {
+                    kind: self.kind,
+                    phase,
+                    at: self.at,
+                    list: 0,
+                    count: 0,
+                    last: 0,
+                };
+                steps::settle(self, buf, verdict, &none[..0], &nothing[..0], opens, from)
             }
         }
     }
@@ -91,7 +94,7 @@ impl Writer {
         let rules = texts::memo_rules(bytes.len());
         let mut count = [0u8; 4];
         wire::put_number(&mut count, bytes.len() as u64);
-        parts::put_field(self, buf, Segment::Memo, rules, &count, bytes)
+        steps::put_field(self, buf, Segment::Memo, rules, &count, bytes)
     }
 
     pub fn name(self, buf: &mut [u8], bytes: &[u8]) -> Step
@@ -100,7 +103,7 @@ impl Writer {
         let rules = texts::text_rules(bytes, 128);
         let mut count = [0u8; 2];
         wire::put_number(&mut count, bytes.len() as u64);
-        parts::put_field(self, buf, Segment::Name, rules, &count, bytes)
+        steps::put_field(self, buf, Segment::Name, rules, &count, bytes)
     }
 
     pub fn symbol(self, buf: &mut [u8], bytes: &[u8]) -> Step
@@ -109,7 +112,7 @@ impl Writer {
         let rules = texts::text_rules(bytes, 4);
         let mut count = [0u8; 2];
         wire::put_number(&mut count, bytes.len() as u64);
-        parts::put_field(self, buf, Segment::Symbol, rules, &count, bytes)
+        steps::put_field(self, buf, Segment::Symbol, rules, &count, bytes)
     }
 
     pub fn denomination(self, buf: &mut [u8], value: u8) -> Step
@@ -119,7 +122,7 @@ impl Writer {
         let mut byte = [0u8; 1];
         wire::put_number(&mut byte, value as u64);
         let none = [0u8; 1];
-        parts::put_field(self, buf, Segment::Denomination, rules, &byte, &none[..0])
+        steps::put_field(self, buf, Segment::Denomination, rules, &byte, &none[..0])
     }
 
     // The source of an import, or the destination of an export.
@@ -127,7 +130,7 @@ impl Writer {
         ensures { λ r. ⌜ after r (now (buf .exit)) ≡ putChain self (now (buf .entry)) id ⌝ }
     {
         let none = [0u8; 1];
-        parts::put_field(self, buf, Segment::Chain, Verdict::Fine, &none[..0], &id)
+        steps::put_field(self, buf, Segment::Chain, Verdict::Fine, &none[..0], &id)
     }
 
     // A transferable output; its addresses stand one behind the other.
@@ -142,11 +145,20 @@ impl Writer {
     ) -> Step
         ensures { λ r. ⌜ after r (now (buf .exit)) ≡ addOutput self (now (buf .entry)) asset amount locktime threshold (now (addresses .entry)) ⌝ }
     {
-        let last = store::last_of(self, &buf[..]);
+        let last = steps::last_of(self, &buf[..]);
         let rules = rules::output_rules(last, asset, amount, locktime, threshold, addresses);
         let count = (addresses.len() / 20) as u64;
         let head = rules::output_head(asset, amount, locktime, threshold, count);
-        parts::put_element(self, buf, Segment::Output, rules, &head, addresses)
+        let none = [0u32; 1];
+        steps::put_element(
+            self,
+            buf,
+            Segment::Output,
+            rules,
+            &head,
+            addresses,
+            &none[..0],
+        )
     }
 
     // A transferable input, base or imported.
@@ -161,10 +173,11 @@ impl Writer {
     ) -> Step
         ensures { λ r. ⌜ after r (now (buf .exit)) ≡ addInput self (now (buf .entry)) txid index asset amount (now (indices .entry)) ⌝ }
     {
-        let last = store::last_of(self, &buf[..]);
+        let last = steps::last_of(self, &buf[..]);
         let rules = rules::input_rules(last, txid, index, asset, amount, indices);
         let head = rules::input_head(txid, index, asset, amount, indices.len() as u64);
-        parts::put_numbers(self, buf, Segment::Input, rules, &head, indices)
+        let none = [0u8; 1];
+        steps::put_element(self, buf, Segment::Input, rules, &head, &none[..0], indices)
     }
 
     // An operation as its own bytes.
@@ -172,22 +185,54 @@ impl Writer {
         ensures { λ r. ⌜ after r (now (buf .exit)) ≡ addOperation self (now (buf .entry)) (now (bytes .entry)) ⌝ }
     {
         let rules = elements::operation_rules(bytes);
-        parts::put_element(self, buf, Segment::Operation, rules, &bytes[..0], bytes)
+        let none = [0u32; 1];
+        steps::put_element(
+            self,
+            buf,
+            Segment::Operation,
+            rules,
+            &bytes[..0],
+            bytes,
+            &none[..0],
+        )
     }
 
     // An initial state as its own bytes.
     pub fn state(self, buf: &mut [u8], bytes: &[u8]) -> Step
         ensures { λ r. ⌜ after r (now (buf .exit)) ≡ addState self (now (buf .entry)) (now (bytes .entry)) ⌝ }
     {
-        let last = store::last_of(self, &buf[..]);
+        let last = steps::last_of(self, &buf[..]);
         let rules = elements::state_rules(last, bytes);
-        parts::put_element(self, buf, Segment::State, rules, &bytes[..0], bytes)
+        let none = [0u32; 1];
+        steps::put_element(
+            self,
+            buf,
+            Segment::State,
+            rules,
+            &bytes[..0],
+            bytes,
+            &none[..0],
+        )
     }
 
     // Writes the blank credentials: every signature is zero bytes.
     pub fn finish(self, buf: &mut [u8]) -> Step
         ensures { λ r. ⌜ after r (now (buf .exit)) ≡ finish (avm memoMost) self (now (buf .entry)) ⌝ }
     {
-        finish::finish(self, buf, plans::end_at(self.kind, self.phase))
+        if !plans::end_at(self.kind, self.phase) {
+            return steps::refused(self, wire::numbers::STEP_NOT_DUE);
+        }
+        let phase = self.phase + 1;
+        match blank::close(buf, self.at) {
+            Part::Refused(refusal) => steps::refused(self, refusal.number),
+            Part::Next(end) => steps::stored(Writer {
+                kind: self.kind,
+                phase,
+                at: end,
+                list: end,
+                count: 0,
+                last: 0,
+            }),
+        }
     }
 }

@@ -1,7 +1,6 @@
 -- `writer::Writer::chain` meets its contract. Assumes nothing.
 use borrow.Author.Needs.{needs}
-use Rattle.writer.specs.declared.Verdict.the-variants as J
-use native.Mathlib.Omega.{arith}
+use Rattle.judge.specs.declared.Verdict.the-variants as J
 use Rattle.writer.proofs.Methods.{chain-is}
 use Rattle.writer.proofs.Writer.chain.Statement.{statement}
 use Rattle.writer.proofs.Writer.chain.Tie as tie
@@ -15,4 +14,4 @@ chain-spec =
     (λ c. search needs)  -- slice-aggregate-put-field-2
     (λ c κs. search needs)  -- put-field-requires
     (λ c. search needs)  -- same-length
-    (λ c. chain-is (c .before .before .before .before .before .before .before .args .self) (c .before .before .before .before .before .before .before .args .buf .now) J.Fine (c .before .before .before .before .before .before .before .args .t3) _ _ (search needs) (c .before .before .put-field .ensures)))  -- returns
+    (λ c. let a = c .before .before .before .before .before .before .before .args in chain-is (a .self) (a .buf .now) J.Fine (a .t3) _ _ (search needs) (c .before .before .put-field .ensures)))  -- returns

@@ -1,6 +1,6 @@
 -- `writer::Writer::denomination` meets its contract. Assumes nothing.
-use borrow.Author.Needs.{needs}
 use native.Mathlib.Omega.{arith}
+use borrow.Author.Needs.{needs}
 use Rattle.writer.proofs.Methods.{denomination-is}
 use Rattle.writer.proofs.Writer.denomination.Statement.{statement}
 use Rattle.writer.proofs.Writer.denomination.Tie as tie
@@ -17,4 +17,4 @@ denomination-spec =
     (λ c. search needs)  -- slice-aggregate-put-field-2
     (λ c κs. search needs)  -- put-field-requires
     (λ c. search needs)  -- same-length
-    (λ c. denomination-is (c .before .before .before .before .before .before .before .before .before .before .before .args .self) (c .before .before .before .before .before .before .before .before .before .before .before .args .buf .now) _ _ _ _ (c .before .before .before .before .before .before .before .before .before .before .before .args .value) (c .before .before .before .before .before .before .before .before .before .denomination-rules .ensures) (c .before .before .before .before .before .before .before .put-number .ensures) (omega (arith, c .before .before .before .before .before .before .before .before .before .before .before .fits)) (c .before .before .put-field .ensures)))  -- returns
+    (λ c. let a = c .before .before .before .before .before .before .before .before .before .before .before .args in denomination-is (a .self) (a .buf .now) _ _ _ _ (a .value) (c .before .before .before .before .before .before .before .before .before .denomination-rules .ensures) (c .before .before .before .before .before .before .before .put-number .ensures) (omega (arith, c .before .before .before .before .before .before .before .before .before .before .before .fits)) (c .before .before .put-field .ensures)))  -- returns

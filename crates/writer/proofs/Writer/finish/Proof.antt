@@ -1,7 +1,8 @@
 -- `writer::Writer::finish` meets its contract. Assumes nothing.
+use native.Mathlib.Omega.{arith}
 use borrow.Author.Needs.{needs}
-use mathlib.Core.Path.{_∙_}
-use Rattle.writer.proofs.Ending.{finish-when}
+use Rattle.writer.proofs.Laws.{not-true, not-false}
+use Rattle.writer.proofs.Methods.{finish-not, finish-small, finish-refused, finish-done}
 use Rattle.writer.proofs.Writer.finish.Statement.{statement}
 use Rattle.writer.proofs.Writer.finish.Tie as tie
 
@@ -10,6 +11,15 @@ finish-spec =
     tie.close
     (tie.spec
     (λ c κs. search needs)  -- end-at-requires
-    (λ c κs. search needs)  -- finish-requires
+    (λ c κs. search needs)  -- refused-requires
+    (λ c. let a = c .before .before .before .before .args in finish-not (a .self) (a .buf .now) _ (c .before .before .end-at .ensures) (not-true _ (c .before .if1 .taken)) _ (c .refused .ensures))  -- returns
+    (λ c. let a = c .before .before .before .before .args in omega (arith, finish-small (a .self) (a .buf .now) _ (c .before .before .end-at .ensures) (not-false _ (c .before .if1 .left))))  -- add-phase
+    (λ c κs. search needs)  -- close-requires
+    (λ c. search needs)  -- enum-known-refusal
+    (λ c κs. search needs)  -- refused-requires-2
+    (λ c. search needs)  -- enum-known-end
+    (λ c κs. search needs)  -- stored-requires
     (λ c. search needs)  -- same-length
-    (λ c. c .before .before .finish .ensures ∙ finish-when _ (c .before .before .before .before .before .before .args .self) (c .before .before .before .before .before .before .args .buf .now) (c .before .before .before .end-at .ensures)))  -- returns
+    (λ c. let a = c .before .before .before .before .before .before .before .before .before .before .before .before .args in finish-refused (a .self) (a .buf .now) _ (c .before .before .before .before .before .before .before .before .before .before .end-at .ensures) (not-false _ (c .before .before .before .before .before .before .before .before .before .if1 .left)) _ _ (c .before .before .before .before .before .before .close .ensures) _ (c .before .before .refusal .given .1) _ (c .refused2 .ensures))  -- returns-2
+    (λ c. search needs)  -- same-length-2
+    (λ c. let a = c .before .before .before .before .before .before .before .before .before .before .before .before .args in finish-done (a .self) (a .buf .now) _ (c .before .before .before .before .before .before .before .before .before .before .end-at .ensures) (not-false _ (c .before .before .before .before .before .before .before .before .before .if1 .left)) _ _ (c .before .before .before .before .before .before .close .ensures) _ (c .before .before .end .given .1) _ (c .stored .ensures)))  -- returns-3

@@ -11,7 +11,9 @@ input-spec =
     (λ c κs. search needs)  -- last-of-requires
     (λ c κs. search needs)  -- input-rules-requires
     (λ c κs. search needs)  -- input-head-requires
-    (λ c. search needs)  -- slice-aggregate-put-numbers
-    (λ c κs. search needs)  -- put-numbers-requires
+    (λ c. search needs)  -- slice-aggregate-put-element
+    (λ c. search needs)  -- array-share-prefix-none
+    (λ c. search needs)  -- slice-aggregate-put-element-2
+    (λ c κs. search needs)  -- put-element-requires
     (λ c. search needs)  -- same-length
-    (λ c. input-is (c .before .before .before .before .before .before .before .before .before .before .before .args .self) (c .before .before .before .before .before .before .before .before .before .before .before .args .buf .now) _ (c .before .before .before .before .before .before .before .before .before .before .before .args .index) _ (c .before .before .before .before .before .before .before .before .before .before .before .args .amount) (c .before .before .before .before .before .before .before .before .before .before .before .args .indices .now) _ (c .before .before .before .before .before .before .before .last-of .ensures) _ (c .before .before .before .before .before .before .input-rules .ensures) _ (c .before .before .before .before .before .input-head .ensures) _ _ (c .before .before .put-numbers .ensures)))  -- returns
+    (λ c. let a = c .before .before .before .before .before .before .before .before .before .before .before .before .args in input-is (a .self) (a .buf .now) _ (a .index) _ (a .amount) (a .indices .now) _ (c .before .before .before .before .before .before .before .before .last-of .ensures) _ (c .before .before .before .before .before .before .before .input-rules .ensures) _ (c .before .before .before .before .before .before .input-head .ensures) _ _ (c .before .before .put-element .ensures)))  -- returns

@@ -14,4 +14,4 @@ memo-spec =
     (λ c. search needs)  -- slice-aggregate-put-field
     (λ c κs. search needs)  -- put-field-requires
     (λ c. search needs)  -- same-length
-    (λ c. memo-is (c .before .before .before .before .before .before .before .before .before .before .before .args .self) (c .before .before .before .before .before .before .before .before .before .before .before .args .buf .now) _ _ _ _ (c .before .before .before .before .before .before .before .before .before .before .before .args .bytes .now) (c .before .before .before .before .before .before .before .before .memo-rules .ensures) (c .before .before .before .before .before .before .put-number .ensures) (c .before .before .put-field .ensures)))  -- returns
+    (λ c. let a = c .before .before .before .before .before .before .before .before .before .before .before .args in memo-is (a .self) (a .buf .now) _ _ _ _ (a .bytes .now) (c .before .before .before .before .before .before .before .before .memo-rules .ensures) (c .before .before .before .before .before .before .put-number .ensures) (c .before .before .put-field .ensures)))  -- returns

@@ -1,10 +1,12 @@
 -- `writer::Writer::output` meets its contract. Assumes nothing.
 use borrow.Author.Needs.{needs}
+use Rattle.judge.specs.Elements.{numbersBytes}
 use Rattle.writer.proofs.Methods.{output-is}
 use Rattle.writer.proofs.Writer.output.Statement.{statement}
 use Rattle.writer.proofs.Writer.output.Tie as tie
 
 pub output-spec : {M : Type 1} → statement M
+unfolding numbersBytes
 output-spec =
     tie.close
     (tie.spec
@@ -12,6 +14,8 @@ output-spec =
     (λ c κs. search needs)  -- output-rules-requires
     (λ c κs. search needs)  -- output-head-requires
     (λ c. search needs)  -- slice-aggregate-put-element
+    (λ c. search needs)  -- array-share-prefix-none
+    (λ c. search needs)  -- slice-aggregate-put-element-2
     (λ c κs. search needs)  -- put-element-requires
     (λ c. search needs)  -- same-length
-    (λ c. output-is (c .before .before .before .before .before .before .before .before .before .before .before .args .self) (c .before .before .before .before .before .before .before .before .before .before .before .args .buf .now) _ (c .before .before .before .before .before .before .before .before .before .before .before .args .amount) (c .before .before .before .before .before .before .before .before .before .before .before .args .locktime) (c .before .before .before .before .before .before .before .before .before .before .before .args .threshold) (c .before .before .before .before .before .before .before .before .before .before .before .args .addresses .now) _ (c .before .before .before .before .before .before .before .last-of .ensures) _ (c .before .before .before .before .before .before .output-rules .ensures) _ (c .before .before .before .before .before .output-head .ensures) _ _ (c .before .before .put-element .ensures)))  -- returns
+    (λ c. let a = c .before .before .before .before .before .before .before .before .before .before .before .before .args in output-is (a .self) (a .buf .now) _ (a .amount) (a .locktime) (a .threshold) (a .addresses .now) _ (c .before .before .before .before .before .before .before .before .last-of .ensures) _ (c .before .before .before .before .before .before .before .output-rules .ensures) _ (c .before .before .before .before .before .before .output-head .ensures) _ _ (c .before .before .put-element .ensures)))  -- returns

@@ -1,0 +1,23 @@
+-- `blank::close_layout` meets its contract. Assumes nothing.
+use native.Mathlib.Omega.{arith}
+use lib.ListN.{length-take}
+use borrow.Author.Needs.{needs}
+use Rattle.blank.proofs.Ending.{close-room, close-done, close-full}
+use Rattle.blank.proofs.close_layout.Statement.{statement}
+use Rattle.blank.proofs.close_layout.Tie as tie
+
+pub close-layout-spec : {M : Type 1} → statement M
+close-layout-spec =
+    tie.close
+    (tie.spec
+    (λ c κs. search needs)  -- most-in-requires
+    (λ c. search needs)  -- slice-reshare-prefix-closing-end
+    (λ c. simp length-take (omega arith))  -- slice-aggregate-closing-end
+    (λ c κs. search needs)  -- closing-end-requires
+    (λ c. search needs)  -- enum-known-refusal
+    (λ c. search needs)  -- enum-known-end
+    (λ c κs. let a = c .before .before .before .before .before .before .before .before .args in close-room (a .layout) (a .buf .now) (a .at) _ (c .before .before .before .before .before .before .most-in .ensures) _ (c .before .before .before .before .closing-end .ensures) (c .before .before .before .before .before .before .before .before .pre .1) _ (c .before .before .end .given .1))  -- put-closing-requires
+    (λ c. search needs)  -- same-length
+    (λ c. let a = c .before .before .before .before .before .before .before .args in close-full (a .layout) (a .buf .now) (a .at) _ (c .before .before .before .before .before .most-in .ensures) _ (c .before .before .before .closing-end .ensures) _ (c .before .refusal .given .1))  -- returns
+    (λ c. search needs)  -- same-length-2
+    (λ c. let a = c .before .before .before .before .before .before .before .before .before .before .before .args in close-done (a .layout) (a .buf .now) (a .at) _ (c .before .before .before .before .before .before .before .before .before .most-in .ensures) _ (c .before .before .before .before .before .before .before .closing-end .ensures) _ (c .before .before .before .before .before .end .given .1) _ (c .before .before .put-closing .ensures)))  -- returns-2

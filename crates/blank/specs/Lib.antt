@@ -1,0 +1,2 @@
+-- The blank credentials that end a transaction
+pub mod Closing

@@ -1,0 +1,3 @@
+-- What is proved of the buffer
+pub mod Stores
+pub mod Numbering

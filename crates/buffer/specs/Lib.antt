@@ -1,0 +1,2 @@
+-- The buffer that the writer is lent
+pub mod Stores

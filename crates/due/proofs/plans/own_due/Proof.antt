@@ -1,0 +1,20 @@
+-- `due::plans::own_due` meets its contract. Assumes nothing.
+use borrow.Author.Needs.{needs}
+use Rattle.due.proofs.Rows.{of-kind, of-export}
+use Rattle.due.proofs.plans.own_due.Statement.{statement}
+use Rattle.due.proofs.plans.own_due.Tie as tie
+
+pub own-due-spec : {M : Type 1} → statement M
+own-due-spec =
+    tie.close
+    (tie.spec
+    (λ c κs. search needs)  -- base-due-requires
+    (λ c. let a = c .before .before .args in of-kind _ (a .part) (a .kind) 0 (c .before .if1 .taken) (c .base-due .ensures))  -- returns
+    (λ c κs. search needs)  -- asset-due-requires
+    (λ c. let a = c .before .before .before .args in of-kind _ (a .part) (a .kind) 1 (c .before .if2 .taken) (c .asset-due .ensures))  -- returns-2
+    (λ c κs. search needs)  -- operation-due-requires
+    (λ c. let a = c .before .before .before .before .args in of-kind _ (a .part) (a .kind) 2 (c .before .if3 .taken) (c .operation-due .ensures))  -- returns-3
+    (λ c κs. search needs)  -- import-due-requires
+    (λ c. let a = c .before .before .before .before .before .args in of-kind _ (a .part) (a .kind) 3 (c .before .if4 .taken) (c .import-due .ensures))  -- returns-4
+    (λ c κs. search needs)  -- export-due-requires
+    (λ c. let a = c .before .before .before .before .before .args in of-export _ (a .part) (a .kind) (c .before .before .before .before .if1 .left) (c .before .before .before .if2 .left) (c .before .before .if3 .left) (c .before .if4 .left) (c .export-due .ensures)))  -- returns-5

@@ -1,0 +1,18 @@
+-- `judge::rules::output_rules` meets its contract. Assumes nothing.
+use borrow.Author.Needs.{needs}
+use Rattle.judge.proofs.Outputs.{of-output}
+use Rattle.judge.proofs.rules.output_rules.Statement.{statement}
+use Rattle.judge.proofs.rules.output_rules.Tie as tie
+
+pub output-rules-spec : {M : Type 1} → statement M
+output-rules-spec =
+    tie.close
+    (tie.spec
+    (λ c. search of-output depth 12)  -- returns
+    (λ c. search of-output depth 12)  -- returns-2
+    (λ c. search of-output depth 12)  -- returns-3
+    (λ c κs. search needs)  -- addresses-rise-requires
+    (λ c. search of-output depth 12)  -- returns-4
+    (λ c κs. search needs)  -- output-below-requires
+    (λ c. search of-output depth 12)  -- returns-5
+    (λ c. search of-output depth 12))  -- returns-6

@@ -1,0 +1,21 @@
+-- What bars a step, by the bytes that it would add. No rule is written here: they are read by the format that is due. Assumes nothing.
+use lib.ListN.{length}
+use lib.Dec.{eqb}
+use Rattle.wire.specs.Bytes.{pick}
+use Rattle.wire.specs.Numbers.{ruleNumber, cutShort, bytesAfterEnd}
+use Rattle.wire.specs.Format.{Format}
+use Rattle.judge.specs.declared.Verdict.{Verdict}
+use Rattle.judge.specs.declared.Verdict.the-variants as J
+use Rattle.judge.specs.Given.{Given}
+
+-- the rules are those of the format; and no byte may be left over
+unfoldable pub judged : {A : Type 0} → Format A → Given → Verdict → Verdict
+judged F g v =
+    pick (g .whole)
+    (F .run (g .bytes) 0 (λ e. J.Refuse (e .number)) λ a m. pick (eqb m (length (g .bytes))) v (J.Refuse bytesAfterEnd))
+    (J.Refuse (ruleNumber cutShort))
+
+-- v, and then u
+abbrev pub onFine : Verdict → Verdict → Verdict
+onFine J.Fine u = u
+onFine (J.Refuse n) u = J.Refuse n

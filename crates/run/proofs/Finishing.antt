@@ -1,0 +1,311 @@
+-- Every run of steps keeps what stands in the buffer, and what a run finishes is accepted. Assumes nothing.
+use Prim.Native.Nat.{ℕ, suc, _+_, _≤_, _<_, _^_}
+use mathlib.Core.Path.{_≡_, refl, sym, ap, _∙_, subst}
+use mathlib.Core.Logic.{_⊎_, inl, inr}
+use mathlib.Core.Bool.{true, _&&_}
+use mathlib.Core.List.{List, [], _∷_, _++_, append-nil}
+use native.Mathlib.Omega.{arith}
+use native.Mathlib.Nat.{zero-add, add-zero}
+use lib.ListN.{length, take, drop, length-append}
+use lib.Seq.{length-take-le, take-at, drop-at}
+use lib.Dec.{eqb, leb}
+use borrow.Author.Tests.{leb-true}
+use Rattle.wire.specs.Bytes.{Bytes, digits, length-digits, bytes-digits, bytes-append, value-digits, value}
+use Rattle.wire.specs.Numbers.{ruleNumber, emptyList, refusal, noRoom, stepNotDue}
+use Rattle.wire.specs.declared.Refusal.{Refusal}
+use Rattle.wire.specs.Format.{took, read, read-complete}
+use Rattle.wire.specs.Fields.{number, blob, constant}
+use Rattle.wire.specs.Sequence.{andThen, guard, named, tag, only}
+use Rattle.transaction.specs.Credentials.{layout, blanks}
+use Rattle.transaction.specs.Signed as Any
+use Rattle.transaction.specs.Signed.{mostBytes}
+use Rattle.transaction.specs.Plan.{Plan, shut, end, field, many, listOf, form}
+use Rattle.transaction.specs.Family.{Family, Head, head, Unsigned, unsigned, wants, accepted}
+use Rattle.transaction.specs.declared.Segment.{Segment}
+use Rattle.transaction.proofs.CredentialLaws.{blank-good}
+use Rattle.transaction.proofs.Signed.{accepted-of}
+use Rattle.judge.specs.Given.{Given, headBytes, given}
+use Rattle.judge.specs.Judged.{judged}
+use Rattle.judge.specs.declared.Verdict.{Verdict}
+use Rattle.judge.specs.declared.Verdict.the-variants as J
+use Rattle.judge.proofs.Verdicts.{pick-fine, judged-whole, judged-then, judged-inv, judged-own}
+use Rattle.due.specs.Plans.{isSegment, due, planOf}
+use Rattle.due.proofs.Rows.{due-next}
+use Rattle.buffer.specs.Stores.{roomFor, overwrite}
+use Rattle.buffer.proofs.Stores.{room-inv, by-room, take-overwrite, length-overwrite}
+use Rattle.blank.specs.Closing.{blankOf, blankBehind, closing, closable}
+use Rattle.writer.specs.declared.Writer.{Writer}
+use Rattle.writer.specs.declared.Written.the-variants as W
+use Rattle.writer.specs.Steps.{fresh, Turn, answered, guarded, sane, grown, opening, opened, putAt, closeAt, finishAt, start, put, close, finish}
+use Rattle.writer.proofs.Laws.{guarded-inv, guarded-fine, answered-keeps}
+use Rattle.run.specs.Runs.{Act, starts, puts, closes, finishes, Fair, AllFair, act, run}
+use Rattle.run.specs.Claims.{finishBehind, FinishedIsAccepted}
+use Rattle.run.proofs.Keeping.{leaves, Here, Stays, Begun, begun-stays, open-more, closed, begin, Reach, reach-field, reach-list, reach-shut}
+
+module _ (F : Family) where
+  -- the head and the first parts of the plan stand written, and behind them what is due
+  pub record Running (w : Writer) (s : List ℕ) : Type 1 where
+    pub first : Head (F .Kind)
+    pub good : head F .Good first
+    pub kind : F .kind (w .kind) ≡ first .kind
+    pub parts : Plan
+    pub isDue : due (w .phase) (planOf F (w .kind)) ≡ parts
+    pub done : List ℕ
+    pub reach : Reach (F .plan (first .kind)) (head F .write first) parts done
+    pub stays : Stays parts w s done
+
+  pub data Kept (w : Writer) (s : List ℕ) : Type 1 where
+    waiting : w .phase ≡ 0 → Kept w s
+    running : Running w s → Kept w s
+
+  -- ---- a step given what is due
+
+  -- what a step by the plan keeps
+  abbrev Keeps : (Plan → Writer → List ℕ → Turn) → Type 1
+  Keeps T =
+      (first : Head (F .Kind)) → head F .Good first → (q : Plan) (w : Writer) (s b : List ℕ) → F .kind (w .kind) ≡ first .kind → due (w .phase) (planOf F (w .kind)) ≡ q
+      → Reach (F .plan (first .kind)) (head F .write first) q b → Stays q w s b → Kept (T q w s .step .next) (T q w s .buffer)
+
+  put-keeps : (l : Segment) (g : Given) → (g .whole ≡ true → length (g .bytes) ≤ mostBytes → Bytes (g .bytes)) → Keeps (λ q w s. putAt q w s l g)
+  unfolding putAt answered grown
+  put-keeps l g fair first good shut w s b kind isDue reach stays = running record { first = first; good = good; kind = kind; parts = shut; isDue = isDue; done = b; reach = reach; stays = stays }
+  put-keeps l g fair first good end w s b kind isDue reach stays = running record { first = first; good = good; kind = kind; parts = end; isDue = isDue; done = b; reach = reach; stays = stays }
+  put-keeps l g fair first good (field m C q) w s b kind isDue reach stays =
+      answered-keeps Kept _ w s _ _ (running record { first = first; good = good; kind = kind; parts = field m C q; isDue = isDue; done = b; reach = reach; stays = stays }) λ e.
+      let p = F .plan (first .kind) in
+      let H = head F .write first in
+      let (_, _, e₁) = guarded-inv (isSegment l m) w s _ e in
+      let (f, k) = room-inv (w .at + length (g .bytes ++ opening q)) s (judged-then (C .content) g _ e₁) in
+      let (x, gx, ex) = judged-inv (C .content) g _ e₁ (fair (judged-whole (C .content) g _ e₁) (omega (arith, length-append (g .bytes) (opening q)))) in
+      running
+      record {
+        first = first;
+        good = good;
+        kind = kind;
+        parts = q;
+        isDue = due-next (w .phase) (planOf F (w .kind)) (field m C q) tt isDue;
+        done = b ++ g .bytes;
+        reach = subst (λ (z : List ℕ). Reach p H q (b ++ z)) ex (reach-field p H b m C q reach x gx);
+        stays = begun-stays q _ _ _ (begin (w .kind) (suc (w .phase)) w s b stays (g .bytes) q f k);
+      }
+  put-keeps l g fair first good (many m E q) w s b kind isDue reach (es, o) =
+      answered-keeps Kept _ w s _ _ (running record { first = first; good = good; kind = kind; parts = many m E q; isDue = isDue; done = b; reach = reach; stays = (es, o) }) λ e.
+      let (_, _, e₁) = guarded-inv (isSegment l m && sane w) w s _ e in
+      let e₂ = subst (λ (z : List ℕ). judged (E .element z) g (roomFor (w .at + length (g .bytes)) s) ≡ J.Fine) (o .before) e₁ in
+      let (f, k) = room-inv (w .at + length (g .bytes)) s (judged-then (E .element (leaves (E .element) [] es)) g _ e₂) in
+      let (x, gx, ex) = judged-inv (E .element (leaves (E .element) [] es)) g _ e₂ (fair (judged-whole (E .element (leaves (E .element) [] es)) g _ e₂) (omega arith)) in
+      running
+      record {
+        first = first;
+        good = good;
+        kind = kind;
+        parts = many m E q;
+        isDue = isDue;
+        done = b;
+        reach = reach;
+        stays = (es ++ (x ∷ []), open-more E w s b es o x gx (g .bytes) ex f k);
+      }
+
+  close-keeps : Keeps closeAt
+  unfolding closeAt answered
+  close-keeps first good shut w s b kind isDue reach stays = running record { first = first; good = good; kind = kind; parts = shut; isDue = isDue; done = b; reach = reach; stays = stays }
+  close-keeps first good end w s b kind isDue reach stays = running record { first = first; good = good; kind = kind; parts = end; isDue = isDue; done = b; reach = reach; stays = stays }
+  close-keeps first good (field m C q) w s b kind isDue reach stays = running record { first = first; good = good; kind = kind; parts = field m C q; isDue = isDue; done = b; reach = reach; stays = stays }
+  close-keeps first good (many m E q) w s b kind isDue reach (es, o) =
+      answered-keeps Kept _ w s _ _ (running record { first = first; good = good; kind = kind; parts = many m E q; isDue = isDue; done = b; reach = reach; stays = (es, o) }) λ e.
+      let p = F .plan (first .kind) in
+      let H = head F .write first in
+      let (_, _, e₁) = guarded-inv true w s _ e in
+      let (t, e₂) = pick-fine (leb (E .least) (w .count)) _ (ruleNumber emptyList) e₁ in
+      let (f, k) = room-inv (w .at + length (opening q)) s e₂ in
+      let (gx, here) = closed E w s b es o (leb-true (E .least) (w .count) t) in
+      let next : Begun q (opened (w .kind) (suc (w .phase)) (w .at) q) (overwrite s (w .at) (opening q)) (b ++ listOf E .write es) =
+      rw (add-zero, append-nil) at (begin (w .kind) (suc (w .phase)) w s (b ++ listOf E .write es) here [] q f k) in
+      running
+      record {
+        first = first;
+        good = good;
+        kind = kind;
+        parts = q;
+        isDue = due-next (w .phase) (planOf F (w .kind)) (many m E q) tt isDue;
+        done = b ++ listOf E .write es;
+        reach = reach-list p H b m E q reach es gx;
+        stays = begun-stays q _ _ _ next;
+      }
+
+  finish-keeps : Keeps (finishAt F)
+  unfolding finishAt closable answered
+  finish-keeps first good shut w s b kind isDue reach stays = running record { first = first; good = good; kind = kind; parts = shut; isDue = isDue; done = b; reach = reach; stays = stays }
+  finish-keeps first good end w s b kind isDue reach stays =
+      answered-keeps Kept (guarded true w s (judged (unsigned F) (given (take (w .at) s)) (roomFor (w .at + length (closing F (w .at) s)) s)))
+      w s (opened (w .kind) (suc (w .phase)) (w .at + length (closing F (w .at) s)) shut) (overwrite s (w .at) (closing F (w .at) s))
+      (running record { first = first; good = good; kind = kind; parts = end; isDue = isDue; done = b; reach = reach; stays = stays }) λ e.
+      running
+      record {
+        first = first;
+        good = good;
+        kind = kind;
+        parts = shut;
+        isDue = due-next (w .phase) (planOf F (w .kind)) end tt isDue;
+        done = b;
+        reach = reach-shut (F .plan (first .kind)) (head F .write first) b reach;
+        stays = tt;
+      }
+  finish-keeps first good (field m C q) w s b kind isDue reach stays = running record { first = first; good = good; kind = kind; parts = field m C q; isDue = isDue; done = b; reach = reach; stays = stays }
+  finish-keeps first good (many m E q) w s b kind isDue reach stays = running record { first = first; good = good; kind = kind; parts = many m E q; isDue = isDue; done = b; reach = reach; stays = stays }
+
+  -- before the start nothing is due
+  by-due : (T : Plan → Writer → List ℕ → Turn) → Keeps T → ((w : Writer) (s : List ℕ) → T shut w s ≡ answered (J.Refuse stepNotDue) w s w s) → (w : Writer) (s : List ℕ) → Kept w s
+      → Kept (T (due (w .phase) (planOf F (w .kind))) w s .step .next) (T (due (w .phase) (planOf F (w .kind))) w s .buffer)
+  unfolding answered
+  by-due T keep none w s (waiting e) =
+      subst (λ (k : ℕ). Kept (T (due k (planOf F (w .kind))) w s .step .next) (T (due k (planOf F (w .kind))) w s .buffer)) (sym e)
+      (subst (λ (t : Turn). Kept (t .step .next) (t .buffer)) (sym (none w s)) (waiting e))
+  by-due T keep none w s (running r) =
+      subst (λ (q : Plan). Kept (T q w s .step .next) (T q w s .buffer)) (sym (r .isDue)) (keep (r .first) (r .good) (r .parts) w s (r .done) (r .kind) (r .isDue) (r .reach) (r .stays))
+
+  -- ---- the start
+
+  -- the type that a head was written with
+  code-of : (h : Head (F .Kind)) (kind network : ℕ) (chain : List ℕ) → head F .Good h → kind < 256 ^ 4 → head F .write h ≡ headBytes kind network chain → F .code (h .kind) ≡ kind
+  unfolding head named andThen constant guard tag number
+  code-of h kind network chain g fits e =
+      let four : (k : ℕ) (r : List ℕ) → take 4 (drop 2 (digits 2 0 ++ (digits 4 k ++ r))) ≡ digits 4 k =
+      λ k r. ap (take 4) (drop-at (digits 2 0) (digits 4 k ++ r) 2 (length-digits 2 0)) ∙ take-at (digits 4 k) r 4 (length-digits 4 k) in
+      let same : digits 4 (F .code (h .kind)) ≡ digits 4 kind = sym (four (F .code (h .kind)) (digits 4 (h .network) ++ blob 32 .write (h .chain))) ∙ ap (λ (z : List ℕ). take 4 (drop 2 z)) e ∙ four kind (digits 4 network ++ chain) in
+      sym (value-digits 4 (F .code (h .kind)) (g .1 .0 .0)) ∙ ap value same ∙ value-digits 4 kind fits
+
+  start-keeps : (kind network : ℕ) (chain : List ℕ) → Fair (starts kind network chain) → (w : Writer) (s : List ℕ) → Kept w s
+      → Kept (start F w s kind network chain .step .next) (start F w s kind network chain .buffer)
+  unfolding start
+  start-keeps kind network chain (fk, fn, long, bs) w s i =
+      answered-keeps Kept _ w s _ _ i λ e.
+      let ys : List ℕ = headBytes kind network chain in
+      let q : Plan = planOf F kind in
+      let (_, _, e₁) = guarded-inv (eqb (w .phase) 0) w s _ e in
+      let (f, k) = room-inv (length (ys ++ opening q)) s (judged-then (head F) (given ys) _ e₁) in
+      let by : Bytes ys =
+      bytes-append (digits 2 0) (digits 4 kind ++ (digits 4 network ++ chain)) (bytes-digits 2 0 (omega arith))
+      (bytes-append (digits 4 kind) (digits 4 network ++ chain) (bytes-digits 4 kind fk) (bytes-append (digits 4 network) chain (bytes-digits 4 network fn) bs)) in
+      let (h, gh, eh) = judged-inv (head F) (given ys) _ e₁ by in
+      let isKind : F .kind kind ≡ h .kind = ap (F .kind) (sym (code-of h kind network chain gh fk eh)) ∙ F .kind-code (h .kind) in
+      let here : Here fresh s [] = record { fits = omega arith; small = omega arith; stands = refl } in
+      let next : Begun q (opened kind 1 (length ys) q) (overwrite s 0 (ys ++ opening q)) ys =
+      rw zero-add at (begin kind 1 fresh s [] here ys q (omega arith) (omega arith)) in
+      running
+      record {
+        first = h;
+        good = gh;
+        kind = isKind;
+        parts = F .plan (h .kind);
+        isDue = ap (F .plan) isKind;
+        done = ys;
+        reach = λ v g. (v, g, ap (λ (z : List ℕ). z ++ form (F .plan (h .kind)) .write v) eh);
+        stays = subst (λ (p : Plan). Stays p (opened kind 1 (length ys) q) (overwrite s 0 (ys ++ opening q)) ys) (ap (F .plan) isKind) (begun-stays q _ _ _ next);
+      }
+
+  -- ---- every run
+
+  act-keeps : (a : Act) → Fair a → (w : Writer) (s : List ℕ) → Kept w s → Kept (act F a w s .step .next) (act F a w s .buffer)
+  unfolding put close finish putAt closeAt finishAt
+  act-keeps (starts kind network chain) f w s i = start-keeps kind network chain f w s i
+  act-keeps (puts l g) f w s i = by-due (λ q w s. putAt q w s l g) (put-keeps l g f) (λ w s. refl) w s i
+  act-keeps closes f w s i = by-due closeAt close-keeps (λ w s. refl) w s i
+  act-keeps finishes f w s i = by-due (finishAt F) finish-keeps (λ w s. refl) w s i
+
+  pub run-keeps : (l : List Act) → AllFair l → (w : Writer) (s : List ℕ) → Kept w s → Kept (run F l w s .0) (run F l w s .1)
+  unfolding run
+  run-keeps [] f w s i = i
+  run-keeps (a ∷ l) (f, fs) w s i = run-keeps l fs (act F a w s .step .next) (act F a w s .buffer) (act-keeps a f w s i)
+
+  -- ---- finishing
+
+  abbrev pub blankSigned : Unsigned F → List (List ℕ)
+  blankSigned u = blanks (layout (wants F u))
+
+  -- where the unsigned part stands whole
+  module _ (w : Writer) (s b : List ℕ) (h : Here w s b) (u : Unsigned F) (g : unsigned F .Good u) (e : unsigned F .write u ≡ b) where
+    stands-own : unsigned F .write u ≡ take (w .at) s
+    stands-own = e ∙ sym (h .stands)
+
+    closing-is : closing F (w .at) s ≡ blankOf F u
+    unfolding closing
+    closing-is =
+        ap (blankBehind F)
+        (subst (λ (z : List ℕ). read (unsigned F) z 0 ≡ took u (0 + length (unsigned F .write u))) stands-own
+        (read-complete (unsigned F) (unsigned F .write u) 0 u [] g (sym (append-nil (unsigned F .write u)))))
+
+    pub finish-is : finishAt F end w s
+        ≡ answered (roomFor (w .at + length (blankOf F u)) s) w s (opened (w .kind) (suc (w .phase)) (w .at + length (blankOf F u)) shut) (overwrite s (w .at) (blankOf F u))
+    unfolding finishAt closable
+    finish-is =
+        let v : Verdict = roomFor (w .at + length (closing F (w .at) s)) s in
+        let rules : judged (unsigned F) (given (take (w .at) s)) v ≡ v = subst (λ (z : List ℕ). judged (unsigned F) (given z) v ≡ v) stands-own (judged-own (unsigned F) u v g) in
+        ap (λ (x : Verdict). answered x w s (opened (w .kind) (suc (w .phase)) (w .at + length (closing F (w .at) s)) shut) (overwrite s (w .at) (closing F (w .at) s)))
+        (guarded-fine true w s (judged (unsigned F) (given (take (w .at) s)) v) refl (h .fits) ∙ rules)
+        ∙ ap (λ (z : List ℕ). answered (roomFor (w .at + length z) s) w s (opened (w .kind) (suc (w .phase)) (w .at + length z) shut) (overwrite s (w .at) z)) closing-is
+
+    pub finished-parts : w .at + length (blankOf F u) ≤ length s → w .at + length (blankOf F u) ≤ mostBytes
+        → Any.Parts (unsigned F) (wants F) (take (w .at + length (blankOf F u)) (overwrite s (w .at) (blankOf F u))) u (blankSigned u)
+    unfolding Any.assemble
+    finished-parts f k =
+        record {
+          unsigned-good = g;
+          signatures-good = blank-good (wants F u) (omega arith);
+          same = take-overwrite s (blankOf F u) (w .at) (h .fits) ∙ ap (λ (z : List ℕ). z ++ blankOf F u) (sym stands-own);
+          short = omega (arith, length-take-le (w .at + length (blankOf F u)) (overwrite s (w .at) (blankOf F u)) (omega (arith, length-overwrite s (blankOf F u) (w .at) f)));
+        }
+
+  -- how finish ends
+  pub data Outcome (t : Turn) : Type 0 where
+    not-due : t .step .answer ≡ W.Refused (refusal stepNotDue 0) → Outcome t
+    no-room : t .step .answer ≡ W.Refused (refusal noRoom 0) → Outcome t
+    finished : (n : ℕ) → t .step .answer ≡ W.Done n → (u : Unsigned F) → Any.Parts (unsigned F) (wants F) (take n (t .buffer)) u (blankSigned u) → Outcome t
+
+  whole-outcome : (w : Writer) (s b : List ℕ) → Here w s b → (u : Unsigned F) → unsigned F .Good u → unsigned F .write u ≡ b → Outcome (finishAt F end w s)
+  unfolding answered
+  whole-outcome w s b h u g e =
+      let n : ℕ = w .at + length (blankOf F u) in
+      let w′ : Writer = opened (w .kind) (suc (w .phase)) n shut in
+      let s′ : List ℕ = overwrite s (w .at) (blankOf F u) in
+      subst Outcome (sym (finish-is w s b h u g e))
+      (by-room n s (λ (v : Verdict). Outcome (answered v w s w′ s′))
+      (λ r.
+      let (f, k) = room-inv n s r in
+      finished (n + 0) refl u (subst (λ (i : ℕ). Any.Parts (unsigned F) (wants F) (take i s′) u (blankSigned u)) (sym (add-zero n)) (finished-parts w s b h u g e f k)))
+      (no-room refl))
+
+  due-outcome : (first : Head (F .Kind)) → head F .Good first → (q : Plan) (w : Writer) (s b : List ℕ) → Reach (F .plan (first .kind)) (head F .write first) q b → Stays q w s b
+      → Outcome (finishAt F q w s)
+  unfolding finishAt answered unsigned andThen form only
+  due-outcome first good shut w s b reach stays = not-due refl
+  due-outcome first good end w s b reach stays =
+      let (v, gv, e) = reach tt refl in
+      whole-outcome w s b stays (first, v) (good, gv) (e ∙ append-nil b)
+  due-outcome first good (field m C q) w s b reach stays = not-due refl
+  due-outcome first good (many m E q) w s b reach stays = not-due refl
+
+  pub finish-outcome : (w : Writer) (s : List ℕ) → Kept w s → Outcome (finish F w s)
+  unfolding finish finishAt answered
+  finish-outcome w s (waiting e) = subst (λ (k : ℕ). Outcome (finishAt F (due k (planOf F (w .kind))) w s)) (sym e) (not-due refl)
+  finish-outcome w s (running r) = subst (λ (q : Plan). Outcome (finishAt F q w s)) (sym (r .isDue)) (due-outcome (r .first) (r .good) (r .parts) w s (r .done) (r .reach) (r .stays))
+
+  done-accepted : (t : Turn) (n : ℕ) → Outcome t → t .step .answer ≡ W.Done n → accepted F (take n (t .buffer)) ≡ true
+  done-accepted t n (not-due e) h = let c = sym e ∙ h in let z : _≡_ {A = ℕ} 0 1 = cc in absurd (omega arith)
+  done-accepted t n (no-room e) h = let c = sym e ∙ h in let z : _≡_ {A = ℕ} 0 1 = cc in absurd (omega arith)
+  done-accepted t n (finished m e u p) h =
+      let c = sym e ∙ h in
+      let i : m ≡ n = cc in
+      subst (λ (k : ℕ). accepted F (take k (t .buffer)) ≡ true) i (accepted-of (unsigned F) (wants F) (take m (t .buffer)) u (blankSigned u) p)
+
+  refused-only : (t : Turn) (e : Refusal) → Outcome t → t .step .answer ≡ W.Refused e → (e .number ≡ noRoom) ⊎ (e .number ≡ stepNotDue)
+  refused-only t e (not-due d) h = let c = sym d ∙ h in let i : refusal stepNotDue 0 ≡ e = cc in inr (ap (λ (r : Refusal). r .number) (sym i))
+  refused-only t e (no-room d) h = let c = sym d ∙ h in let i : refusal noRoom 0 ≡ e = cc in inl (ap (λ (r : Refusal). r .number) (sym i))
+  refused-only t e (finished m d u p) h = let c = sym d ∙ h in let z : _≡_ {A = ℕ} 0 1 = cc in absurd (omega arith)
+
+  pub finished-is-accepted : FinishedIsAccepted F
+  finished-is-accepted =
+      record {
+        is-accepted = λ l f s n h. done-accepted (finishBehind F l s) n (finish-outcome (run F l fresh s .0) (run F l fresh s .1) (run-keeps l f fresh s (waiting refl))) h;
+        refused-by = λ l f s e h. refused-only (finishBehind F l s) e (finish-outcome (run F l fresh s .0) (run F l fresh s .1) (run-keeps l f fresh s (waiting refl))) h;
+      }

@@ -1,0 +1,148 @@
+-- Calls of the writer's methods, runs of them, and the calls that the reading of a transaction spells. Assumes nothing.
+use Prim.Native.Nat.{ℕ, _≤_, _<_, _^_}
+use mathlib.Core.Path.{_≡_}
+use mathlib.Core.Logic.{_⊎_}
+use mathlib.Core.Bool.{true}
+use mathlib.Core.List.{List, [], _∷_, _++_, map}
+use lib.ListN.{length, take}
+use Rattle.wire.specs.Bytes.{Bytes}
+use Rattle.wire.specs.Numbers.{noRoom, stepNotDue}
+use Rattle.wire.specs.Format.{took}
+use Rattle.wire.specs.declared.Refusal.{Refusal}
+use Rattle.element.specs.Outputs.{Output, secpMint, secpTransfer, nftMint, nftTransfer, TransferableOutput}
+use Rattle.element.specs.Inputs.{Input}
+use Rattle.element.specs.Operations as Operations
+use Rattle.element.specs.Operations.{Operation, InitialState}
+use Rattle.transaction.specs.Slots.{slotAt, putAll}
+use Rattle.transaction.specs.Plan.{Value}
+use Rattle.transaction.specs.Signed as Any
+use Rattle.transaction.specs.Family.{Signed, Unsigned, unsigned, wants, check, accepted}
+use Rattle.transaction.specs.Avm.{kindCode, ownPlan, avm}
+use Rattle.transaction.specs.Answer.{memoMost}
+use Rattle.transaction.specs.declared.Kind.{Kind}
+use Rattle.transaction.specs.declared.Kind.the-variants as K
+use Rattle.writer.specs.declared.Writer.{Writer}
+use Rattle.writer.specs.declared.Written.the-variants as W
+use Rattle.writer.specs.Steps as Steps
+use Rattle.writer.specs.Steps.{Turn}
+use Rattle.writer.specs.Fields.{addOutput, addInput, addOperation, addState, putMemo, putName, putSymbol, putDenomination, putChain}
+
+pub data Call : Type 0 where
+  start : ℕ → ℕ → List ℕ → Call
+  output : List ℕ → ℕ → ℕ → ℕ → List ℕ → Call
+  input : List ℕ → ℕ → List ℕ → ℕ → List ℕ → Call
+  operation state memo name symbol chain : List ℕ → Call
+  denomination : ℕ → Call
+  close finish : Call
+
+-- each number of four bytes
+abbrev pub Words : List ℕ → Type 0
+Words [] = Unit {0}
+Words (n ∷ l) = (n < 256 ^ 4) × Words l
+
+abbrev pub Id : List ℕ → Type 0
+Id c = (length c ≡ 32) × Bytes c
+
+-- what the types of a method's arguments say
+abbrev pub Typed : Call → Type 0
+Typed (start kind network id) = (kind < 256 ^ 4) × (network < 256 ^ 4) × Id id
+Typed (output asset amount locktime threshold addresses) = Id asset × (amount < 256 ^ 8) × (locktime < 256 ^ 8) × (threshold < 256 ^ 4) × Bytes addresses
+Typed (input txid index asset amount indices) = Id txid × (index < 256 ^ 4) × Id asset × (amount < 256 ^ 8) × Words indices
+Typed (operation b) = Bytes b
+Typed (state b) = Bytes b
+Typed (memo b) = Bytes b
+Typed (name b) = Bytes b
+Typed (symbol b) = Bytes b
+Typed (chain c) = Id c
+Typed (denomination n) = n < 256
+Typed close = Unit {0}
+Typed finish = Unit {0}
+
+abbrev pub AllTyped : List Call → Type 0
+AllTyped [] = Unit {0}
+AllTyped (c ∷ l) = Typed c × AllTyped l
+
+-- what its method answers and leaves in the buffer
+abbrev pub call : Call → Writer → List ℕ → Turn
+call (start kind network id) w s = Steps.start (avm memoMost) w s kind network id
+call (output asset amount locktime threshold addresses) w s = addOutput w s asset amount locktime threshold addresses
+call (input txid index asset amount indices) w s = addInput w s txid index asset amount indices
+call (operation b) w s = addOperation w s b
+call (state b) w s = addState w s b
+call (memo b) w s = putMemo w s b
+call (name b) w s = putName w s b
+call (symbol b) w s = putSymbol w s b
+call (chain c) w s = putChain w s c
+call (denomination n) w s = putDenomination w s n
+call close w s = Steps.close (avm memoMost) w s
+call finish w s = Steps.finish (avm memoMost) w s
+
+unfoldable pub calls : List Call → Writer → List ℕ → Writer × List ℕ
+calls [] w s = (w, s)
+calls (c ∷ l) w s = calls l (call c w s .step .next) (call c w s .buffer)
+
+-- every call of the run is done
+unfoldable pub AllCallsDone : List Call → Writer → List ℕ → Type 0
+AllCallsDone [] w s = Unit {0}
+AllCallsDone (c ∷ l) w s = (call c w s .step .answer ≡ W.Done (call c w s .step .next .at)) × AllCallsDone l (call c w s .step .next) (call c w s .buffer)
+
+-- ---- the calls that a reading spells
+
+-- addresses, one behind the other
+unfoldable pub joined : List (List ℕ) → List ℕ
+joined [] = []
+joined (a ∷ l) = a ++ joined l
+
+-- a transferable output is of type 7
+abbrev pub ofOutput : List ℕ → Output → Call
+ofOutput asset (secpMint, o) = close
+ofOutput asset (secpTransfer, (amount, o)) = output asset amount (o .locktime) (o .threshold) (joined (o .addresses))
+ofOutput asset (nftMint, o) = close
+ofOutput asset (nftTransfer, o) = close
+
+abbrev pub outputCall : TransferableOutput → Call
+outputCall o = ofOutput (o .asset) (o .output)
+
+abbrev pub inputCall : Input → Call
+inputCall i = input (i .txid) (i .index) (i .asset) (i .amount) (i .indices)
+
+abbrev pub operationCall : Operation → Call
+operationCall o = operation (Operations.operation .write o)
+
+abbrev pub stateCall : InitialState → Call
+stateCall v = state (Operations.initialState [] .write v)
+
+-- a list's elements, and then its close
+abbrev pub listCalls : {A : Type 0} → (A → Call) → List A → List Call → List Call
+listCalls f l more = map f l ++ (close ∷ more)
+
+abbrev pub ownCalls : (k : Kind) → Value (ownPlan k) → List Call
+ownCalls K.Base v = []
+ownCalls K.CreateAsset (a, (b, (d, (l, e)))) = name a ∷ symbol b ∷ denomination d ∷ listCalls stateCall l []
+ownCalls K.Operation (l, e) = listCalls operationCall l []
+ownCalls K.Import (c, (l, e)) = chain c ∷ listCalls inputCall l []
+ownCalls K.Export (c, (l, e)) = chain c ∷ listCalls outputCall l []
+
+abbrev pub readingCalls : Unsigned (avm memoMost) → List Call
+readingCalls (h, (outs, (ins, (note, own)))) =
+    start (kindCode (h .kind)) (h .network) (h .chain) ∷ listCalls outputCall outs (listCalls inputCall ins (memo note ∷ ownCalls (h .kind) own))
+
+-- ---- what is claimed of the methods
+
+-- finish behind a run of calls from a fresh writer over the buffer s
+abbrev pub finishBehind : List Call → List ℕ → Turn
+finishBehind l s = Steps.finish (avm memoMost) (calls l Steps.fresh s .0) (calls l Steps.fresh s .1)
+
+-- for every run of calls, refused ones anywhere among them
+pub record MethodsFinish : Type 0 where
+  pub is-accepted : (l : List Call) → AllTyped l → (s : List ℕ) (n : ℕ) → finishBehind l s .step .answer ≡ W.Done n → accepted (avm memoMost) (take n (finishBehind l s .buffer)) ≡ true
+  pub refused-by : (l : List Call) → AllTyped l → (s : List ℕ) (e : Refusal) → finishBehind l s .step .answer ≡ W.Refused e → (e .number ≡ noRoom) ⊎ (e .number ≡ stepNotDue)
+
+-- d is accepted, v is its reading, and the buffer s has room for it, whatever it holds
+pub record MethodsRoundTrip : Type 0 where
+  pub calls-typed : (d : List ℕ) (v : Signed (avm memoMost)) (n : ℕ) → Bytes d → check (avm memoMost) d ≡ took v n → AllTyped (readingCalls (v .0))
+  pub calls-done : (d : List ℕ) (v : Signed (avm memoMost)) (n : ℕ) → Bytes d → check (avm memoMost) d ≡ took v n → (s : List ℕ) → length d ≤ length s → AllCallsDone (readingCalls (v .0)) Steps.fresh s
+  pub finish-done : (d : List ℕ) (v : Signed (avm memoMost)) (n : ℕ) → Bytes d → check (avm memoMost) d ≡ took v n → (s : List ℕ) → length d ≤ length s
+      → finishBehind (readingCalls (v .0)) s .step .answer ≡ W.Done (length d)
+  pub filled : (d : List ℕ) (v : Signed (avm memoMost)) (n : ℕ) → Bytes d → check (avm memoMost) d ≡ took v n → (s : List ℕ) → length d ≤ length s
+      → putAll (Any.slotsAt (unsigned (avm memoMost)) (wants (avm memoMost)) d) (slotAt d) (take (length d) (finishBehind (readingCalls (v .0)) s .buffer)) ≡ d

@@ -1,0 +1,4 @@
+-- Runs of the writer's steps and of calls of its methods, and what is claimed of these
+pub mod Runs
+pub mod Claims
+pub mod Calls

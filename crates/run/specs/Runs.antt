@@ -1,0 +1,67 @@
+-- Runs of steps, each given the state and the buffer that the last one left; and the steps that a reading spells. Assumes nothing.
+use Prim.Native.Nat.{ℕ, _≤_, _<_, _^_}
+use mathlib.Core.Path.{_≡_}
+use mathlib.Core.Bool.{true}
+use mathlib.Core.List.{List, [], _∷_, _++_}
+use lib.ListN.{length}
+use Rattle.wire.specs.Bytes.{Bytes}
+use Rattle.transaction.specs.Signed.{mostBytes}
+use Rattle.transaction.specs.Plan.{Plan, shut, end, field, many, Elements, Value}
+use Rattle.transaction.specs.Family.{Family, Unsigned}
+use Rattle.transaction.specs.declared.Segment.{Segment}
+use Rattle.judge.specs.Given.{Given, given}
+use Rattle.writer.specs.declared.Writer.{Writer}
+use Rattle.writer.specs.declared.Written.the-variants as W
+use Rattle.writer.specs.Steps.{Turn, start, put, close, finish}
+
+-- a step and what it is given
+pub data Act : Type 0 where
+  starts : ℕ → ℕ → List ℕ → Act
+  puts : Segment → Given → Act
+  closes finishes : Act
+
+-- what code can be given: bytes, and numbers and identifiers of their widths. What could not be made, or is longer than a transaction, need not be
+-- said to be bytes: a count of it may be too large for its width
+abbrev pub Fair : Act → Type 0
+Fair (starts kind network chain) = (kind < 256 ^ 4) × (network < 256 ^ 4) × (length chain ≡ 32) × Bytes chain
+Fair (puts l g) = g .whole ≡ true → length (g .bytes) ≤ mostBytes → Bytes (g .bytes)
+Fair closes = Unit {0}
+Fair finishes = Unit {0}
+
+abbrev pub AllFair : List Act → Type 0
+AllFair [] = Unit {0}
+AllFair (a ∷ l) = Fair a × AllFair l
+
+module _ (F : Family) where
+  abbrev pub act : Act → Writer → List ℕ → Turn
+  act (starts kind network chain) w s = start F w s kind network chain
+  act (puts l g) w s = put F w s l g
+  act closes w s = close F w s
+  act finishes w s = finish F w s
+
+  unfoldable pub run : List Act → Writer → List ℕ → Writer × List ℕ
+  run [] w s = (w, s)
+  run (a ∷ l) w s = run l (act a w s .step .next) (act a w s .buffer)
+
+  -- every step of the run is done
+  unfoldable pub AllDone : List Act → Writer → List ℕ → Type 0
+  AllDone [] w s = Unit {0}
+  AllDone (a ∷ l) w s = (act a w s .step .answer ≡ W.Done (act a w s .step .next .at)) × AllDone l (act a w s .step .next) (act a w s .buffer)
+
+-- ---- the steps that a value spells: each field, and each element of a list and then its close
+
+unfoldable pub elementActs : (l : Segment) (E : Elements) → List ℕ → List (E .Element) → List Act
+elementActs l E prev [] = []
+elementActs l E prev (a ∷ more) = puts l (given (E .element prev .write a)) ∷ elementActs l E (E .element prev .write a) more
+
+unfoldable pub planActs : (p : Plan) → Value p → List Act
+unfolding elementActs
+planActs shut v = []
+planActs end v = []
+planActs (field l C q) v = puts l (given (C .content .write (v .0))) ∷ planActs q (v .1)
+planActs (many l E q) v = elementActs l E [] (v .0) ++ (closes ∷ planActs q (v .1))
+
+module _ (F : Family) where
+  unfoldable pub spelled : Unsigned F → List Act
+  unfolding planActs
+  spelled u = starts (F .code (u .0 .kind)) (u .0 .network) (u .0 .chain) ∷ planActs (F .plan (u .0 .kind)) (u .1)

@@ -1,0 +1,1 @@
+// Runs of the writer's steps: definitions and proofs only.

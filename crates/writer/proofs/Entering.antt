@@ -1,0 +1,47 @@
+-- The tests in front of a step. Assumes nothing.
+use Prim.Native.Nat.{ℕ, _+_, _≤_, _<_}
+use mathlib.Core.Path.{_≡_}
+use mathlib.Core.Bool.{Bool, true, false}
+use mathlib.Core.List.{List, []}
+use lib.Dec.{ltb}
+use borrow.Author.Tests.{le-leb, lt-leb, ne-eqb}
+use Rattle.wire.specs.Bytes.{part}
+use Rattle.judge.specs.declared.Verdict.{Verdict}
+use Rattle.judge.specs.declared.Verdict.the-variants as J
+use Rattle.writer.specs.declared.Writer.{Writer}
+use Rattle.writer.specs.Steps.{guardedIn, prev, sane}
+
+-- ---- the element before
+
+module _ (w : Writer) (s : List ℕ) where
+  pub no-last : w .count ≡ 0 → [] ≡ prev w s
+  unfolding prev
+  no-last e = rw e
+
+  pub last-there : (t : List ℕ) → t ≡ part (w .last) (w .at) s → (w .count ≡ 0 → ⊥) → t ≡ prev w s
+  unfolding prev
+  last-there t h e = rw (ne-eqb (w .count) 0 e) h
+
+-- ---- whether a step is entered
+
+module _ (t : Bool) (w : Writer) (limit : ℕ) (rules : Verdict) where
+  pub too-short : t ≡ true → limit < w .at → J.Refuse 14 ≡ guardedIn t w limit rules
+  too-short e h = rw (e, lt-leb (w .at) limit h)
+
+  pub goes-on : t ≡ true → w .at ≤ limit → rules ≡ guardedIn t w limit rules
+  goes-on e h = rw (e, le-leb (w .at) limit h)
+
+  pub not-entered : t ≡ false → J.Refuse 16 ≡ guardedIn t w limit rules
+  not-entered e = rw e
+
+-- ---- an open list
+
+module _ (w : Writer) where
+  pub count-outside : w .at < w .list + 4 → false ≡ sane w
+  count-outside h = rw (lt-leb (w .list + 4) (w .at) h)
+
+  pub last-outside : w .list + 4 ≤ w .at → w .at < w .last → false ≡ sane w
+  last-outside h k = rw (le-leb (w .list + 4) (w .at) h, lt-leb (w .last) (w .at) k)
+
+  pub inside : (t : Bool) → w .list + 4 ≤ w .at → w .last ≤ w .at → t ≡ ltb (w .count) 65536 → t ≡ sane w
+  inside t h k e = rw (le-leb (w .list + 4) (w .at) h, le-leb (w .last) (w .at) k) e
