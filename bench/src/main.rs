@@ -1,55 +1,34 @@
-//! Times the check of the proved code against that of the independent program.
+//! Times the proved code against the independent program, and against a copy of the same bytes.
 //!
-//! `cellfacet-bench` prints a table; `cellfacet-bench --once` makes each check once and times
-//! nothing, for a profiler.
+//! `cellfacet-bench` prints a table; `cellfacet-bench --once` does each thing once and times
+//! nothing, for a profiler and the gate.
 
 mod sample;
+mod time;
+mod work;
 
-use std::hint::black_box;
 use std::process::ExitCode;
-use std::time::Instant;
 
-use cellfacet_proved::library;
-use cellfacet_tests::phone;
-use sample::{samples, Sample};
+use sample::{samples, with_200_slots, Order, Sample, FULL};
+use work::{checked, filled, merged, written, Work};
 
-/// Each sample is timed this often, both programs by turns.
-const ROUNDS: usize = 41;
-/// One time is taken over as many checks as take about this long.
-const ROUND_NANOSECONDS: f64 = 1e6;
+/// Every sample is checked; the full ones are written, filled and merged too, and those with 200
+/// slots are merged.
+fn works<'a>(samples: &'a [Sample], drafts: &'a [Sample]) -> Vec<Work<'a>> {
+    let full = || samples.iter().filter(|sample| sample.length == FULL);
+    let checks = samples.iter().map(checked).chain(full().map(written));
+    let merges = full().chain(drafts).map(merged);
+    checks.chain(full().filter_map(filled)).chain(merges).collect()
+}
 
-type Check = fn(&[u8]) -> u64;
-
-/// Nanoseconds for one check, over `count` of them.
-fn time(check: Check, bytes: &[u8], count: u32) -> f64 {
-    let start = Instant::now();
-    for _ in 0..count {
-        black_box(check(black_box(bytes)));
+fn print(works: Vec<Work>) {
+    println!("| call | type | bytes | lists | proved, ns | to independent | to a copy |");
+    println!("|---|---|---|---|---|---|---|");
+    for Work { call, sample, runs } in works {
+        let (proved, ratios) = time::measured(runs);
+        let ratios: Vec<String> = ratios.iter().map(|ratio| format!("{ratio:.2}")).collect();
+        println!("| {call} | {sample} | {proved:.0} | {} |", ratios.join(" | "));
     }
-    start.elapsed().as_nanos() as f64 / f64::from(count)
-}
-
-fn median(mut numbers: Vec<f64>) -> f64 {
-    numbers.sort_by(f64::total_cmp);
-    numbers[numbers.len() / 2]
-}
-
-/// Median nanoseconds of both, and the median of their ratios.
-fn measured(bytes: &[u8]) -> (f64, f64, f64) {
-    let checks: [Check; 2] = [library::check, phone::check];
-    let once = time(checks[1], bytes, 100).max(1.0);
-    let count = (ROUND_NANOSECONDS / once).clamp(1.0, 1e5) as u32;
-    let rounds: Vec<[f64; 2]> =
-        (0..ROUNDS).map(|_| checks.map(|check| time(check, bytes, count))).collect();
-    let of = |n: usize| median(rounds.iter().map(|times| times[n]).collect());
-    let ratio = median(rounds.iter().map(|times| times[0] / times[1]).collect());
-    (of(0), of(1), ratio)
-}
-
-/// Both accept it, so the whole of it is read.
-fn accepted(sample: &Sample) -> bool {
-    let length = sample.bytes.len() as u64;
-    [library::check, phone::check].map(|check: Check| check(&sample.bytes)) == [length, length]
 }
 
 fn main() -> ExitCode {
@@ -62,21 +41,11 @@ fn main() -> ExitCode {
             return ExitCode::from(2);
         }
     };
-    let samples = samples();
-    if let Some(Sample { type_id, order, bytes }) = samples.iter().find(|one| !accepted(one)) {
-        eprintln!("not accepted: type {type_id}, {} bytes, {order}", bytes.len());
-        return ExitCode::FAILURE;
-    }
+    let (samples, drafts) = (samples(), [Order::Early, Order::Late].map(with_200_slots));
+    // What is timed is done once here, and both programs must do it alike.
+    let works = works(&samples, &drafts);
     if !once {
-        println!("| type | bytes | lists | proved, ns | independent, ns | ratio |");
-        println!("|---|---|---|---|---|---|");
-        for Sample { type_id, order, bytes } in samples {
-            let (proved, independent, ratio) = measured(&bytes);
-            let length = bytes.len();
-            println!(
-                "| {type_id} | {length} | {order} | {proved:.0} | {independent:.0} | {ratio:.2} |"
-            );
-        }
+        print(works);
     }
     ExitCode::SUCCESS
 }

@@ -27,28 +27,45 @@ impl fmt::Display for Order {
     }
 }
 
-/// A transaction to be checked.
+/// An accepted transaction.
 pub struct Sample {
     /// The transaction's type.
     pub type_id: u32,
     /// How the neighbours of its lists differ.
     pub order: Order,
+    /// The length that it comes close to.
+    pub length: usize,
     /// The transaction.
     pub bytes: Vec<u8>,
 }
+
+impl fmt::Display for Sample {
+    fn fmt(&self, f: &mut fmt::Formatter) -> fmt::Result {
+        write!(f, "{} | {} | {}", self.type_id, self.bytes.len(), self.order)
+    }
+}
+
+/// The length of a full transaction.
+pub const FULL: usize = 65_536;
 
 /// Every type, small, medium and as long as can be.
 pub fn samples() -> Vec<Sample> {
     let mut samples = Vec::new();
     for &type_id in TYPES {
-        for length in [392, 4096, 65_536] {
+        for length in [392, 4096, FULL] {
             for order in [Order::Early, Order::Late] {
                 let bytes = transaction(type_id, order, length);
-                samples.push(Sample { type_id, order, bytes });
+                samples.push(Sample { type_id, order, length, bytes });
             }
         }
     }
     samples
+}
+
+/// An import with 200 slots, of two to an input.
+pub fn with_200_slots(order: Order) -> Sample {
+    let bytes = assembled(IMPORT, &parts(IMPORT, order, 100), 0);
+    Sample { type_id: IMPORT, order, length: bytes.len(), bytes }
 }
 
 /// The elements of a transaction: those of the base part, those of the own part, and the

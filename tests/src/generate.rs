@@ -1,6 +1,7 @@
 //! Random requests of every kind, the same ones for the same seed.
 
 pub mod damage;
+pub mod drafts;
 pub mod random;
 pub mod request;
 pub mod valid;

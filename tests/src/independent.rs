@@ -45,7 +45,7 @@ impl Answers for Independent {
         })
     }
 
-    fn fill(&self, draft: &mut [u8], slot: u32, signature: &[u8]) -> Option<Answer> {
+    fn fill(&self, draft: &mut [u8], slot: u64, signature: &[u8]) -> Option<Answer> {
         Some(draft::fill(draft, slot as usize, signature).into())
     }
 

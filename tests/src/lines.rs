@@ -87,7 +87,7 @@ pub trait Answers {
         None
     }
     /// Fills a slot of the lent draft.
-    fn fill(&self, draft: &mut [u8], slot: u32, signature: &[u8]) -> Option<Answer> {
+    fn fill(&self, draft: &mut [u8], slot: u64, signature: &[u8]) -> Option<Answer> {
         None
     }
     /// Merges two drafts into the output buffer.

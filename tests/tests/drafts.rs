@@ -3,12 +3,9 @@
 
 mod common;
 
-use std::collections::BTreeMap;
-
-use cellfacet_tests::draft::slots;
-use cellfacet_tests::generate::valid::{refill, signature, small_transaction};
+use cellfacet_tests::generate::drafts::{copies, merge_of, Grouping};
 use cellfacet_tests::generate::Random;
-use cellfacet_tests::{check, fill, merge, phone};
+use cellfacet_tests::{fill, merge, phone};
 use common::{case_a, shown, with};
 
 fn filled(draft: &[u8], slot: usize, signature: &[u8]) -> (String, Vec<u8>) {
@@ -98,65 +95,27 @@ fn the_phone_gets_number_and_place_in_one() {
     assert_eq!(phone::merge(&a, &a, &mut output), 392);
 }
 
-/// Copies of one random draft with slots emptied, and some of them conflicting.
-fn copies(random: &mut Random, count: usize) -> (Vec<Vec<u8>>, Vec<usize>) {
-    let whole = small_transaction(random);
-    let read = check(&whole).expect("an accepted draft");
-    let places: Vec<usize> = slots(&whole, &read).collect();
-    let mut others = BTreeMap::new();
-    if random.once_in(3) {
-        others.extend(places.iter().map(|&place| (place, signature(random))));
-    }
-    let mut copies = vec![whole.clone(); count];
-    for copy in &mut copies {
-        refill(random, copy, &places, &others);
-    }
-    (copies, places)
-}
-
-/// The merge of a list by its definition, or none where some slot holds two signatures.
-fn defined(drafts: &[Vec<u8>], places: &[usize]) -> Option<Vec<u8>> {
-    let mut result = drafts[0].clone();
-    for &place in places {
-        let held = drafts.iter().map(|draft| &draft[place..place + 65]);
-        let mut held: Vec<&[u8]> = held.filter(|slot| **slot != [0; 65]).collect();
-        held.dedup();
-        if held.iter().any(|slot| *slot != held[0]) {
-            return None;
-        }
-        result[place..place + 65].copy_from_slice(held.first().unwrap_or(&&[0; 65][..]));
-    }
-    Some(result)
-}
-
-/// Merges by a random grouping that uses each draft, some of them twice.
-fn grouped(random: &mut Random, mut results: Vec<Vec<u8>>) -> Result<Vec<u8>, String> {
-    for _ in 0..random.below(3) {
-        results.push(results[random.below(results.len())].clone());
-    }
-    while results.len() > 1 {
-        let first = results.swap_remove(random.below(results.len()));
-        let second = results.swap_remove(random.below(results.len()));
-        let (answer, output) = merged(&first, &second, first.len());
-        if answer != format!("0 {}", first.len()) {
-            return Err(answer);
-        }
-        results.push(output);
-    }
-    Ok(results.remove(0))
-}
-
 #[test]
 fn every_grouping_gives_the_merge_of_the_list() {
     let mut random = Random::new(11);
     let mut conflicts = 0;
     for _ in 0..300 {
-        let count = 1 + random.below(5);
-        let (drafts, places) = copies(&mut random, count);
-        let merge = defined(&drafts, &places);
-        conflicts += usize::from(merge.is_none());
+        let (count, conflicting) = (1 + random.below(5), random.once_in(3));
+        let drafts = copies(&mut random, count, conflicting);
+        let list: Vec<&[u8]> = drafts.iter().map(|draft| &draft[..]).collect();
+        let defined = merge_of(&list).ok();
+        conflicts += usize::from(defined.is_none());
         for _ in 0..5 {
-            match (grouped(&mut random, drafts.clone()), &merge) {
+            let grouping = Grouping::new(&mut random, count);
+            let result = grouping.run(&drafts, &mut |first, second| {
+                let (answer, output) = merged(first, second, first.len());
+                if answer == format!("0 {}", first.len()) {
+                    Ok(output)
+                } else {
+                    Err(answer)
+                }
+            });
+            match (result, &defined) {
                 (Ok(result), Some(merge)) => assert_eq!(&result, merge),
                 (Err(answer), None) => assert!(answer.starts_with("20 "), "{answer}"),
                 (result, _) => panic!("{result:?}"),

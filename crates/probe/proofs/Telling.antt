@@ -1,12 +1,14 @@
--- The answer with a lent table as one number. Assumes nothing.
+-- The answer with a lent table as one number, and the answer to a fill as two. Assumes nothing.
 use Prim.Native.Nat.{ℕ, _+_, _*_, _%_}
 use mathlib.Core.Path.{_≡_, sym, ap, _∙_}
-use mathlib.Core.List.{List}
+use mathlib.Core.List.{List, [], _∷_}
 use Rattle.wire.specs.declared.Refusal.{Refusal}
 use Rattle.table.specs.Table.{filled, tabled}
 use Rattle.table.specs.declared.Tabled.{Tabled}
 use Rattle.table.specs.declared.Tabled.the-variants as T
-use Rattle.probe.specs.Probed.{probed, packed, told}
+use Rattle.draft.specs.declared.Answer.{Answer}
+use Rattle.draft.specs.declared.Answer.the-variants as A
+use Rattle.probe.specs.Probed.{probed, packed, told, toldFill}
 
 -- x is what the check answered, and u what the table holds then
 module _ (s t u : List ℕ) (x : Tabled) (p : filled x u ≡ tabled s t) where
@@ -17,3 +19,13 @@ module _ (s t u : List ℕ) (x : Tabled) (p : filled x u ≡ tabled s t) where
   refused-told e q = sym (ap (λ y. told (filled y u)) q) ∙ ap told p
 
 pub ruleset telling = (listed-told, refused-told)
+
+-- x is what the fill answered, and d what the draft holds then
+module _ (x : Answer) (d : List ℕ) (f : Answer × List ℕ) (p : (x, d) ≡ f) where
+  pub done-told : (n : ℕ) → x ≡ A.Done n → (0 ∷ n ∷ [], d) ≡ toldFill f
+  done-told n q = sym (ap (λ y. toldFill (y, d)) q) ∙ ap toldFill p
+
+  pub refused-fill : (e : Refusal) → x ≡ A.Refused e → (e .number ∷ e .place ∷ [], d) ≡ toldFill f
+  refused-fill e q = sym (ap (λ y. toldFill (y, d)) q) ∙ ap toldFill p
+
+pub ruleset filling = (done-told, refused-fill)

@@ -1,9 +1,11 @@
 -- The answer of the check with a lent table as one number of 64 bits, with what the table holds then. Assumes nothing.
 use Prim.Native.Nat.{ℕ, _+_, _*_, _%_}
-use mathlib.Core.List.{List}
+use mathlib.Core.List.{List, [], _∷_}
 use Rattle.table.specs.Table.{Filled}
 use Rattle.table.specs.declared.Tabled.{Tabled}
 use Rattle.table.specs.declared.Tabled.the-variants as T
+use Rattle.draft.specs.Calls.{answerNumber, answerPlace}
+use Rattle.draft.specs.declared.Answer.{Answer}
 
 pub record Probed : Type 0 where
   pub answer : ℕ
@@ -19,3 +21,7 @@ packed (T.Refused e) = e .number % 1048576 * 1099511627776 + e .place % 1048576
 
 abbrev pub told : Filled → Probed
 told f = probed (packed (f .answer)) (f .table)
+
+-- the answer to a fill as number and place, with what the draft holds then
+abbrev pub toldFill : Answer × List ℕ → List ℕ × List ℕ
+toldFill (a, d) = (answerNumber a ∷ answerPlace a ∷ [], d)

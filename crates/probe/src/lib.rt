@@ -1,10 +1,15 @@
-// Calls for tests in C or Rust: the check with a lent table, and entry n as numbers at fixed places of a lent buffer.
+// Calls for tests in C or Rust: the check with a lent table, entry n as numbers at fixed places of a lent buffer, and the filling of a slot.
 ghost use mathlib.Core.Path.{_≡_};
 ghost use lib.ListN.{set};
 ghost use Rattle.table.specs.Table.{tabled};
 ghost use Rattle.entry.specs.Entry.{entryOf};
-ghost use Rattle.probe.specs.Probed.{probed, told};
+ghost use Rattle.transaction.specs.Avm.{avm};
+ghost use Rattle.transaction.specs.Answer.{memoMost};
+ghost use Rattle.draft.specs.Reader.{reader};
+ghost use Rattle.draft.specs.Calls.{fillCall};
+ghost use Rattle.probe.specs.Probed.{probed, told, toldFill};
 ghost use Rattle.probe.specs.Values.{putAt, ownersValues, outputValues, inputValues, recipientsValues, operationValues, credentialValues, entryValues, answerValues, probedEntry, toldEntry};
+use draft::Answer;
 use element::InputFields;
 use element::OperationFields;
 use element::OutputFields;
@@ -196,4 +201,24 @@ pub extern "C" fn cellfacet_probe_entry(
     put_answer(numbers, answer);
     wire::put_bytes(asset, &read.asset);
     wire::put_bytes(txid, &read.txid);
+}
+
+// Fills a slot of a draft, and puts the answer's number and place.
+#[no_mangle]
+pub extern "C" fn cellfacet_probe_fill(
+    draft: &mut [u8],
+    slot: u64,
+    signature: &[u8],
+    answer: &mut [u64; 2],
+)
+    ensures { λ _. ⌜ (now (answer .exit), now (draft .exit)) ≡ toldFill (fillCall (reader (avm memoMost)) (now (draft .entry)) slot (now (signature .entry))) ⌝ }
+{
+    match draft::fill(draft, slot as usize, signature) {
+        Answer::Done(length) => {
+            *answer = [0, length as u64];
+        }
+        Answer::Refused(refusal) => {
+            *answer = [refusal.number as u64, refusal.place as u64];
+        }
+    }
 }

@@ -3,14 +3,10 @@
 use std::collections::BTreeSet;
 use std::fmt;
 
-use cellfacet_tests::generate::Kind;
 use cellfacet_tests::independent::Independent;
-use cellfacet_tests::lines::answer;
+use cellfacet_tests::lines::{answer, Answers};
 
 use crate::Proved;
-
-/// The kinds of requests that the proved code answers.
-pub const KINDS: [Kind; 4] = [Kind::Check, Kind::CheckNone, Kind::Entry, Kind::PhoneCheck];
 
 /// A request that the two answer differently. No answer is a line that is no request.
 #[derive(Debug, PartialEq, Eq)]
@@ -51,21 +47,16 @@ pub struct Met {
 }
 
 impl Met {
-    /// Asks both, and notes the answer where it is one.
+    /// Asks both, and notes the answer.
     pub fn ask(&mut self, request: &str) -> Result<(), Difference> {
-        let proved = answer(&Proved, request);
-        let independent = answer(&Independent, request);
-        if proved != independent || proved.is_none() {
-            let request = request.to_string();
-            return Err(Difference { request, proved, independent });
-        }
+        let answer = both(request)?;
         self.requests += 1;
-        match (&request.split(' ').collect::<Vec<_>>()[..], proved) {
-            (["check", bytes, room], Some(answer)) => {
+        match &request.split(' ').collect::<Vec<_>>()[..] {
+            ["check", bytes, room] => {
                 self.tables += usize::from(*room != "none");
                 self.note(bytes, &answer);
             }
-            (["entry", ..], Some(answer)) => self.note_entry(&answer),
+            ["entry", ..] => self.note_entry(&answer),
             _ => {}
         }
         Ok(())
@@ -90,6 +81,26 @@ impl Met {
         let length = if hex == "-" { 0 } else { hex.len() / 2 };
         let (least, most) = self.lengths.unwrap_or((length, length));
         self.lengths = Some((least.min(length), most.max(length)));
+    }
+}
+
+/// The answer of both programs.
+pub fn both(request: &str) -> Result<String, Difference> {
+    alike(&Proved, &Independent, request)
+}
+
+/// The answer of two programs, of which the second is the reference. A line that is no request
+/// is a difference too.
+pub fn alike(
+    proved: &impl Answers,
+    independent: &impl Answers,
+    request: &str,
+) -> Result<String, Difference> {
+    let proved = answer(proved, request);
+    let independent = answer(independent, request);
+    match proved {
+        Some(answer) if independent.as_ref() == Some(&answer) => Ok(answer),
+        _ => Err(Difference { request: request.to_string(), proved, independent }),
     }
 }
 

@@ -4,17 +4,18 @@
 pub mod compare;
 pub mod entry;
 pub mod library;
+pub mod steps;
 
-use cellfacet_tests::lines::{Answer, Answers, EntryFields};
+use cellfacet_tests::lines::{Answer, Answers, EntryFields, Step};
 
 /// The lower of the numbers that the check with a table packs have 20 bits.
 const LOW: u64 = (1 << 20) - 1;
 
-/// Answers with the proved code. What is not exported yet is `not yet`.
+/// Answers with the proved code.
 pub struct Proved;
 
 impl Answers for Proved {
-    type Writer = ();
+    type Writer = steps::Writer;
 
     fn check(&self, bytes: &[u8]) -> Option<Answer> {
         Some(unpacked(library::check(bytes)))
@@ -30,8 +31,30 @@ impl Answers for Proved {
         Some(entry::read(bytes, n))
     }
 
+    fn fill(&self, draft: &mut [u8], slot: u64, signature: &[u8]) -> Option<Answer> {
+        let [number, place] = library::probe_fill(draft, slot, signature);
+        Some(Answer { number: number as u32, place })
+    }
+
+    fn merge(&self, first: &[u8], second: &[u8], output: &mut [u8]) -> Option<Answer> {
+        Some(unpacked(library::merge(first, second, output)))
+    }
+
     fn phone_check(&self, bytes: &[u8]) -> Option<u64> {
         Some(library::check(bytes))
+    }
+
+    fn phone_merge(&self, first: &[u8], second: &[u8], output: &mut [u8]) -> Option<u64> {
+        Some(library::merge(first, second, output))
+    }
+
+    fn step(
+        &self,
+        writer: &mut steps::Writer,
+        buffer: &mut [u8],
+        step: &Step,
+    ) -> Option<Answer> {
+        Some(writer.step(buffer, step))
     }
 }
 

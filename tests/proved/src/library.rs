@@ -4,6 +4,22 @@
 mod c {
     extern "C" {
         pub fn cellfacet_check(bytes: *const u8, length: usize) -> u64;
+        pub fn cellfacet_merge(
+            first: *const u8,
+            first_length: usize,
+            second: *const u8,
+            second_length: usize,
+            output: *mut u8,
+            room: usize,
+        ) -> u64;
+        pub fn cellfacet_probe_fill(
+            draft: *mut u8,
+            length: usize,
+            slot: u64,
+            signature: *const u8,
+            signature_length: usize,
+            answer: &mut [u64; 2],
+        );
         pub fn cellfacet_probe_table(
             bytes: *const u8,
             length: usize,
@@ -29,6 +45,36 @@ pub fn check(bytes: &[u8]) -> u64 {
     // SAFETY: the pointer and the length are those of a slice, which nothing writes to while
     // it is borrowed; the function asks for nothing else.
     unsafe { c::cellfacet_check(bytes.as_ptr(), bytes.len()) }
+}
+
+/// Merges two drafts into the front of the output buffer: number × 2^32 + place.
+pub fn merge(first: &[u8], second: &[u8], output: &mut [u8]) -> u64 {
+    let (output, room) = (output.as_mut_ptr(), output.len());
+    // SAFETY: the pointers and the lengths are those of slices, of which the output is borrowed
+    // mutably, so that it overlaps neither draft; the function asks for nothing else.
+    unsafe {
+        c::cellfacet_merge(
+            first.as_ptr(),
+            first.len(),
+            second.as_ptr(),
+            second.len(),
+            output,
+            room,
+        )
+    }
+}
+
+/// Fills a slot of the lent draft: number and place.
+pub fn probe_fill(draft: &mut [u8], slot: u64, signature: &[u8]) -> [u64; 2] {
+    let mut answer = [0; 2];
+    let (draft, length) = (draft.as_mut_ptr(), draft.len());
+    let (signature, signature_length) = (signature.as_ptr(), signature.len());
+    // SAFETY: the pointers and the lengths are those of slices, of which the draft is borrowed
+    // mutably, so that it does not overlap the signature; the function asks for nothing else.
+    unsafe {
+        c::cellfacet_probe_fill(draft, length, slot, signature, signature_length, &mut answer);
+    }
+    answer
 }
 
 /// Checks a whole transaction, and writes three numbers for each entry into the lent table:

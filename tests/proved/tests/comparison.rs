@@ -5,17 +5,19 @@ use std::collections::BTreeSet;
 use std::fs;
 use std::path::{Path, PathBuf};
 
-use cellfacet_proved::compare::{compare, Difference, Met, KINDS};
+use cellfacet_proved::compare::{self, compare, Met};
 use cellfacet_proved::entry::Probed;
 use cellfacet_proved::library::probe_entry;
 use cellfacet_proved::Proved;
 use cellfacet_tests::check;
 use cellfacet_tests::encode::Encoder;
 use cellfacet_tests::generate::{Kind, Requests};
+use cellfacet_tests::independent::Independent;
 use cellfacet_tests::lines::{answer, serve, unhex, Answers, Hex};
 
 const SEED: u64 = 20_251_115;
 const REQUESTS: usize = 400_000;
+const KINDS: [Kind; 4] = [Kind::Check, Kind::CheckNone, Kind::Entry, Kind::PhoneCheck];
 
 fn data() -> PathBuf {
     Path::new(env!("CARGO_MANIFEST_DIR")).join("../data")
@@ -174,24 +176,29 @@ fn no_room_for_an_entry() {
 }
 
 #[test]
-fn lines_that_are_not_answered() {
+fn every_call_is_answered() {
     let input =
         b"check - none\ncheck - 0\nentry - 0\nfill - 0 -\nmerge - - 0\nwrite 0 finish\nfoo\n";
     let mut output = Vec::new();
     serve(&Proved, &input[..], &mut output).expect("no failing write");
-    let lines = "2 0\n2 0 0 kept\n2 0\nnot yet\nnot yet\nnot yet\nbad request\n";
+    let lines = "2 0\n2 0 0 kept\n2 0\n17 0 -\n17 0 -\n16 0 -\nbad request\n";
     assert_eq!(String::from_utf8(output).expect("text"), lines);
+}
+
+/// A program that has no call.
+struct Nothing;
+
+impl Answers for Nothing {
+    type Writer = ();
 }
 
 #[test]
 fn a_difference_is_found_and_shown() {
-    let difference = compare(["merge - - 0".to_string()]).expect_err("a difference");
-    let expected = Difference {
-        request: "merge - - 0".into(),
-        proved: Some("not yet".into()),
-        independent: Some("17 0 -".into()),
-    };
-    assert_eq!(difference, expected);
+    let request = "merge - - 0";
+    let difference = compare::alike(&Nothing, &Independent, request).expect_err("a difference");
     let shown = "request: merge - - 0\nproved: not yet\nindependent: 17 0 -";
+    assert_eq!(difference.to_string(), shown);
+    let difference = compare::both("merge - -").expect_err("no request");
+    let shown = "request: merge - -\nproved: bad request\nindependent: bad request";
     assert_eq!(difference.to_string(), shown);
 }

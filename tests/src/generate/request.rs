@@ -1,14 +1,16 @@
 //! Request lines of each kind.
 
-use std::collections::{BTreeMap, VecDeque};
+use std::collections::VecDeque;
 
 use super::damage::damaged;
-use super::valid::{of_length, refill, signature, small_transaction, transaction};
+use super::drafts::{copies, draft, places, Grouping};
+use super::valid::{of_length, signature, small_transaction, transaction};
 use super::Random;
-use crate::draft::{merge, slots};
+use crate::draft::merge;
 use crate::element::SIGNATURE;
 use crate::independent::make_step;
 use crate::lines::{Call, Hex, Step};
+use crate::refusal::Refusal;
 use crate::script::script;
 use crate::transaction::{check, LIMIT};
 use crate::writer::Writer;
@@ -24,12 +26,13 @@ pub enum Kind {
     Merge,
     Phone,
     PhoneCheck,
+    PhoneMerge,
     Write,
 }
 
 impl Kind {
     /// All kinds with their names.
-    pub const ALL: [(&'static str, Kind); 8] = [
+    pub const ALL: [(&'static str, Kind); 9] = [
         ("check", Kind::Check),
         ("check-none", Kind::CheckNone),
         ("entry", Kind::Entry),
@@ -37,6 +40,7 @@ impl Kind {
         ("merge", Kind::Merge),
         ("phone", Kind::Phone),
         ("phone-check", Kind::PhoneCheck),
+        ("phone-merge", Kind::PhoneMerge),
         ("write", Kind::Write),
     ];
 
@@ -67,24 +71,26 @@ impl Iterator for Requests {
         while self.waiting.is_empty() {
             let random = &mut self.random;
             match random.pick(&self.kinds) {
-                Kind::Check => self.waiting.push_back(check_request(random)),
-                Kind::CheckNone => {
-                    self.waiting.push_back(format!("check {} none", Hex(&bytes(random))));
-                }
-                Kind::Entry => self.waiting.push_back(entry_request(random)),
-                Kind::Fill => self.waiting.push_back(fill_request(random)),
                 Kind::Merge if random.once_in(3) => self.waiting.extend(grouping(random)),
-                Kind::Merge => self.waiting.push_back(merge_request(random, "merge")),
-                Kind::Phone if random.once_in(2) => {
-                    self.waiting.push_back(merge_request(random, "phone-merge"));
-                }
-                Kind::Phone | Kind::PhoneCheck => {
-                    self.waiting.push_back(format!("phone-check {}", Hex(&bytes(random))));
-                }
-                Kind::Write => self.waiting.push_back(write_request(random)),
+                kind => self.waiting.push_back(request(random, kind)),
             }
         }
         self.waiting.pop_front()
+    }
+}
+
+/// One request of a kind.
+fn request(random: &mut Random, kind: Kind) -> String {
+    match kind {
+        Kind::Check => check_request(random),
+        Kind::CheckNone => format!("check {} none", Hex(&bytes(random))),
+        Kind::Entry => entry_request(random),
+        Kind::Fill => fill_request(random),
+        Kind::Merge => merge_request(random, "merge"),
+        Kind::Phone if random.once_in(2) => request(random, Kind::PhoneMerge),
+        Kind::Phone | Kind::PhoneCheck => format!("phone-check {}", Hex(&bytes(random))),
+        Kind::PhoneMerge => merge_request(random, "phone-merge"),
+        Kind::Write => write_request(random),
     }
 }
 
@@ -135,31 +141,21 @@ fn entry_request(random: &mut Random) -> String {
     format!("entry {} {n}", Hex(&bytes))
 }
 
-/// The slots' places of a draft, none where it is not accepted.
-fn places(draft: &[u8]) -> Vec<usize> {
-    check(draft).map_or(Vec::new(), |read| slots(draft, &read).collect())
-}
-
-/// An accepted draft, most often one with slots.
-fn draft(random: &mut Random) -> Vec<u8> {
-    let drafts = std::iter::repeat_with(|| small_transaction(random)).take(5);
-    let drafts: Vec<_> = drafts.collect();
-    let with_slots = drafts.iter().find(|draft| !places(draft).is_empty());
-    with_slots.unwrap_or(&drafts[0]).clone()
-}
-
 fn fill_request(random: &mut Random) -> String {
     let mut draft = draft(random);
     if random.once_in(12) {
         draft = damaged(random, draft);
     }
     let places = places(&draft);
+    let some = random.below(places.len().max(1));
     let slot = match random.below(12) {
-        0 => places.len(),
-        1 => random.number32() as usize,
-        _ => random.below(places.len().max(1)),
+        0 => places.len() as u64,
+        1 => random.number64(),
+        // A number whose lower bits are those of a slot.
+        2 => some as u64 + (1 << random.pick(&[16, 31, 32, 63])),
+        _ => some as u64,
     };
-    let held = places.get(slot).map(|&place| draft[place..place + SIGNATURE].to_vec());
+    let held = places.get(some).map(|&place| draft[place..place + SIGNATURE].to_vec());
     let mut bytes = signature(random).to_vec();
     match random.below(10) {
         0 | 1 => bytes = held.unwrap_or(bytes),
@@ -168,24 +164,6 @@ fn fill_request(random: &mut Random) -> String {
         _ => {}
     }
     format!("fill {} {slot} {}", Hex(&draft), Hex(&bytes))
-}
-
-/// Copies of one draft with slots emptied, and where `conflicts` is set at times given
-/// another signature.
-fn copies(random: &mut Random, count: usize, conflicts: bool) -> Vec<Vec<u8>> {
-    let whole = draft(random);
-    let places = places(&whole);
-    let mut others = BTreeMap::new();
-    for &place in &places {
-        if conflicts && random.once_in(2) {
-            others.insert(place, signature(random));
-        }
-    }
-    let mut copies = vec![whole; count];
-    for copy in &mut copies {
-        refill(random, copy, &places, &others);
-    }
-    copies
 }
 
 fn room(random: &mut Random, length: usize) -> usize {
@@ -214,29 +192,22 @@ fn merge_request(random: &mut Random, name: &str) -> String {
     format!("{name} {} {} {room}", Hex(&drafts[0]), Hex(&drafts[1]))
 }
 
-/// The merge calls of a random grouping that uses each draft of a list, some of them
-/// again. A refused call ends it.
+/// The merge calls of a random grouping.
 fn grouping(random: &mut Random) -> Vec<String> {
-    let count = 2 + random.below(4);
+    let count = 2 + random.below(5);
     let conflicts = random.once_in(4);
-    let mut results = copies(random, count, conflicts);
-    if random.once_in(2) {
-        let again = random.below(count);
-        results.push(results[again].clone());
-    }
+    let drafts = copies(random, count, conflicts);
+    let tree = Grouping::new(random, count);
     let mut calls = Vec::new();
-    while results.len() > 1 {
-        let first = results.swap_remove(random.below(results.len()));
-        let second = results.swap_remove(random.below(results.len()));
+    // How it ends is not asked for here.
+    let _ = tree.run(&drafts, &mut |first, second| {
         let room = first.len() + random.pick(&[0, 0, 7]);
-        calls.push(format!("merge {} {} {room}", Hex(&first), Hex(&second)));
+        calls.push(format!("merge {} {} {room}", Hex(first), Hex(second)));
         let mut output = vec![0; room];
-        let Ok(length) = merge(&first, &second, &mut output) else {
-            break;
-        };
+        let length = merge(first, second, &mut output)?;
         output.truncate(length);
-        results.push(output);
-    }
+        Ok::<_, Refusal>(output)
+    });
     calls
 }
 
@@ -246,6 +217,9 @@ fn write_request(random: &mut Random) -> String {
     let steps = script(&bytes).unwrap_or_default();
     let calls = steps.into_iter().map(|step| Call { step, lent: None });
     let mut calls: Vec<Call> = calls.collect();
+    if random.once_in(12) {
+        mix(random, &mut calls);
+    }
     for _ in 0..random.pick(&[0, 1, 1, 2, 3]) {
         disturb(random, &mut calls);
     }
@@ -295,6 +269,14 @@ fn lend_less(random: &mut Random, calls: &mut Vec<Call>, length: usize) {
     calls[n].lent = Some(lent);
 }
 
+/// Puts the steps of another transaction between, each somewhere.
+fn mix(random: &mut Random, calls: &mut Vec<Call>) {
+    for step in script(&small_transaction(random)).unwrap_or_default() {
+        let n = random.below(calls.len() + 1);
+        calls.insert(n, Call { step, lent: None });
+    }
+}
+
 /// Puts a call out of order, leaves one out, or alters its arguments.
 fn disturb(random: &mut Random, calls: &mut Vec<Call>) {
     if calls.len() < 2 {
@@ -340,6 +322,11 @@ fn altered(random: &mut Random, step: Step) -> Step {
             }
         },
         Step::Operation(bytes) => Step::Operation(altered_bytes(random, bytes)),
+        Step::State(mut bytes) if bytes.len() >= 20 && random.once_in(5) => {
+            // The amount of the first output, where it has one.
+            bytes[12..20].fill(0);
+            Step::State(bytes)
+        }
         Step::State(bytes) => Step::State(altered_bytes(random, bytes)),
         Step::Memo(_) => Step::Memo(vec![0; random.pick(&[255, 256, 257, 300])]),
         Step::Name(_) => Step::Name(altered_text(random, &[0, 128, 129])),

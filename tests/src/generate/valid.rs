@@ -231,6 +231,16 @@ pub fn many_entries(random: &mut Random) -> Vec<u8> {
     asset.u32(1).u32(0).list(&vec![output; count]).u32(0).done()
 }
 
+/// An accepted import with hundreds of slots, up to as many as can stand in the limit.
+pub fn many_slots(random: &mut Random) -> Vec<u8> {
+    let count = 200 + random.below(740);
+    let indices: Vec<u32> = (0..count as u32).collect();
+    let base = head(random, IMPORT).u32(0).u32(0).u32(0).raw(&random.array::<32>());
+    let input = base.u32(1).raw(&random.array::<32>()).u32(0).raw(&random.array::<32>());
+    let unsigned = input.u32(INPUT).u64(1).numbers(&indices);
+    credential(random, unsigned.u32(1), (CREDENTIAL, count)).done()
+}
+
 /// The slots of a transaction, filled anew: each is emptied, kept or given another
 /// signature of `others`, by chance.
 pub fn refill(

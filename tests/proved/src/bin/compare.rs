@@ -3,8 +3,8 @@
 
 use std::process::ExitCode;
 
-use cellfacet_proved::compare::{compare, KINDS};
-use cellfacet_tests::generate::Requests;
+use cellfacet_proved::compare::compare;
+use cellfacet_tests::generate::{Kind, Requests};
 
 fn main() -> ExitCode {
     let arguments: Vec<String> = std::env::args().skip(1).collect();
@@ -13,7 +13,8 @@ fn main() -> ExitCode {
         return ExitCode::from(2);
     };
     println!("seed {seed}, {count} requests");
-    match compare(Requests::new(seed, KINDS.to_vec()).take(count)) {
+    let kinds = Kind::ALL.map(|(_, kind)| kind).to_vec();
+    match compare(Requests::new(seed, kinds).take(count)) {
         Ok(met) => {
             println!("{} answered alike", met.requests);
             ExitCode::SUCCESS

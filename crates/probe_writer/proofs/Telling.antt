@@ -1,0 +1,24 @@
+-- A step's answer as numbers. Assumes nothing.
+use Prim.Native.Nat.{ℕ}
+use mathlib.Core.Path.{_≡_, sym, ap, _∙_}
+use mathlib.Core.List.{List}
+use Rattle.wire.specs.declared.Refusal.{Refusal}
+use Rattle.writer.specs.declared.Writer.{Writer}
+use Rattle.writer.specs.declared.Step.{Step}
+use Rattle.writer.specs.declared.Written.{Written}
+use Rattle.writer.specs.declared.Written.the-variants as W
+use Rattle.writer.specs.Steps.{Turn}
+use Rattle.writer.specs.Code.{after}
+use Rattle.probe_writer.specs.Told.{numbersOf, toldAnswer, told, probed, toldTurn}
+
+pub done-told : (w : Writer) (a : Written) (n : ℕ) → a ≡ W.Done n → numbersOf w 0 n ≡ toldAnswer w a
+done-told w a n q = sym (ap (toldAnswer w) q)
+
+pub refused-told : (w : Writer) (a : Written) (e : Refusal) → a ≡ W.Refused e → numbersOf w (e .number) (e .place) ≡ toldAnswer w a
+refused-told w a e q = sym (ap (toldAnswer w) q)
+
+pub ruleset telling = (done-told, refused-told)
+
+-- f is the step's definition, v the state that the numbers are, and r what the step's method answered
+pub step-told : (f : Writer → Turn) (v w : Writer) (r : Step) (m b : List ℕ) → w ≡ v → after r b ≡ f w → m ≡ told r → probed m b ≡ toldTurn (f v)
+step-told f v w r m b h t e = rw e (ap toldTurn t ∙ ap (λ x. toldTurn (f x)) h)

@@ -1,0 +1,16 @@
+-- `probe_writer::cellfacet_probe_chain` meets its contract. Assumes nothing.
+use borrow.Author.Needs.{needs}
+use Rattle.writer.specs.Fields.{putChain}
+use Rattle.probe_writer.proofs.Telling.{step-told}
+use Rattle.probe_writer.proofs.cellfacet_probe_chain.Statement.{statement}
+use Rattle.probe_writer.proofs.cellfacet_probe_chain.Tie as tie
+
+pub cellfacet-probe-chain-spec : {M : Type 1} → statement M
+cellfacet-probe-chain-spec =
+    tie.close
+    (tie.spec
+    (λ c κs. search needs)  -- writer-of-requires
+    (λ c κs. search needs)  -- chain-requires
+    (λ c κs. search needs)  -- numbers-of-requires
+    (λ c. search needs)  -- same-length
+    (λ c. step-told (λ w. putChain w (c .before .before .before .before .before .before .before .before .before .args .buf .now) (c .before .before .before .before .before .before .before .before .before .args .id .now)) _ _ _ _ _ (c .before .before .before .before .before .before .writer-of .ensures) (c .before .before .before .chain .ensures) (c .numbers-of .ensures)))  -- returns

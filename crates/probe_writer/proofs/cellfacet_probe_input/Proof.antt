@@ -1,0 +1,16 @@
+-- `probe_writer::cellfacet_probe_input` meets its contract. Assumes nothing.
+use borrow.Author.Needs.{needs}
+use Rattle.writer.specs.Fields.{addInput}
+use Rattle.probe_writer.proofs.Telling.{step-told}
+use Rattle.probe_writer.proofs.cellfacet_probe_input.Statement.{statement}
+use Rattle.probe_writer.proofs.cellfacet_probe_input.Tie as tie
+
+pub cellfacet-probe-input-spec : {M : Type 1} → statement M
+cellfacet-probe-input-spec =
+    tie.close
+    (tie.spec
+    (λ c κs. search needs)  -- writer-of-requires
+    (λ c κs. search needs)  -- input-requires
+    (λ c κs. search needs)  -- numbers-of-requires
+    (λ c. search needs)  -- same-length
+    (λ c. step-told (λ w. addInput w (c .before .before .before .before .before .before .before .before .before .before .before .args .buf .now) (c .before .before .before .before .before .before .before .before .before .before .before .args .txid .now) (c .before .before .before .before .before .before .before .before .before .before .before .args .index) (c .before .before .before .before .before .before .before .before .before .before .before .args .asset .now) (c .before .before .before .before .before .before .before .before .before .before .before .args .amount) (c .before .before .before .before .before .before .before .before .before .before .before .args .indices .now)) _ _ _ _ _ (c .before .before .before .before .before .before .before .writer-of .ensures) (c .before .before .before .input .ensures) (c .numbers-of .ensures)))  -- returns

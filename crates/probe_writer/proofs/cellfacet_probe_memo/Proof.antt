@@ -1,0 +1,16 @@
+-- `probe_writer::cellfacet_probe_memo` meets its contract. Assumes nothing.
+use borrow.Author.Needs.{needs}
+use Rattle.writer.specs.Fields.{putMemo}
+use Rattle.probe_writer.proofs.Telling.{step-told}
+use Rattle.probe_writer.proofs.cellfacet_probe_memo.Statement.{statement}
+use Rattle.probe_writer.proofs.cellfacet_probe_memo.Tie as tie
+
+pub cellfacet-probe-memo-spec : {M : Type 1} → statement M
+cellfacet-probe-memo-spec =
+    tie.close
+    (tie.spec
+    (λ c κs. search needs)  -- writer-of-requires
+    (λ c κs. search needs)  -- memo-requires
+    (λ c κs. search needs)  -- numbers-of-requires
+    (λ c. search needs)  -- same-length
+    (λ c. step-told (λ w. putMemo w (c .before .before .before .before .before .before .before .before .before .args .buf .now) (c .before .before .before .before .before .before .before .before .before .args .bytes .now)) _ _ _ _ _ (c .before .before .before .before .before .writer-of .ensures) (c .before .before .before .memo .ensures) (c .numbers-of .ensures)))  -- returns

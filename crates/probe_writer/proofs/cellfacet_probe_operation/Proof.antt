@@ -1,0 +1,16 @@
+-- `probe_writer::cellfacet_probe_operation` meets its contract. Assumes nothing.
+use borrow.Author.Needs.{needs}
+use Rattle.writer.specs.Fields.{addOperation}
+use Rattle.probe_writer.proofs.Telling.{step-told}
+use Rattle.probe_writer.proofs.cellfacet_probe_operation.Statement.{statement}
+use Rattle.probe_writer.proofs.cellfacet_probe_operation.Tie as tie
+
+pub cellfacet-probe-operation-spec : {M : Type 1} → statement M
+cellfacet-probe-operation-spec =
+    tie.close
+    (tie.spec
+    (λ c κs. search needs)  -- writer-of-requires
+    (λ c κs. search needs)  -- operation-requires
+    (λ c κs. search needs)  -- numbers-of-requires
+    (λ c. search needs)  -- same-length
+    (λ c. step-told (λ w. addOperation w (c .before .before .before .before .before .before .before .before .before .args .buf .now) (c .before .before .before .before .before .before .before .before .before .args .bytes .now)) _ _ _ _ _ (c .before .before .before .before .before .writer-of .ensures) (c .before .before .before .operation .ensures) (c .numbers-of .ensures)))  -- returns

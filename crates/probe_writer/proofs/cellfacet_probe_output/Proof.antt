@@ -1,0 +1,16 @@
+-- `probe_writer::cellfacet_probe_output` meets its contract. Assumes nothing.
+use borrow.Author.Needs.{needs}
+use Rattle.writer.specs.Fields.{addOutput}
+use Rattle.probe_writer.proofs.Telling.{step-told}
+use Rattle.probe_writer.proofs.cellfacet_probe_output.Statement.{statement}
+use Rattle.probe_writer.proofs.cellfacet_probe_output.Tie as tie
+
+pub cellfacet-probe-output-spec : {M : Type 1} → statement M
+cellfacet-probe-output-spec =
+    tie.close
+    (tie.spec
+    (λ c κs. search needs)  -- writer-of-requires
+    (λ c κs. search needs)  -- output-requires
+    (λ c κs. search needs)  -- numbers-of-requires
+    (λ c. search needs)  -- same-length
+    (λ c. step-told (λ w. addOutput w (c .before .before .before .before .before .before .before .before .before .before .args .buf .now) (c .before .before .before .before .before .before .before .before .before .before .args .asset .now) (c .before .before .before .before .before .before .before .before .before .before .args .amount) (c .before .before .before .before .before .before .before .before .before .before .args .locktime) (c .before .before .before .before .before .before .before .before .before .before .args .threshold) (c .before .before .before .before .before .before .before .before .before .before .args .addresses .now)) _ _ _ _ _ (c .before .before .before .before .before .before .writer-of .ensures) (c .before .before .before .output .ensures) (c .numbers-of .ensures)))  -- returns

@@ -1,0 +1,2 @@
+-- What a test of the writer is answered
+pub mod Told

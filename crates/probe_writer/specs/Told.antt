@@ -1,0 +1,36 @@
+-- The writer's state as six numbers, and behind them a step's number and place. Assumes nothing.
+use Prim.Native.Nat.{ℕ, _%_}
+use mathlib.Core.List.{List, [], _∷_}
+use lib.ListN.{getD}
+use Rattle.writer.specs.declared.Writer.{Writer}
+use Rattle.writer.specs.declared.Step.{Step}
+use Rattle.writer.specs.declared.Written.{Written}
+use Rattle.writer.specs.declared.Written.the-variants as W
+use Rattle.writer.specs.Steps.{Turn}
+
+-- 0 type, 1 parts begun, 2 bytes written, 3 place of the open list's count, 4 its elements, 5 place of the last of them
+abbrev pub writerOf : List ℕ → Writer
+writerOf n =
+    record { kind = getD n 0 0 % 4294967296; phase = getD n 1 0 % 4294967296; at = getD n 2 0; list = getD n 3 0; count = getD n 4 0 % 4294967296; last = getD n 5 0 }
+
+abbrev pub numbersOf : Writer → ℕ → ℕ → List ℕ
+numbersOf w number place = w .kind ∷ w .phase ∷ w .at ∷ w .list ∷ w .count ∷ w .last ∷ number ∷ place ∷ []
+
+-- 6 number, 7 place
+abbrev pub toldAnswer : Writer → Written → List ℕ
+toldAnswer w (W.Done n) = numbersOf w 0 n
+toldAnswer w (W.Refused e) = numbersOf w (e .number) (e .place)
+
+abbrev pub told : Step → List ℕ
+told r = toldAnswer (r .next) (r .answer)
+
+-- the numbers and the buffer behind a step
+pub record Probed : Type 0 where
+  pub numbers : List ℕ
+  pub buffer : List ℕ
+
+abbrev pub probed : List ℕ → List ℕ → Probed
+probed n b = record { numbers = n; buffer = b }
+
+abbrev pub toldTurn : Turn → Probed
+toldTurn t = probed (told (t .step)) (t .buffer)
