@@ -357,8 +357,9 @@ fn altered_output(random: &mut Random, step: Step) -> Step {
 
 fn altered_bytes(random: &mut Random, mut bytes: Vec<u8>) -> Vec<u8> {
     match random.below(4) {
-        0 => bytes.truncate(random.below(bytes.len())),
+        0 => bytes.truncate(random.below(bytes.len() + 1)),
         1 => bytes.push(random.byte()),
+        _ if bytes.is_empty() => bytes.push(random.byte()),
         _ => {
             let place = random.below(bytes.len());
             bytes[place] = random.pick(&[0, 1, 7, 255]);
