@@ -323,8 +323,8 @@ fn altered(random: &mut Random, step: Step) -> Step {
         },
         Step::Operation(bytes) => Step::Operation(altered_bytes(random, bytes)),
         Step::State(mut bytes) if bytes.len() >= 20 && random.once_in(5) => {
-            // The amount of the first output, where it has one.
-            bytes[12..20].fill(0);
+            // The amount of the first output, or its payload's length behind the group.
+            bytes[12..20].fill(random.pick(&[0, 0xff]));
             Step::State(bytes)
         }
         Step::State(bytes) => Step::State(altered_bytes(random, bytes)),
