@@ -2,11 +2,11 @@
 use mathlib.Core.Path.{_≡_, refl, sym, ap, ap₂, _∙_}
 use mathlib.Core.Bool.{Bool, true, false, not}
 use mathlib.Core.Option.{Option, none, some}
-use mathlib.Core.List.{List, [], _++_, append-nil}
+use mathlib.Core.List.{List, _++_, append-nil}
 use Prim.Native.Nat.{ℕ, _+_, _≤_, _<_}
 use native.Mathlib.Omega.{arith}
 use lib.Dec.{leb, ltb, eqb}
-use borrow.Author.Tests.{le-leb, lt-leb, lt-ltb, le-ltb, eq-eqb, ne-eqb}
+use borrow.Author.Tests.{le-leb, lt-leb, eq-eqb, ne-eqb}
 use lib.ListN.{length, take, drop, getD, drop-of-length-le}
 use lib.Seq.{take-all, length-take-le}
 use Rattle.wire.specs.Bytes.{part, pick}
@@ -123,8 +123,6 @@ module _ (d e out : List ℕ) (x : Checked) (px : x ≡ checked d) where
               ap₂ (λ (i : ℕ) (s : List ℕ). (A.Done i, s ++ drop i out)) (sym k) (lent-merge u l h)
               ∙ decided d e out true true true none true (first .accepts) (second .accepts) same-bodies no-clash (le-leb (length d) (length out) room)
 
-pub ruleset merging = (merge-17, merge-18, merge-19, merge-20, merge-14, merge-0)
-
 -- ---- fill
 
 placed-at : (ps : List ℕ) (k p : ℕ) → placed ps k ≡ F.At p → (ltb k (length ps) ≡ true) × (getD ps k 0 ≡ p)
@@ -184,5 +182,3 @@ module _ (d : List ℕ) (k : ℕ) (s : List ℕ) (x : Checked) (px : x ≡ check
             ap₂ (λ (i : ℕ) (y : List ℕ). (A.Done i, y)) (draft .long)
             (h ∙ joined-put p s d (sixty-five (length s) l) ∙ ap (λ (i : ℕ). put i (join (slotAt d i) s) d) (sym (there .1)))
             ∙ settled d k s true true true false (draft .accepts) (there .0) (eq-eqb (length s) 65 l) (clash ∙ q)
-
-pub ruleset filling = (fill-17, fill-15, fill-21, fill-20, fill-0)

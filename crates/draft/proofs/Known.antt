@@ -1,5 +1,5 @@
 -- What is known of bytes once the check has answered. Assumes nothing.
-use mathlib.Core.Path.{_≡_, refl, sym, ap, ap₂, _∙_}
+use mathlib.Core.Path.{_≡_, sym, ap, _∙_}
 use mathlib.Core.Bool.{true, false}
 use mathlib.Core.List.{List}
 use Prim.Native.Nat.{ℕ, _-_}
@@ -9,7 +9,7 @@ use Rattle.wire.specs.Bytes.{part}
 use Rattle.wire.specs.declared.Refusal.{Refusal}
 use Rattle.wire.proofs.Bytes.{Slice, slice-bytes, found}
 use Rattle.transaction.specs.Slots.{Spaced}
-use Rattle.transaction.specs.Credentials.{layout, size}
+use Rattle.transaction.specs.Credentials.{layout}
 use Rattle.transaction.specs.Signed as Signed
 use Rattle.transaction.specs.Signed.{taken, endOf, Parts}
 use Rattle.transaction.specs.Family.{Unsigned, unsigned, wants}
@@ -18,7 +18,7 @@ use Rattle.transaction.specs.Answer.{memoMost, checked}
 use Rattle.transaction.specs.declared.Layout.{Layout}
 use Rattle.transaction.specs.declared.Checked.{Checked}
 use Rattle.transaction.specs.declared.Checked.the-variants as C
-use Rattle.transaction.proofs.Signed.{parts-took, check-of, read-body, slots-eq, unsigned-eq, length-eq, spaced-slots, same-unsigned}
+use Rattle.transaction.proofs.Signed.{parts-took, check-of, read-body, slots-eq, length-eq, spaced-slots, same-unsigned}
 use Rattle.transaction.proofs.Verdicts.{refused-check, checked-accepted, layout-credentials}
 use Rattle.slot.specs.Walk.{walk}
 use Rattle.draft.specs.Reader.{Reader, reader, body}

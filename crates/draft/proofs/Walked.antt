@@ -1,17 +1,17 @@
 -- In a transaction the walk by the counts that stand there meets exactly its slots. Of any unsigned format and any credentials wanted.
 -- Assumes nothing.
-use mathlib.Core.Path.{_≡_, refl, sym, ap, ap₂, _∙_, subst}
+use mathlib.Core.Path.{_≡_, refl, sym, ap, _∙_, subst}
 use mathlib.Core.List.{List, [], _∷_, _++_, append-assoc, append-nil}
 use Prim.Native.Nat.{ℕ, zero, suc, _+_, _*_}
 use native.Mathlib.Omega.{arith}
 use lib.ListN.{length, drop, length-append}
 use lib.Seq.{drop-at}
-use Rattle.wire.specs.Bytes.{Bytes, length-digits, bytes-append, drop-step}
+use Rattle.wire.specs.Bytes.{Bytes, bytes-append, drop-step}
 use Rattle.wire.specs.Format.{Format}
 use Rattle.wire.specs.Fields.{number, length-number, blob}
 use Rattle.transaction.specs.Slots.{signatureWidth}
 use Rattle.transaction.specs.Credentials.{Want, credentialCode, Piece, signatures, each, layout, pieces, credentials, places}
-use Rattle.transaction.specs.Signed.{slotsAt, assemble, Parts}
+use Rattle.transaction.specs.Signed.{assemble, Parts}
 use Rattle.slot.specs.Walk.{runAt, onRun, slotRun, walkFrom, walk}
 use Rattle.slot.specs.declared.Run.{Run}
 use Rattle.slot.specs.declared.Run.the-variants as R

@@ -76,10 +76,7 @@ join-second a b nc nb = elim (dec-same a blank) [ yes e ↦ join-blank a b e | n
     go n (yes e) = join-filled a b n ∙ e
     go n (no m) = absurd (nc (record { first = n; second = nb; differ = m }))
 
--- a slot joined with itself, or with an empty one
-pub join-self : (a : List ℕ) → join a a ≡ a
-join-self a = elim (join-one a a) [ inl e ↦ e | inr e ↦ e ]
-
+-- a slot joined with an empty one
 pub join-empty : (a : List ℕ) → join a blank ≡ a
 join-empty a = elim (dec-same a blank) [ yes e ↦ join-blank a blank e ∙ sym e | no n ↦ join-filled a blank n ]
 

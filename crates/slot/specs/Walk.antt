@@ -1,6 +1,6 @@
 -- The slots of a draft as code finds them, by the counts that stand in its credentials: in an accepted transaction they are its slots (`walked`,
 -- of draft/proofs). What is not wholly there has none. Assumes nothing.
-use mathlib.Core.Bool.{Bool, _&&_}
+use mathlib.Core.Bool.{_&&_}
 use mathlib.Core.Option.{Option, none, some}
 use mathlib.Core.List.{List, [], _∷_, _++_}
 use Prim.Native.Nat.{ℕ, zero, suc, _+_, _*_}

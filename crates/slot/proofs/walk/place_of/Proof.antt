@@ -1,7 +1,6 @@
 -- `slot::walk::place_of` meets its contract. The invariant: the slot among what is left is that of the whole. Assumes nothing.
-use mathlib.Core.Path.{_≡_, refl}
+use mathlib.Core.Path.{_≡_}
 use native.Mathlib.Omega.{arith}
-use lib.ListN.{length}
 use Rattle.slot.specs.Walk.{walk, walkFrom}
 use Rattle.slot.proofs.Walking.{run-inside, placeFrom, place-is, place-start, place-absent, placing-walk}
 use borrow.Author.Needs.{needs}
