@@ -4,15 +4,16 @@ use mathlib.Core.Path.{_≡_, refl, sym, ap, _∙_}
 use mathlib.Core.List.{List, [], _∷_, _++_, append-nil}
 use mathlib.Core.Bool.{Bool, true, false}
 use native.Mathlib.Omega.{arith}
+use native.Mathlib.Decide.{decLe}
 use native.Mathlib.Numerals.{add-one}
 use native.Mathlib.Nat.{pow-suc, pow-succ', pow-le-pow-right, lt-of-lt-of-le, mul-assoc, add-mul, add-assoc, zero-lt-suc, mod-lt, div-one, div-div-eq-div-mul, div-lt-iff-lt-mul, div-add-mod', le-refl}
 use lib.Arith.{mod-mul, digits-div, digits-mod}
 use lib.ListN.{length, getD, set, take, drop, drop-of-length-le, length-drop, length-append}
 use lib.Seq.{drop-cons, take-length, take-nil, take-all, take-suc, append-snoc, set-at, getD-drop, length-take-le}
-use lib.Dec.{ltb}
+use lib.Dec.{ltb, leb}
 use mir.Val.{Fits}
 use mir.Syntax.{w8}
-use borrow.Author.Tests.{lt-ltb, le-ltb, ltb-true, ltb-false}
+use borrow.Author.Tests.{lt-ltb, le-ltb, ltb-true, ltb-false, leb-true}
 use Rattle.wire.specs.declared.Order.{Order}
 use Rattle.wire.specs.declared.Order.the-variants.{Below, Equal, Above}
 use Rattle.wire.specs.Bytes.{Bytes, bytes-take, bytes-drop, pick, part, value, value-lt, digits, pow-positive, below}
@@ -122,6 +123,53 @@ module _ (a b : List ℕ) (i : ℕ) (y : Order) (w : orderFrom a b i ≡ y) wher
 
 pub ruleset comparing = (order-lt, order-gt, order-eq, order-longer, order-shorter, order-same)
 
+-- the same of `below` alone, where a test tells only that two bytes differ
+unfoldable pub belowFrom : List ℕ → List ℕ → ℕ → Bool
+belowFrom a b i = below (drop i a) (drop i b)
+
+pub below-all : (a b : List ℕ) → belowFrom a b 0 ≡ below a b
+unfolding belowFrom
+below-all a b = refl
+
+module _ (a b : List ℕ) (i : ℕ) (y : Bool) (w : belowFrom a b i ≡ y) where
+  pub below-differ : i < length a → i < length b → (getD a i 0 ≡ getD b i 0 → ⊥) → ltb (getD a i 0) (getD b i 0) ≡ y
+  unfolding below belowFrom
+  below-differ h k n = found (rw (drop-cons a i 0, drop-cons b i 0) (cases (ltb (getD a i 0) (getD b i 0)) refl)) w
+    where
+      cases : (t : Bool) → ltb (getD a i 0) (getD b i 0) ≡ t
+          → pick t true (pick (ltb (getD b i 0) (getD a i 0)) false (below (drop (suc i) a) (drop (suc i) b))) ≡ t
+      cases true e = refl
+      cases false e = rw (lt-ltb (getD b i 0) (getD a i 0) (other (ltb-false (getD a i 0) (getD b i 0) e)))
+        where
+          other : getD b i 0 ≤ getD a i 0 → getD b i 0 < getD a i 0
+          other l = apart (getD a i 0) (getD b i 0) l n
+            where
+              apart : (x y : ℕ) → y ≤ x → (x ≡ y → ⊥) → y < x
+              apart x y l n = elim (decLe (suc y) x) [ yes m ↦ m | no m ↦ absurd (n (omega arith)) ]
+
+  pub below-on : i < length a → i < length b → getD a i 0 ≡ getD b i 0 → belowFrom a b (i + 1) ≡ y
+  unfolding below belowFrom
+  below-on h k e =
+      found (rw (add-one, drop-cons a i 0, drop-cons b i 0, le-ltb (getD a i 0) (getD b i 0) (omega arith), le-ltb (getD b i 0) (getD a i 0) (omega arith))) w
+
+  pub below-longer : i < length a → length b ≤ i → false ≡ y
+  unfolding below belowFrom
+  below-longer h k = found (rw (drop-cons a i 0, drop-of-length-le b)) w
+
+  pub below-ended : length a ≤ i → ltb i (length b) ≡ y
+  unfolding below belowFrom
+  below-ended h = found (rw (drop-of-length-le a) (cases (ltb i (length b)) refl)) w
+    where
+      cases : (t : Bool) → ltb i (length b) ≡ t → below [] (drop i b) ≡ t
+      cases true e = rw (drop-cons b i 0 (ltb-true i (length b) e))
+      cases false e = rw (drop-of-length-le b (ltb-false i (length b) e))
+
+pub ruleset separating = (below-differ, below-on, below-longer, below-ended)
+
+-- what was compared, a and b, is p and q
+pub below-parts : (a b p q : List ℕ) (t : Bool) → t ≡ below a b → a ≡ p → b ≡ q → t ≡ below p q
+below-parts a b p q t h e f = rw (← e, ← f) h
+
 -- what a test on the order answers: t where both are equal
 abbrev pub orElse : Order → Bool → Bool
 orElse Below t = true
@@ -228,10 +276,11 @@ copy-some s z h =
     let o : length z ≤ length s = omega arith in
     rw (take-length (take (length z) s), n, drop-of-length-le z {i = length z} (le-refl (length z)), drop-of-length-le z {i = length s} o)
 
--- what is left, y, where z was filled with the bytes from at, of which there are enough, r
-pub copy-part : (s z y : List ℕ) (at r : ℕ) → y ≡ take (length z) (part at (at + length z) s) ++ drop (length (part at (at + length z) s)) z → r ≡ length s - at
-    → length z ≤ r → y ≡ take (length z) (drop at s)
-copy-part s z y at r e q h =
+-- what is left, y, where z was filled with the bytes from at, which are there
+pub copy-part : (s z y : List ℕ) (at : ℕ) (t : Bool) → y ≡ take (length z) (part at (at + length z) s) ++ drop (length (part at (at + length z) s)) z
+    → t ≡ leb (length z) (length s - at) → t ≡ true → y ≡ take (length z) (drop at s)
+copy-part s z y at t e q h =
+    let r : length z ≤ length s - at = leb-true (length z) (length s - at) (found q h) in
     let d : at + length z - at ≡ length z = omega arith in
     let n : length (take (length z) (drop at s)) ≡ length z = length-take-le (length z) (drop at s) (rw length-drop (omega arith)) in
     e ∙ rw (d, n, drop-of-length-le z {i = length z} (le-refl (length z)), append-nil) (take-all (length z) (take (length z) (drop at s)) (omega arith))

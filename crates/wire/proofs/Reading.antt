@@ -3,7 +3,7 @@
 -- the whole goal of a `return`, z ≡ (the reading), for any answer z; its premises are what a call ensures, what the match on its answer found,
 -- and the rest of the walk. The format, s and at are read off the goal; the answer x and its fields, off the context.
 -- Assumes nothing.
-use Prim.Native.Nat.{ℕ, zero, suc, _+_, _-_, _*_, _≤_, _<_}
+use Prim.Native.Nat.{ℕ, zero, suc, _+_, _-_, _*_, _^_, _≤_, _<_}
 use mathlib.Core.Path.{_≡_, refl, sym, ap, _∙_, subst}
 use mathlib.Core.List.{List, [], _∷_}
 use mathlib.Core.Bool.{Bool, true, false, not}
@@ -54,22 +54,32 @@ pub number-refused-inv : (o : Result ℕ) (e : Refusal) → onResult o N.Refused
 number-refused-inv (took v m) e q = let z : _≡_ {A = ℕ} 0 1 = cc in absurd (omega arith)
 number-refused-inv (refused d) e q = ap refused cc
 
--- ---- the leaves, where the code has compared the room, r, itself
+-- ---- the leaves, where the code has asked, with the answer t, whether the bytes are there
 
-module _ {R : Type 0} (k : ℕ) (s : List ℕ) (at : ℕ) (z : R) (stop : Refusal → R) (r : ℕ) where
-  pub blob-there : (go : List ℕ → ℕ → R) → r ≡ length s - at → k ≤ r → z ≡ go (take k (drop at s)) (at + k) → z ≡ blob k .run s at stop go
+pub room-there : (k n at : ℕ) (t : Bool) → t ≡ leb k (n - at) → t ≡ true → k ≤ n - at
+room-there k n at t p h = leb-true k (n - at) (found p h)
+
+-- so a place behind them is a number of 64 bits, and inside, where there are some
+pub room-fits : (k n at : ℕ) (t : Bool) → t ≡ leb k (n - at) → t ≡ true → n < 2 ^ 64 → at < 2 ^ 64 → at + k < 2 ^ 64
+room-fits k n at t p h i j = omega (arith, room-there k n at t p h)
+
+pub room-inside : (k n at : ℕ) (t : Bool) → t ≡ leb k (n - at) → t ≡ true → 0 < k → at + k ≤ n
+room-inside k n at t p h i = omega (arith, room-there k n at t p h)
+
+module _ {R : Type 0} (k : ℕ) (s : List ℕ) (at : ℕ) (z : R) (stop : Refusal → R) (t : Bool) where
+  pub blob-there : (go : List ℕ → ℕ → R) → t ≡ leb k (length s - at) → t ≡ true → z ≡ go (take k (drop at s)) (at + k) → z ≡ blob k .run s at stop go
   unfolding blob blobRun
-  blob-there go p h e = rw (le-leb k (length s - at) (rw p at h)) e
+  blob-there go p h e = rw (found p h) e
 
-  pub blob-cut : (go : List ℕ → ℕ → R) → r ≡ length s - at → r < k → (f : Refusal) → f ≡ cutAt k s at → z ≡ stop f → z ≡ blob k .run s at stop go
+  pub blob-cut : (go : List ℕ → ℕ → R) → t ≡ leb k (length s - at) → t ≡ false → (f : Refusal) → f ≡ cutAt k s at → z ≡ stop f → z ≡ blob k .run s at stop go
   unfolding blob blobRun
-  blob-cut go p h f g e = rw (lt-leb k (length s - at) (rw p at h)) (e ∙ ap stop g)
+  blob-cut go p h f g e = rw (found p h) (e ∙ ap stop g)
 
-  pub number-there : (go : ℕ → ℕ → R) (v : ℕ) → r ≡ length s - at → k ≤ r → v ≡ value (take k (drop at s)) → z ≡ go v (at + k) → z ≡ number k .run s at stop go
+  pub number-there : (go : ℕ → ℕ → R) (v : ℕ) → t ≡ leb k (length s - at) → t ≡ true → v ≡ value (take k (drop at s)) → z ≡ go v (at + k) → z ≡ number k .run s at stop go
   unfolding number
   number-there go v p h q e = blob-there (λ b m. go (value b) m) p h (e ∙ ap (λ u. go u (at + k)) q)
 
-  pub number-cut : (go : ℕ → ℕ → R) → r ≡ length s - at → r < k → (f : Refusal) → f ≡ cutAt k s at → z ≡ stop f → z ≡ number k .run s at stop go
+  pub number-cut : (go : ℕ → ℕ → R) → t ≡ leb k (length s - at) → t ≡ false → (f : Refusal) → f ≡ cutAt k s at → z ≡ stop f → z ≡ number k .run s at stop go
   unfolding number
   number-cut go p h f g e = blob-cut (λ b m. go (value b) m) p h f g e
 

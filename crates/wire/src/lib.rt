@@ -4,6 +4,7 @@ ghost use mathlib.Core.Path.{_≡_};
 ghost use Prim.Native.Nat.{_-_, _%_, _^_, _≤_, _<_};
 ghost use mathlib.Core.List.{_++_};
 ghost use lib.ListN.{length, take, drop};
+ghost use lib.Dec.{leb};
 ghost use Rattle.wire.specs.Bytes.{part, value, digits, below};
 ghost use Rattle.wire.specs.Numbers.{cutAt};
 ghost use Rattle.wire.specs.Fields.{blob, number};
@@ -47,23 +48,27 @@ pub fn cut(s: &[u8], at: usize, width: usize) -> Refusal
     }
 }
 
-// How many bytes there are from at on. A place past the end has none.
-fn ahead(s: &[u8], at: usize) -> usize
-    ensures { λ r. ⌜ r ≡ length (now (s .entry)) - at ⌝ }
+// Are there so many bytes from at on? None are there at any place. A field's width is a number that the compiler knows: of the fields behind one
+// another it tests only the first for the bytes being fewer than that.
+fn are_there(s: &[u8], at: usize, width: usize) -> bool
+    ensures { λ r. ⌜ r ≡ leb width (length (now (s .entry)) - at) ⌝ }
 {
-    if s.len() < at {
-        return 0;
+    if s.len() < width {
+        return false;
     }
-    s.len() - at
+    if s.len() - width < at {
+        return width == 0;
+    }
+    true
 }
 
 pub fn part_at(s: &[u8], at: usize, width: usize) -> Part
     ensures { λ r. ⌜ r ≡ ended (blob width) (now (s .entry)) at ⌝ }
 {
-    if ahead(s, at) < width {
-        return Part::Refused(cut(s, at, width));
+    if are_there(s, at, width) {
+        return Part::Next(at + width);
     }
-    Part::Next(at + width)
+    Part::Refused(cut(s, at, width))
 }
 
 // The number that width bytes make, all of which are there.
@@ -86,10 +91,10 @@ fn number_at(s: &[u8], at: usize, width: usize) -> Number
     requires { ⌜ width ≤ 8 ⌝ }
     ensures { λ r. ⌜ r ≡ valued (number width) (now (s .entry)) at ⌝ }
 {
-    if ahead(s, at) < width {
-        return Number::Refused(cut(s, at, width));
+    if are_there(s, at, width) {
+        return Number::Value(value_at(s, at, width), at + width);
     }
-    Number::Value(value_at(s, at, width), at + width)
+    Number::Refused(cut(s, at, width))
 }
 
 pub fn u8_at(s: &[u8], at: usize) -> Number
@@ -149,10 +154,9 @@ fn put_part(room: &mut [u8], s: &[u8], at: usize)
     requires { ⌜ 0 < length (now room) ⌝ }
     ensures { λ _. ⌜ now (room .exit) ≡ blob (length (now (room .entry))) .run (now (s .entry)) at (λ e. now (room .entry)) (λ b n. b) ⌝ }
 {
-    if ahead(s, at) < room.len() {
-        return;
+    if are_there(s, at, room.len()) {
+        put_bytes(room, &s[at..at + room.len()]);
     }
-    put_bytes(room, &s[at..at + room.len()]);
 }
 
 // The 32 bytes of an identifier, or zeros where they are not all there.
@@ -173,7 +177,7 @@ pub fn address_at(s: &[u8], at: usize) -> [u8; 20]
     address
 }
 
-// Every comparison goes through this one loop.
+// The order of bytes that are handed over by value.
 pub fn order_of(a: &[u8], b: &[u8]) -> Order
     ensures { λ r. ⌜ r ≡ order (now (a .entry)) (now (b .entry)) ⌝ }
 {
@@ -196,22 +200,37 @@ pub fn order_of(a: &[u8], b: &[u8]) -> Order
     Order::Equal
 }
 
-// Is a strictly below b?
+// Is a strictly below b? Of the bytes that are equal one test is made, not two: parts of the input can be long, and are told apart late.
 pub fn is_below(a: &[u8], b: &[u8]) -> bool
     ensures { λ r. ⌜ r ≡ below (now (a .entry)) (now (b .entry)) ⌝ }
 {
-    match order_of(a, b) {
-        Order::Below => true,
-        Order::Equal => false,
-        Order::Above => false,
+    let mut i: usize = 0;
+    while i < a.len() {
+        if b.len() <= i {
+            return false;
+        }
+        if a[i] != b[i] {
+            return a[i] < b[i];
+        }
+        i += 1;
     }
+    i < b.len()
 }
 
-// Are the bytes from a up to b strictly below those from c up to d?
-pub fn parts_below(s: &[u8], a: usize, b: usize, c: usize, d: usize) -> bool
-    ensures { λ r. ⌜ r ≡ below (part a b (now (s .entry))) (part c d (now (s .entry))) ⌝ }
+// Of two parts that stand next to each other, from a up to b and from b up to c: is the second strictly below the first?
+pub fn parts_below(s: &[u8], a: usize, b: usize, c: usize) -> bool
+    ensures { λ r. ⌜ r ≡ below (part b c (now (s .entry))) (part a b (now (s .entry))) ⌝ }
 {
-    is_below(between(s, a, b), between(s, c, d))
+    if s.len() < c {
+        return is_below(between(s, b, c), between(s, a, b));
+    }
+    if c < b {
+        return is_below(between(s, b, c), between(s, a, b));
+    }
+    if b < a {
+        return is_below(between(s, b, c), between(s, a, b));
+    }
+    is_below(&s[b..c], &s[a..b])
 }
 
 pub fn id_order(a: [u8; 32], b: [u8; 32]) -> Order
@@ -223,7 +242,11 @@ pub fn id_order(a: [u8; 32], b: [u8; 32]) -> Order
 pub fn address_below(a: [u8; 20], b: [u8; 20]) -> bool
     ensures { λ r. ⌜ r ≡ below a b ⌝ }
 {
-    is_below(&a, &b)
+    match order_of(&a, &b) {
+        Order::Below => true,
+        Order::Equal => false,
+        Order::Above => false,
+    }
 }
 
 // By identifier, then by index.

@@ -1,6 +1,6 @@
 -- `wire::number_at` meets its contract. Assumes nothing.
 use borrow.Author.Needs.{needs}
-use Rattle.wire.proofs.Reading.{leaf}
+use Rattle.wire.proofs.Reading.{leaf, room-there, room-fits}
 use Rattle.wire.proofs.number_at.Statement.{statement}
 use Rattle.wire.proofs.number_at.Tie as tie
 
@@ -8,9 +8,9 @@ pub number-at-spec : {M : Type 1} → statement M
 number-at-spec =
     tie.close
     (tie.spec
-    (λ c κs. search needs)  -- ahead-requires
-    (λ c κs. search needs)  -- cut-requires
+    (λ c κs. search needs)  -- are-there-requires
+    (λ c κs. search (needs, room-there))  -- value-at-requires
+    (λ c. search (needs, room-fits))  -- add-t6
     (λ c. search leaf)  -- returns
-    (λ c κs. search needs)  -- value-at-requires
-    (λ c. search needs)  -- add-t4
+    (λ c κs. search needs)  -- cut-requires
     (λ c. search leaf))  -- returns-2

@@ -2,7 +2,7 @@
 use mathlib.Core.Path.{refl}
 use borrow.Author.Needs.{needs}
 use Rattle.wire.proofs.Bytes.{copy-part}
-use Rattle.wire.proofs.Reading.{leaf, blob-cut}
+use Rattle.wire.proofs.Reading.{leaf, blob-cut, room-fits, room-inside}
 use Rattle.wire.proofs.put_part.Statement.{statement}
 use Rattle.wire.proofs.put_part.Tie as tie
 
@@ -10,12 +10,12 @@ pub put-part-spec : {M : Type 1} → statement M
 put-part-spec =
     tie.close
     (tie.spec
-    (λ c κs. search needs)  -- ahead-requires
-    (λ c. blob-cut _ _ _ _ _ _ _ (c .before .ahead .ensures) (c .if1 .taken) _ refl refl)  -- returns
-    (λ c. search needs)  -- add-put-bytes
+    (λ c κs. search needs)  -- are-there-requires
+    (λ c. search (needs, room-fits))  -- add-put-bytes
     (λ c. search needs)  -- sub-put-bytes
     (λ c. search needs)  -- part-put-bytes-start
-    (λ c. search needs)  -- part-put-bytes-end
+    (λ c. search (needs, room-inside))  -- part-put-bytes-end
     (λ c κs. search needs)  -- put-bytes-requires
     (λ c. search needs)  -- same-length
-    (λ c. search (leaf, copy-part)))  -- returns-2
+    (λ c. search (leaf, copy-part))  -- returns
+    (λ c. blob-cut _ _ _ _ _ _ _ (c .before .are-there .ensures) (c .if1 .left) _ refl refl))  -- returns-2
