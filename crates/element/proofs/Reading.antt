@@ -3,13 +3,13 @@
 --   answers          what the answer of a reader says of its format's reading: said once, for any answer
 --   fields, order    numbers and parts that were read; what code compares, and what the format compares
 --   lists            what is left of a list, by what code keeps of the element before
---   strings .. initial states    for each part of a transaction: the answer that its fields make (`..-made`), and how the reading of what holds
---                    it goes on from its answer (`on-..`, `on-..-refused`)
+--   strings .. initial states    for each part of a transaction: how the reading of what holds it goes on from its answer (`on-..`,
+--                    `on-..-refused`)
 --   rulesets         a chain up to a refusal, and one that went through to its end
 -- Assumes nothing.
 use Prim.Native.Nat.{ℕ, zero, suc, _+_, _-_, _*_, _^_, _≤_, _<_}
 use mathlib.Core.Path.{_≡_, refl, sym, ap, ap₂, _∙_}
-use mathlib.Core.Bool.{Bool, true, false}
+use mathlib.Core.Bool.{Bool, true, false, not}
 use mathlib.Core.List.{List, [], _∷_, _++_}
 use native.Mathlib.Omega.{arith}
 use native.Mathlib.Numerals.{add-one}
@@ -25,44 +25,21 @@ use Rattle.wire.specs.declared.Number.{Number}
 use Rattle.wire.specs.declared.Number.the-variants as N
 use Rattle.wire.specs.Bytes.{Bytes, digits, length-digits, below, pick, part}
 use Rattle.wire.specs.Format.{Format, Result, took, refused, onResult, read, Stands, stands-part, run-alike, run-alike-read}
-use Rattle.wire.specs.Numbers.{by, cutAt, notPrintable, unknownType}
+use Rattle.wire.specs.Numbers.{by, cutAt, notPrintable, unknownType, outOfOrder}
 use Rattle.wire.specs.Fields.{blob, number, length-number}
 use Rattle.wire.specs.Sequence.{guard, tag}
-use Rattle.wire.specs.Series.{items, listRun, left, increasing, nondecreasing, unordered, series, items-sized}
+use Rattle.wire.specs.Series.{items, listRun, left, notBelow, nondecreasing, series}
 use Rattle.wire.specs.Order.{keyBelow}
 use Rattle.wire.specs.Answer.{ended, valued, wholeAt}
 use Rattle.wire.proofs.Bytes.{Slice, slice-bytes, found, below-digits, key-below}
 use Rattle.wire.proofs.Orders.{empty-below}
 use Rattle.wire.proofs.Reading as W
 use Rattle.element.specs.Strings.{unprintable, unprintable-le, string}
-use Rattle.element.specs.Owners.{Owners, owners, ownersFields}
-use Rattle.element.specs.Outputs.{transferBody, OutputType, Output, output, TransferableOutput, transferableOutput}
+use Rattle.element.specs.Owners.{Owners, owners}
+use Rattle.element.specs.Outputs.{OutputType, Output, output, TransferableOutput, transferableOutput}
 use Rattle.element.specs.Inputs.{key, Input, spend, inputAfter, input}
-use Rattle.element.specs.Operations.{OperationType, mintNft, transferNft, operationCode, operationType, operationType-code, OperationOwners, operationOwners, terms, termsFields, recipients, action, Operation, operation, operationFields, Fx, secpFx, nftFx, fxCode, fxOf, fxOutputs, fxId, stateOutputs, InitialState, initialStateAfter, initialState}
-use Rattle.element.specs.Answer.{stringWhole, stringAt, ownersWhole, ownersAt, transferWhole, transferBodyAt, outputWhole, outputAt, transferableWhole, transferableAt, AllowedOutput, allowedOutput, allowedWhole, allowedAt, spendWhole, spendAt, termsWhole, termsAt, recipientsWhole, recipientsAt, actionWhole, actionAt, operationWhole, operationAt, askedWhole, askedByOperation}
-use Rattle.element.specs.declared.StringRead.{StringRead}
-use Rattle.element.specs.declared.StringRead.the-variants as S
-use Rattle.element.specs.declared.OwnersFields.{OwnersFields}
-use Rattle.element.specs.declared.OwnersRead.{OwnersRead}
-use Rattle.element.specs.declared.OwnersRead.the-variants as H
-use Rattle.element.specs.declared.OutputFields.{OutputFields}
-use Rattle.element.specs.declared.OutputFields.the-variants as F
-use Rattle.element.specs.declared.Allowed.{Allowed}
-use Rattle.element.specs.declared.OutputRead.{OutputRead}
-use Rattle.element.specs.declared.OutputRead.the-variants as O
-use Rattle.element.specs.declared.InputFields.{InputFields}
-use Rattle.element.specs.declared.InputRead.{InputRead}
-use Rattle.element.specs.declared.InputRead.the-variants as I
-use Rattle.element.specs.declared.TermsFields.{TermsFields}
-use Rattle.element.specs.declared.TermsRead.{TermsRead}
-use Rattle.element.specs.declared.TermsRead.the-variants as T
-use Rattle.element.specs.declared.Recipients.{Recipients}
-use Rattle.element.specs.declared.Recipients.the-variants as Q
-use Rattle.element.specs.declared.RecipientsRead.{RecipientsRead}
-use Rattle.element.specs.declared.RecipientsRead.the-variants as X
-use Rattle.element.specs.declared.OperationFields.{OperationFields}
-use Rattle.element.specs.declared.OperationRead.{OperationRead}
-use Rattle.element.specs.declared.OperationRead.the-variants as Y
+use Rattle.element.specs.Operations.{OperationType, mintNft, transferNft, operationCode, operationType, operationType-code, OperationOwners, operationOwners, terms, action, Operation, operation, Fx, secpFx, nftFx, fxCode, fxOf, fxOutputs, fxId, stateOutputs, InitialState, initialStateAfter, initialState}
+use Rattle.element.specs.Answer.{Terms, Action, termsAsk, askedByTerms, actionAsks, askedByAction, operationAsks, askedByOperation, inOrder}
 
 -- ---- answers: what an answer with a case for what is wholly read and one for a refusal says of the reading
 
@@ -230,30 +207,12 @@ module _ {A : Type 0} (G : List ℕ → Format A) (k : ℕ) (viewed : A → List
 
 -- ---- strings
 
--- a body that is wholly there
-pub string-made : (k : ℕ) (s : List ℕ) (at : ℕ) (x : Part) (n : ℕ) → x ≡ ended (blob k) s at → x ≡ P.Next n → Slice s
-    → S.Whole at k n ≡ S.Whole (n - length (part at n s)) (length (part at n s)) n
-string-made k s at x n p q b =
-    let (i, e) = part-read k s at x n p q b in
-    let j : n - k ≡ at = omega arith in
-    rw (i, j)
+module _ {R : Type 0} (most : ℕ) (s : List ℕ) (at : ℕ) (z : R) (stop : Refusal → R) (go : List ℕ → ℕ → R) (x : Part) where
+  pub on-string : (n : ℕ) → x ≡ ended (string 4 most) s at → x ≡ P.Next n → ((v : List ℕ) → z ≡ go v n) → z ≡ string 4 most .run s at stop go
+  on-string = W.ends (string 4 most) R s at z stop go x
 
-module _ {R : Type 0} (most : ℕ) (s : List ℕ) (at : ℕ) (z : R) (stop : Refusal → R) (go : List ℕ → ℕ → R) (x : StringRead) (p : x ≡ stringAt most s at) where
-  pub on-string : (f c n : ℕ) → x ≡ S.Whole f c n → ((v : List ℕ) → f ≡ n - length v → c ≡ length v → z ≡ go v n) → z ≡ string 4 most .run s at stop go
-  on-string f c n q e = on-whole (string 4 most) S.Refused stringWhole s at z stop go x p (S.Whole f c n) n q (λ d i. cc) (λ v m i. cc) (λ v i t. e v (cc) (cc))
-
-  pub on-string-refused : (e : Refusal) → x ≡ S.Refused e → z ≡ stop e → z ≡ string 4 most .run s at stop go
-  on-string-refused e q = on-refused (string 4 most) S.Refused stringWhole s at z stop go x p e q (λ v m i. cc) (λ d i. cc)
-
--- the same, with where the body starts
-pub on-string-next : {R : Type 0} (s : List ℕ) (at : ℕ) (z : R) (stop : Refusal → R) (b : Slice s) (most : ℕ) (go : List ℕ → ℕ → R) (x : StringRead) (f c n : ℕ)
-    → x ≡ stringAt most s at → x ≡ S.Whole f c n → ((v : List ℕ) → f ≡ at + 4 → f ≡ n - length v → c ≡ length v → z ≡ go v n) → z ≡ string 4 most .run s at stop go
-unfolding string blob
-on-string-next s at z stop b most go x f c n p q e =
-    on-whole (string 4 most) S.Refused stringWhole s at z stop go x p (S.Whole f c n) n q (λ d i. cc) (λ v m i. cc) (λ v i t.
-    let ef : f ≡ n - length v = cc in
-    let (g, h) = string 4 most .sound s at v n (slice-bytes s b) t in
-    e v (omega (arith, h .ends, length-append (number 4 .write (length v)) v, length-number 4 (length v))) ef (cc))
+  pub on-string-refused : (e : Refusal) → x ≡ ended (string 4 most) s at → x ≡ P.Refused e → z ≡ stop e → z ≡ string 4 most .run s at stop go
+  on-string-refused = W.stops (string 4 most) R s at z stop go x
 
 -- characters: what is left of the search for one that is not printable, from index i on
 unfoldable pub unprintableFrom : List ℕ → ℕ → ℕ
@@ -299,100 +258,90 @@ unprintable-fits s b a e u h k i j = omega (arith, k, unprintable-le b, ap lengt
 
 -- ---- owners
 
-pub owners-made : (l t c d p q n : ℕ) → p ≡ q → c ≡ d
-    → H.Whole record { locktime = l; threshold = t; «addresses_at» = p; «addresses_count» = c } n ≡ H.Whole record { locktime = l; threshold = t; «addresses_at» = q; «addresses_count» = d } n
-owners-made l t c d p q n e f = rw (e, f)
+module _ {R : Type 0} (s : List ℕ) (at : ℕ) (z : R) (stop : Refusal → R) (go : Owners → ℕ → R) (x : Part) where
+  pub on-owners : (n : ℕ) → x ≡ ended owners s at → x ≡ P.Next n → ((v : Owners) → z ≡ go v n) → z ≡ owners .run s at stop go
+  on-owners = W.ends owners R s at z stop go x
 
-module _ {R : Type 0} (s : List ℕ) (at : ℕ) (z : R) (stop : Refusal → R) (go : Owners → ℕ → R) (x : OwnersRead) (p : x ≡ ownersAt s at) where
-  pub on-owners : (w : OwnersFields) (n : ℕ) → x ≡ H.Whole w n → ((v : Owners) → w ≡ ownersFields n v → z ≡ go v n) → z ≡ owners .run s at stop go
-  on-owners w n q e = on-whole owners H.Refused ownersWhole s at z stop go x p (H.Whole w n) n q (λ d i. cc) (λ v m i. cc) (λ v i t. e v (cc))
-
-  pub on-owners-refused : (e : Refusal) → x ≡ H.Refused e → z ≡ stop e → z ≡ owners .run s at stop go
-  on-owners-refused e q = on-refused owners H.Refused ownersWhole s at z stop go x p e q (λ v m i. cc) (λ d i. cc)
-
--- so many owners, of no order
-pub on-owners-list : {R : Type 0} (c : ℕ) (s : List ℕ) (at : ℕ) (z : R) (stop : Refusal → R) (go : List Owners → ℕ → R) (x : Part) (n : ℕ)
-    → x ≡ ended (unordered owners c) s at → x ≡ P.Next n → Slice s → ((l : List Owners) → c ≡ length l → z ≡ go l n) → z ≡ unordered owners c .run s at stop go
-on-owners-list c s at z stop go x n p q b e =
-    let (l, t) = W.next-took (unordered owners c) s at x n p q in
-    e l (sym (items-sized (λ prev. owners) (left (λ prev. owners)) [] c l (unordered owners c .sound s at l n (slice-bytes s b) t .0)))
-    ∙ sym (W.run-took (unordered owners c) s at stop go l n t)
+  pub on-owners-refused : (e : Refusal) → x ≡ ended owners s at → x ≡ P.Refused e → z ≡ stop e → z ≡ owners .run s at stop go
+  on-owners-refused = W.stops owners R s at z stop go x
 
 -- ---- outputs
 
--- what is made of owners' numbers that are known to be equal
-pub mint-made : (w u : OwnersFields) (n : ℕ) → w ≡ u → O.Whole (F.SecpMint w) n ≡ O.Whole (F.SecpMint u) n
-mint-made w u n e = rw e
+module _ {R : Type 0} (s : List ℕ) (at : ℕ) (z : R) (stop : Refusal → R) (x : Part) where
+  module _ (go : TransferableOutput → ℕ → R) where
+    pub on-transferable : (n : ℕ) → x ≡ ended transferableOutput s at → x ≡ P.Next n → ((v : TransferableOutput) → z ≡ go v n) → z ≡ transferableOutput .run s at stop go
+    on-transferable = W.ends transferableOutput R s at z stop go x
 
-pub transfer-made : (a : ℕ) (w u : OwnersFields) (n : ℕ) → w ≡ u → O.Whole (F.SecpTransfer a w) n ≡ O.Whole (F.SecpTransfer a u) n
-transfer-made a w u n e = rw e
+    pub on-transferable-refused : (e : Refusal) → x ≡ ended transferableOutput s at → x ≡ P.Refused e → z ≡ stop e → z ≡ transferableOutput .run s at stop go
+    on-transferable-refused = W.stops transferableOutput R s at z stop go x
 
-pub nft-mint-made : (g : ℕ) (w u : OwnersFields) (n : ℕ) → w ≡ u → O.Whole (F.NftMint g w) n ≡ O.Whole (F.NftMint g u) n
-nft-mint-made g w u n e = rw e
+  module _ (types : List OutputType) (go : Output → ℕ → R) where
+    pub on-output : (n : ℕ) → x ≡ ended (output types) s at → x ≡ P.Next n → ((v : Output) → z ≡ go v n) → z ≡ output types .run s at stop go
+    on-output = W.ends (output types) R s at z stop go x
 
-pub nft-transfer-made : (at g p f c d k : ℕ) (w u : OwnersFields) (n : ℕ) → g ≡ at + 4 → p ≡ g + 4 → f ≡ p + 4 → c ≡ d → w ≡ u
-    → O.Whole (F.NftTransfer k f c w) n ≡ O.Whole (F.NftTransfer k (at + 12) d u) n
-nft-transfer-made at g p f c d k w u n hg hp hf e i = let j : f ≡ at + 12 = omega arith in rw (j, e, i)
+    pub on-output-refused : (e : Refusal) → x ≡ ended (output types) s at → x ≡ P.Refused e → z ≡ stop e → z ≡ output types .run s at stop go
+    on-output-refused = W.stops (output types) R s at z stop go x
 
-pub output-made : (f g : OutputFields) (n : ℕ) → f ≡ g → O.Whole f n ≡ O.Whole g n
-output-made f g n e = rw e
+-- what code answers for an element that is to be not below the one before is what the format of such an element does
+pub ordered-is : {A : Type 0} (F : Format A) (s : List ℕ) (prev at : ℕ) → Slice s → inOrder s prev at (ended F s at) ≡ ended (notBelow F (part prev at s)) s at
+unfolding guard
+ordered-is {A = A} F s prev at b =
+    ap (inOrder s prev at) (F .same s at P.Refused (λ v n. P.Next n))
+    ∙ cases (read F s at) refl
+    ∙ sym (F .same s at P.Refused (λ v n. pick (not (below (F .write v) (part prev at s))) (P.Next n) (P.Refused (by outOfOrder at))))
+  where
+    turned : (t : Bool) (x y : Part) → pick t x y ≡ pick (not t) y x
+    turned true x y = refl
+    turned false x y = refl
 
-module _ {R : Type 0} (s : List ℕ) (at : ℕ) (z : R) (stop : Refusal → R) (go : ℕ × Owners → ℕ → R) (x : OutputRead) (p : x ≡ transferBodyAt s at) where
-  pub on-transfer : (f : OutputFields) (n : ℕ) → x ≡ O.Whole f n → ((v : ℕ × Owners) → f ≡ F.SecpTransfer (v .0) (ownersFields n (v .1)) → z ≡ go v n)
-      → z ≡ transferBody .run s at stop go
-  on-transfer f n q e = on-whole transferBody O.Refused transferWhole s at z stop go x p (O.Whole f n) n q (λ d i. cc) (λ v m i. cc) (λ v i t. e v (cc))
+    cases : (o : Result A) → read F s at ≡ o
+        → inOrder s prev at (onResult o P.Refused (λ v n. P.Next n))
+        ≡ onResult o P.Refused (λ v n. pick (not (below (F .write v) (part prev at s))) (P.Next n) (P.Refused (by outOfOrder at)))
+    cases (took v n) e =
+        rw (stands-part s at (F .write v) n (F .sound s at v n (slice-bytes s b) e .1))
+        (turned (below (part at n s) (part prev at s)) (P.Refused (by outOfOrder at)) (P.Next n))
+    cases (refused e) q = refl
 
-  pub on-transfer-refused : (e : Refusal) → x ≡ O.Refused e → z ≡ stop e → z ≡ transferBody .run s at stop go
-  on-transfer-refused e q = on-refused transferBody O.Refused transferWhole s at z stop go x p e q (λ v m i. cc) (λ d i. cc)
+-- of a list of elements none of which is below the one before: x is what was read of F, y what is left of that by the order
+module _ {A R : Type 0} (F : Format A) (s : List ℕ) (prev at : ℕ) (z : R) (stop : Refusal → R) (go : A → ℕ → R) (x y : Part)
+    (p : x ≡ ended F s at) (q : y ≡ inOrder s prev at x) (b : Slice s) where
+  ordered-ended : y ≡ ended (notBelow F (part prev at s)) s at
+  ordered-ended = q ∙ ap (inOrder s prev at) p ∙ ordered-is F s prev at b
 
--- an output of a list: where its writing stands
-module _ {R : Type 0} (s : List ℕ) (at : ℕ) (z : R) (stop : Refusal → R) (x : OutputRead) where
-  module _ (go : TransferableOutput → ℕ → R) (p : x ≡ transferableAt s at) where
-    pub on-transferable : (f : OutputFields) (n : ℕ) → x ≡ O.Whole f n → Slice s → ((v : TransferableOutput) → Stands s at (transferableOutput .write v) n → z ≡ go v n)
-        → z ≡ transferableOutput .run s at stop go
-    on-transferable f n q b e =
-        on-whole transferableOutput O.Refused (transferableWhole at) s at z stop go x p (O.Whole f n) n q (λ d i. cc) (λ v m i. cc)
-        (λ v i t. e v (transferableOutput .sound s at v n (slice-bytes s b) t .1))
+  pub on-ordered : (n : ℕ) → y ≡ P.Next n → ((v : A) → Stands s at (notBelow F (part prev at s) .write v) n → z ≡ go v n)
+      → z ≡ notBelow F (part prev at s) .run s at stop go
+  on-ordered n h e =
+      let (v, t) = W.next-took (notBelow F (part prev at s)) s at y n ordered-ended h in
+      e v (notBelow F (part prev at s) .sound s at v n (slice-bytes s b) t .1) ∙ sym (W.run-took (notBelow F (part prev at s)) s at stop go v n t)
 
-    pub on-transferable-refused : (e : Refusal) → x ≡ O.Refused e → z ≡ stop e → z ≡ transferableOutput .run s at stop go
-    on-transferable-refused e q = on-refused transferableOutput O.Refused (transferableWhole at) s at z stop go x p e q (λ v m i. cc) (λ d i. cc)
+  pub on-disordered : (e : Refusal) → y ≡ P.Refused e → z ≡ stop e → z ≡ notBelow F (part prev at s) .run s at stop go
+  on-disordered e h r = W.stops (notBelow F (part prev at s)) R s at z stop go y e ordered-ended h r
 
-  module _ (types : List OutputType) (go : Output → ℕ → R) (p : x ≡ outputAt types s at) where
-    pub on-output : (f : OutputFields) (n : ℕ) → x ≡ O.Whole f n → Slice s → ((v : Output) → Stands s at (output types .write v) n → z ≡ go v n) → z ≡ output types .run s at stop go
-    on-output f n q b e =
-        on-whole (output types) O.Refused (outputWhole at) s at z stop go x p (O.Whole f n) n q (λ d i. cc) (λ v m i. cc)
-        (λ v i t. e v (output types .sound s at v n (slice-bytes s b) t .1))
+-- what was read, r, and what the code found of it
+module _ (s : List ℕ) (prev at : ℕ) (r : Part) (z : Part) where
+  pub not-read : (e : Refusal) → r ≡ P.Refused e → z ≡ P.Refused e → z ≡ inOrder s prev at r
+  not-read e h k = k ∙ sym (ap (inOrder s prev at) h)
 
-    pub on-output-refused : (e : Refusal) → x ≡ O.Refused e → z ≡ stop e → z ≡ output types .run s at stop go
-    on-output-refused e q = on-refused (output types) O.Refused (outputWhole at) s at z stop go x p e q (λ v m i. cc) (λ d i. cc)
+  module _ (n : ℕ) (h : r ≡ P.Next n) (t : Bool) (p : t ≡ below (part at n s) (part prev at s)) where
+    pub read-below : t ≡ true → z ≡ P.Refused (by outOfOrder at) → z ≡ inOrder s prev at r
+    read-below q k = rw (h, found p q) k
 
--- an output that a list takes
-pub by-allowed : (a b : Allowed) (s : List ℕ) (at : ℕ) (z : OutputRead) → a ≡ b → z ≡ allowedAt b s at → z ≡ allowedAt a s at
-by-allowed a b s at z h e = rw h e
+    pub read-not-below : t ≡ false → z ≡ P.Next n → z ≡ inOrder s prev at r
+    read-not-below q k = rw (h, found p q) k
 
-module _ {R : Type 0} (a : Allowed) (s : List ℕ) (at : ℕ) (z : R) (stop : Refusal → R) (go : AllowedOutput a → ℕ → R) (x : OutputRead) (p : x ≡ allowedAt a s at) where
-  pub on-allowed : (f : OutputFields) (n : ℕ) → x ≡ O.Whole f n → Slice s → ((v : AllowedOutput a) → Stands s at (allowedOutput a .write v) n → z ≡ go v n)
-      → z ≡ allowedOutput a .run s at stop go
-  on-allowed f n q b e =
-      on-whole (allowedOutput a) O.Refused (allowedWhole a at) s at z stop go x p (O.Whole f n) n q (λ d i. cc) (λ v m i. cc)
-      (λ v i t. e v (allowedOutput a .sound s at v n (slice-bytes s b) t .1))
+pub ruleset comparing = (not-read, read-below, read-not-below)
 
-  pub on-allowed-refused : (e : Refusal) → x ≡ O.Refused e → z ≡ stop e → z ≡ allowedOutput a .run s at stop go
-  on-allowed-refused e q = on-refused (allowedOutput a) O.Refused (allowedWhole a at) s at z stop go x p e q (λ v m i. cc) (λ d i. cc)
+pub ruleset ordering = (W.list-on, W.list-again, on-ordered, on-disordered)
 
 -- ---- inputs
 
 -- an input behind its key
-pub input-made : (i a c d p q n : ℕ) → p ≡ q → c ≡ d
-    → I.Whole record { index = i; amount = a; «indices_at» = p; «indices_count» = c } n ≡ I.Whole record { index = i; amount = a; «indices_at» = q; «indices_count» = d } n
-input-made i a c d p q n e f = rw (e, f)
+module _ {R : Type 0} (s : List ℕ) (at : ℕ) (z : R) (stop : Refusal → R) (go : List ℕ × (Unit {0} × (ℕ × List ℕ)) → ℕ → R) (x : Part) where
+  pub on-spend : (n : ℕ) → x ≡ ended spend s at → x ≡ P.Next n → ((v : List ℕ × (Unit {0} × (ℕ × List ℕ))) → z ≡ go v n) → z ≡ spend .run s at stop go
+  on-spend = W.ends spend R s at z stop go x
 
-module _ {R : Type 0} (index : ℕ) (s : List ℕ) (at : ℕ) (z : R) (stop : Refusal → R) (go : List ℕ × (Unit {0} × (ℕ × List ℕ)) → ℕ → R) (x : InputRead) (p : x ≡ spendAt index s at) where
-  pub on-spend : (f : InputFields) (n : ℕ) → x ≡ I.Whole f n → ((v : List ℕ × (Unit {0} × (ℕ × List ℕ))) → z ≡ go v n) → z ≡ spend .run s at stop go
-  on-spend f n q e = on-whole spend I.Refused (spendWhole index) s at z stop go x p (I.Whole f n) n q (λ d i. cc) (λ v m i. cc) (λ v i t. e v)
-
-  pub on-spend-refused : (e : Refusal) → x ≡ I.Refused e → z ≡ stop e → z ≡ spend .run s at stop go
-  on-spend-refused e q = on-refused spend I.Refused (spendWhole index) s at z stop go x p e q (λ v m i. cc) (λ d i. cc)
+  pub on-spend-refused : (e : Refusal) → x ≡ ended spend s at → x ≡ P.Refused e → z ≡ stop e → z ≡ spend .run s at stop go
+  on-spend-refused = W.stops spend R s at z stop go x
 
 pub key-wide : (v : List ℕ × ℕ) → key .Good v → length (key .write v) ≡ 36
 unfolding key number blob
@@ -414,53 +363,30 @@ inputs-are s b n at = items-viewed inputAfter 36 inputKey input-front s (slice-b
 
 -- ---- operations
 
--- the (id, index) pairs: how many, and where they begin
-module _ {R : Type 0} (c : ℕ) (s : List ℕ) (at : ℕ) (z : R) (stop : Refusal → R) (x : Part) where
-  pub on-keys : (go : List (List ℕ × ℕ) → ℕ → R) (n : ℕ) → x ≡ ended (increasing key c) s at → x ≡ P.Next n → Slice s
-      → ((l : List (List ℕ × ℕ)) → c ≡ length l → n ≡ at + 36 * length l → z ≡ go l n) → z ≡ increasing key c .run s at stop go
-  on-keys go n p q b e =
-      let (l, h, i, t) = W.wide-list key 36 key-wide c s at n b x p q in
-      e l h i ∙ sym (W.run-took (increasing key c) s at stop go l n t)
+pub value-made : (c d n : ℕ) → c ≡ d → N.Value c n ≡ N.Value d n
+value-made c d n e = rw e
 
-pub terms-made : (at i c d g p q l m n : ℕ) → i ≡ at + 4 → c ≡ d → p ≡ q → l ≡ m
-    → T.Whole record { «indices_at» = i; «indices_count» = c; group = g; «payload_at» = p; «payload_length» = l } n
-    ≡ T.Whole record { «indices_at» = at + 4; «indices_count» = d; group = g; «payload_at» = q; «payload_length» = m } n
-terms-made at i c d g p q l m n e f h k = rw (e, f, h, k)
+module _ {R : Type 0} (s : List ℕ) (at : ℕ) (z : R) (stop : Refusal → R) (go : Terms → ℕ → R) (x : Number) (p : x ≡ askedByTerms s at) where
+  pub on-terms : (c n : ℕ) → x ≡ N.Value c n → ((v : Terms) → c ≡ length (v .0) → z ≡ go v n) → z ≡ terms .run s at stop go
+  on-terms c n q e = on-whole terms N.Refused termsAsk s at z stop go x p (N.Value c n) n q (λ d i. cc) (λ v m i. cc) (λ v i t. e v (cc))
 
-abbrev Terms : Type 0
-Terms = List ℕ × (ℕ × List ℕ)
-
-module _ {R : Type 0} (s : List ℕ) (at : ℕ) (z : R) (stop : Refusal → R) (go : Terms → ℕ → R) (x : TermsRead) (p : x ≡ termsAt s at) where
-  pub on-terms : (w : TermsFields) (n : ℕ) → x ≡ T.Whole w n → Slice s → ((v : Terms) → w ≡ termsFields at n v → n ≡ at + length (terms .write v) → z ≡ go v n)
-      → z ≡ terms .run s at stop go
-  on-terms w n q b e =
-      on-whole terms T.Refused (termsWhole at) s at z stop go x p (T.Whole w n) n q (λ d i. cc) (λ v m i. cc)
-      (λ v i t. e v (cc) (terms .sound s at v n (slice-bytes s b) t .1 .ends))
-
-  pub on-terms-refused : (e : Refusal) → x ≡ T.Refused e → z ≡ stop e → z ≡ terms .run s at stop go
-  on-terms-refused e q = on-refused terms T.Refused (termsWhole at) s at z stop go x p e q (λ v m i. cc) (λ d i. cc)
+  pub on-terms-refused : (e : Refusal) → x ≡ N.Refused e → z ≡ stop e → z ≡ terms .run s at stop go
+  on-terms-refused e q = on-refused terms N.Refused termsAsk s at z stop go x p e q (λ v m i. cc) (λ d i. cc)
 
 -- behind the terms: what the type has
-module _ (kind : ℕ) (s : List ℕ) (at : ℕ) (z : RecipientsRead) where
-  pub if-mint : kind ≡ 12 → z ≡ recipientsAt mintNft s at → z ≡ recipientsAt (operationType kind) s at
+module _ (kind : ℕ) (s : List ℕ) (at : ℕ) (z : Part) where
+  pub if-mint : kind ≡ 12 → z ≡ ended (operationOwners mintNft) s at → z ≡ ended (operationOwners (operationType kind)) s at
   if-mint h e = rw h e
 
-  pub if-transfer : (kind ≡ 12 → ⊥) → z ≡ recipientsAt transferNft s at → z ≡ recipientsAt (operationType kind) s at
+  pub if-transfer : (kind ≡ 12 → ⊥) → z ≡ ended owners s at → z ≡ ended (operationOwners (operationType kind)) s at
   if-transfer h e = rw (ne-eqb kind 12 h) e
 
-pub mint-recipients-made : (f at c d n : ℕ) → f ≡ at + 4 → c ≡ d → X.Whole (Q.Mint f c) n ≡ X.Whole (Q.Mint (at + 4) d) n
-mint-recipients-made f at c d n e g = rw (e, g)
+module _ {R : Type 0} (k : OperationType) (s : List ℕ) (at : ℕ) (z : R) (stop : Refusal → R) (go : OperationOwners k → ℕ → R) (x : Part) where
+  pub on-recipients : (n : ℕ) → x ≡ ended (operationOwners k) s at → x ≡ P.Next n → ((v : OperationOwners k) → z ≡ go v n) → z ≡ operationOwners k .run s at stop go
+  on-recipients = W.ends (operationOwners k) R s at z stop go x
 
-pub transfer-recipients-made : (w u : OwnersFields) (n : ℕ) → w ≡ u → X.Whole (Q.Transfer w) n ≡ X.Whole (Q.Transfer u) n
-transfer-recipients-made w u n e = rw e
-
-module _ {R : Type 0} (k : OperationType) (s : List ℕ) (at : ℕ) (z : R) (stop : Refusal → R) (go : OperationOwners k → ℕ → R) (x : RecipientsRead) (p : x ≡ recipientsAt k s at) where
-  pub on-recipients : (w : Recipients) (n : ℕ) → x ≡ X.Whole w n → ((v : OperationOwners k) → w ≡ recipients (at + 4) n (k, v) → z ≡ go v n) → z ≡ operationOwners k .run s at stop go
-  on-recipients w n q e =
-      on-whole (operationOwners k) X.Refused (recipientsWhole k at) s at z stop go x p (X.Whole w n) n q (λ d i. cc) (λ v m i. cc) (λ v i t. e v (cc))
-
-  pub on-recipients-refused : (e : Refusal) → x ≡ X.Refused e → z ≡ stop e → z ≡ operationOwners k .run s at stop go
-  on-recipients-refused e q = on-refused (operationOwners k) X.Refused (recipientsWhole k at) s at z stop go x p e q (λ v m i. cc) (λ d i. cc)
+  pub on-recipients-refused : (e : Refusal) → x ≡ ended (operationOwners k) s at → x ≡ P.Refused e → z ≡ stop e → z ≡ operationOwners k .run s at stop go
+  on-recipients-refused = W.stops (operationOwners k) R s at z stop go x
 
 -- the type of an operation, where the code has compared it with 12 and 13
 abbrev operationTag : Format OperationType
@@ -480,9 +406,9 @@ operation-known v go y h i = cases (ltb v 13) refl
     cases false e = rw (ne-eqb v 12 (λ j. omega (arith, ltb-false v 13 e)), eq-eqb v 13 (omega (arith, ltb-false v 13 e)))
 
 module _ {R : Type 0} (s : List ℕ) (at : ℕ) (z : R) (stop : Refusal → R) (go : OperationType → ℕ → R) (x : Number) (p : x ≡ valued (number 4) s at) where
-  pub on-operation-type : (v n : ℕ) → x ≡ N.Value v n → Slice s → 12 ≤ v → v ≤ 13 → (n ≡ at + 4 → z ≡ go (operationType v) n) → z ≡ operationTag .run s at stop go
-  on-operation-type v n q b h i e =
-      W.on-value 4 s at z stop _ x v n p q (e (value-next 4 s at x v n p q b) ∙ sym (operation-known v (λ k. go k n) (stop (by unknownType at)) h i)) ∙ sym (operation-type-run s at stop go)
+  pub on-operation-type : (v n : ℕ) → x ≡ N.Value v n → 12 ≤ v → v ≤ 13 → z ≡ go (operationType v) n → z ≡ operationTag .run s at stop go
+  on-operation-type v n q h i e =
+      W.on-value 4 s at z stop _ x v n p q (e ∙ sym (operation-known v (λ k. go k n) (stop (by unknownType at)) h i)) ∙ sym (operation-type-run s at stop go)
 
   pub on-operation-type-below : (v n : ℕ) → x ≡ N.Value v n → v < 12 → z ≡ stop (by unknownType at) → z ≡ operationTag .run s at stop go
   on-operation-type-below v n q h e =
@@ -495,52 +421,12 @@ module _ {R : Type 0} (s : List ℕ) (at : ℕ) (z : R) (stop : Refusal → R) (
   pub on-operation-type-short : (e : Refusal) → x ≡ N.Refused e → (f : Refusal) → f ≡ cutAt 4 s at → z ≡ stop f → z ≡ operationTag .run s at stop go
   on-operation-type-short e q f g r = W.on-short 4 s at z stop _ x e p q f g r ∙ sym (operation-type-run s at stop go)
 
--- what follows the pairs: type, terms, and what the type has
-module _ (place count at i o : ℕ) (v : Terms) (w : TermsFields) (n : ℕ) (hi : i ≡ at + 4) (hw : w ≡ termsFields i o v) (ho : o ≡ i + length (terms .write v)) where
-  same-end : o ≡ at + 4 + length (terms .write v)
-  same-end = ho ∙ ap (λ j. j + length (terms .write v)) hi
-
-  same-terms : w ≡ termsFields (at + 4) (at + 4 + length (terms .write v)) v
-  same-terms = hw ∙ ap₂ (λ j k. termsFields j k v) hi same-end
-
-  pub operation-made : (k : OperationType) (y : OperationOwners k) (u : Recipients) → u ≡ recipients (o + 4) n (k, y)
-      → Y.Whole record { «outputs_at» = place; «outputs_count» = count; terms = w; recipients = u } n ≡ actionWhole place count at (k, (v, y)) n
-  operation-made k y u e = rw (same-terms, e, same-end)
-
--- the same, seen from the operation's start (its asset id is none of its fields)
-abbrev Action : Type 0
-Action = (k : OperationType) × (Terms × OperationOwners k)
-
-pub action-made : (place count at t q : ℕ) (asset : List ℕ) (l : List (List ℕ × ℕ)) (v : Action) (n : ℕ) → q ≡ at + 32 → place ≡ q + 4 → count ≡ length l → t ≡ place + 36 * length l
-    → actionWhole place count t v n ≡ operationWhole at record { asset = asset; outputs = l; terms = v .1 .0; owners = (v .0, v .1 .1) } n
-action-made place count at t q asset l v n hq hp hc ht =
-    let ep : place ≡ at + 36 = omega arith in
-    let et : t + 4 ≡ at + 36 + 36 * length l + 4 = omega arith in
-    rw (et, ep, hc)
-
-pub on-action : (s : List ℕ) (place count t : ℕ) (x : OperationRead) (go : Action → ℕ → OperationRead) → x ≡ actionAt place count s t
-    → ((v : Action) (n : ℕ) → actionWhole place count t v n ≡ go v n) → x ≡ action .run s t Y.Refused go
-on-action s place count t x go p e = p ∙ run-alike action s t Y.Refused _ _ e
-
 module _ {R : Type 0} (s : List ℕ) (at : ℕ) (z : R) (stop : Refusal → R) (go : Operation → ℕ → R) (x : Number) (p : x ≡ askedByOperation s at) where
   pub on-asked : (c n : ℕ) → x ≡ N.Value c n → ((v : Operation) → c ≡ length (v .terms .0) → z ≡ go v n) → z ≡ operation .run s at stop go
-  on-asked c n q e = on-whole operation N.Refused askedWhole s at z stop go x p (N.Value c n) n q (λ d i. cc) (λ v m i. cc) (λ v i t. e v (cc))
+  on-asked c n q e = on-whole operation N.Refused operationAsks s at z stop go x p (N.Value c n) n q (λ d i. cc) (λ v m i. cc) (λ v i t. e v (cc))
 
   pub on-asked-refused : (e : Refusal) → x ≡ N.Refused e → z ≡ stop e → z ≡ operation .run s at stop go
-  on-asked-refused e q = on-refused operation N.Refused askedWhole s at z stop go x p e q (λ v m i. cc) (λ d i. cc)
-
-pub asked-made : (at n : ℕ) (f : OperationFields) (v : Operation) → f ≡ operationFields at n v → N.Value (f .terms .«indices_count») n ≡ N.Value (length (v .terms .0)) n
-asked-made at n f v e = rw e
-
-module _ {R : Type 0} (s : List ℕ) (at : ℕ) (z : R) (stop : Refusal → R) (go : Operation → ℕ → R) (x : OperationRead) (p : x ≡ operationAt s at) where
-  pub on-operation-fields : (f : OperationFields) (n : ℕ) → x ≡ Y.Whole f n → ((v : Operation) → f ≡ operationFields at n v → z ≡ go v n) → z ≡ operation .run s at stop go
-  on-operation-fields f n q e = on-whole operation Y.Refused (operationWhole at) s at z stop go x p (Y.Whole f n) n q (λ d i. cc) (λ v m i. cc) (λ v i t. e v (cc))
-
-  pub on-operation : (f : OperationFields) (n : ℕ) → x ≡ Y.Whole f n → ((v : Operation) → z ≡ go v n) → z ≡ operation .run s at stop go
-  on-operation f n q e = on-whole operation Y.Refused (operationWhole at) s at z stop go x p (Y.Whole f n) n q (λ d i. cc) (λ v m i. cc) (λ v i t. e v)
-
-  pub on-operation-refused : (e : Refusal) → x ≡ Y.Refused e → z ≡ stop e → z ≡ operation .run s at stop go
-  on-operation-refused e q = on-refused operation Y.Refused (operationWhole at) s at z stop go x p e q (λ v m i. cc) (λ d i. cc)
+  on-asked-refused e q = on-refused operation N.Refused operationAsks s at z stop go x p e q (λ v m i. cc) (λ d i. cc)
 
 -- ---- initial states
 
@@ -615,17 +501,11 @@ module _ {R : Type 0} (k : Fx) (s : List ℕ) (at : ℕ) (z : R) (stop : Refusal
   pub on-state-outputs-refused : (e : Refusal) → x ≡ ended (stateOutputs k) s at → x ≡ P.Refused e → z ≡ stop e → z ≡ stateOutputs k .run s at stop go
   on-state-outputs-refused e p q r = W.stops (stateOutputs k) R s at z stop go x e p q r
 
--- ---- rulesets: a chain up to a refusal, and one that went through to its end
+-- ---- rulesets: a chain up to a refusal or to an answer that is handed up, and one that went through to its end
 
-pub ruleset reading = (W.on-value, W.on-short, W.on-part, W.on-cut, W.on-part-refused, W.on-list, W.on-list-refused, W.tests, on-owners-refused, on-string-refused, on-transfer-refused)
+pub ruleset reading = (W.on-value, W.on-short, W.on-part, W.on-cut, W.on-part-refused, W.on-list, W.on-list-refused, W.tests, on-owners, on-owners-refused, on-string, on-string-refused)
 
-pub ruleset wholly = (W.on-value, W.on-part, W.on-parts, W.on-numbers, W.tests, string-made, on-string, on-owners, on-transfer, owners-made, input-made, mint-made, transfer-made, nft-mint-made, output-made)
-
--- the same, where places are counted from the start
-pub ruleset placed = (on-value-next, on-part-next, W.on-numbers, W.if-eq, W.if-ne, on-string-next, on-owners, nft-transfer-made, terms-made)
+pub ruleset wholly = (W.on-value, W.on-part, W.on-parts, W.on-numbers, W.tests, on-string, on-owners, value-made)
 
 -- an operation behind its pairs
-pub ruleset acting = (on-operation-type, on-operation-type-below, on-operation-type-above, on-operation-type-short, on-terms, on-terms-refused, on-recipients, on-recipients-refused, operation-made)
-
--- behind its terms
-pub ruleset receiving = (on-value-next, W.on-short, on-owners-list, W.on-list-refused, on-owners, on-owners-refused, mint-recipients-made, transfer-recipients-made)
+pub ruleset acting = (on-operation-type, on-operation-type-below, on-operation-type-above, on-operation-type-short, on-terms, on-terms-refused, on-recipients, on-recipients-refused, value-made)

@@ -3,10 +3,8 @@ ghost use mathlib.Core.Path.{_≡_};
 ghost use Rattle.wire.specs.Fields.{number};
 ghost use Rattle.wire.specs.Series.{increasing, series};
 ghost use Rattle.wire.specs.Answer.{ended};
-ghost use Rattle.element.specs.Inputs.{input};
-ghost use Rattle.element.specs.Answer.{numberFollows, keyFollows, spendAt};
-use crate::InputFields;
-use crate::InputRead;
+ghost use Rattle.element.specs.Inputs.{input, spend};
+ghost use Rattle.element.specs.Answer.{numberFollows, keyFollows};
 use wire::Number;
 use wire::Part;
 use wire::Refusal;
@@ -59,45 +57,34 @@ pub fn indices_from(s: &[u8], start: usize, count: u64) -> Part
 }
 
 // What follows an input's key: asset id, type 5, amount, address indices.
-pub fn spend_at(s: &[u8], at: usize, index: u64) -> InputRead
-    ensures { λ r. ⌜ r ≡ spendAt index (now (s .entry)) at ⌝ }
+pub fn spend_at(s: &[u8], at: usize) -> Part
+    ensures { λ r. ⌜ r ≡ ended spend (now (s .entry)) at ⌝ }
 {
     let Part::Next(k) = wire::part_at(s, at, 32) else {
-        return InputRead::Refused(wire::cut(s, at, 32));
+        return Part::Refused(wire::cut(s, at, 32));
     };
     let Number::Value(kind, a) = wire::u32_at(s, k) else {
-        return InputRead::Refused(wire::cut(s, k, 4));
+        return Part::Refused(wire::cut(s, k, 4));
     };
     if kind != 5 {
-        return InputRead::Refused(Refusal {
+        return Part::Refused(Refusal {
             number: wire::numbers::UNKNOWN_TYPE,
             place: k,
         });
     }
     let Number::Value(amount, n) = wire::u64_at(s, a) else {
-        return InputRead::Refused(wire::cut(s, a, 8));
+        return Part::Refused(wire::cut(s, a, 8));
     };
     if amount == 0 {
-        return InputRead::Refused(Refusal {
+        return Part::Refused(Refusal {
             number: wire::numbers::ZERO_AMOUNT,
             place: a,
         });
     }
-    let Number::Value(indices_count, indices_at) = wire::u32_at(s, n) else {
-        return InputRead::Refused(wire::cut(s, n, 4));
+    let Number::Value(count, first) = wire::u32_at(s, n) else {
+        return Part::Refused(wire::cut(s, n, 4));
     };
-    match indices_from(s, indices_at, indices_count) {
-        Part::Next(next) => InputRead::Whole(
-            InputFields {
-                index,
-                amount,
-                indices_at,
-                indices_count,
-            },
-            next,
-        ),
-        Part::Refused(refusal) => InputRead::Refused(refusal),
-    }
+    indices_from(s, first, count)
 }
 
 // So many inputs from start.
@@ -118,11 +105,11 @@ pub fn inputs_from(s: &[u8], start: usize, count: u64) -> Part
             return Part::Refused(wire::cut(s, i, 4));
         };
         if key_follows(any, prev, last, id, index) {
-            match spend_at(s, e, index) {
-                InputRead::Refused(refusal) => {
+            match spend_at(s, e) {
+                Part::Refused(refusal) => {
                     return Part::Refused(refusal);
                 }
-                InputRead::Whole(_, next) => {
+                Part::Next(next) => {
                     any = true;
                     prev = id;
                     last = index;

@@ -6,25 +6,12 @@ pub mod outputs;
 pub mod owners;
 pub mod strings;
 
-use wire::Refusal;
-
-// A string that is wholly there: its first byte's place, its length, and the place behind it.
-pub enum StringRead {
-    Whole(usize, u64, usize),
-    Refused(Refusal),
-}
-
 // The numbers of an owners part: its addresses are addresses_count times 20 bytes from addresses_at on.
 pub struct OwnersFields {
     pub locktime: u64,
     pub threshold: u64,
     pub addresses_at: usize,
     pub addresses_count: u64,
-}
-
-pub enum OwnersRead {
-    Whole(OwnersFields, usize),
-    Refused(Refusal),
 }
 
 // An output's own fields, by its type: 6, 7, 10 and 11.
@@ -46,18 +33,6 @@ pub enum OutputFields {
     },
 }
 
-pub enum OutputRead {
-    Whole(OutputFields, usize),
-    Refused(Refusal),
-}
-
-// Which outputs a list takes: transferable ones, or those of an FxID.
-pub enum Allowed {
-    Transferable,
-    Secp,
-    Nft,
-}
-
 // An input's fields beside its identifiers.
 pub struct InputFields {
     pub index: u64,
@@ -66,20 +41,10 @@ pub struct InputFields {
     pub indices_count: u64,
 }
 
-pub enum InputRead {
-    Whole(InputFields, usize),
-    Refused(Refusal),
-}
-
 // Who receives what an operation makes: a mint (12) has a list of owners, a transfer (13) has owners.
 pub enum Recipients {
     Mint { owners_at: usize, owners_count: u64 },
     Transfer(OwnersFields),
-}
-
-pub enum RecipientsRead {
-    Whole(Recipients, usize),
-    Refused(Refusal),
 }
 
 // What an operation says of its outputs: who may sign, the group and the payload.
@@ -91,11 +56,6 @@ pub struct TermsFields {
     pub payload_length: u64,
 }
 
-pub enum TermsRead {
-    Whole(TermsFields, usize),
-    Refused(Refusal),
-}
-
 // An operation's fields beside its asset id.
 pub struct OperationFields {
     pub outputs_at: usize,
@@ -104,7 +64,3 @@ pub struct OperationFields {
     pub recipients: Recipients,
 }
 
-pub enum OperationRead {
-    Whole(OperationFields, usize),
-    Refused(Refusal),
-}

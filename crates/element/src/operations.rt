@@ -3,16 +3,8 @@ ghost use mathlib.Core.Path.{_≡_};
 ghost use Rattle.wire.specs.Series.{increasing, series, unordered};
 ghost use Rattle.wire.specs.Answer.{ended};
 ghost use Rattle.element.specs.Inputs.{key};
-ghost use Rattle.element.specs.Operations.{operation, mintNft, transferNft, operationType, fxOf, stateOutputs, initialState};
-ghost use Rattle.element.specs.Answer.{termsAt, recipientsAt, actionAt, operationAt, askedByOperation};
-use crate::OperationFields;
-use crate::OperationRead;
-use crate::OwnersRead;
-use crate::Recipients;
-use crate::RecipientsRead;
-use crate::StringRead;
-use crate::TermsFields;
-use crate::TermsRead;
+ghost use Rattle.element.specs.Operations.{operation, operationOwners, operationType, fxOf, stateOutputs, initialState};
+ghost use Rattle.element.specs.Answer.{askedByTerms, askedByAction, askedByOperation};
 use crate::inputs;
 use crate::outputs;
 use crate::owners;
@@ -54,142 +46,81 @@ pub fn pairs_from(s: &[u8], start: usize, count: u64) -> Part
     Part::Next(at)
 }
 
-// Address indices, group, payload.
-pub fn terms_at(s: &[u8], at: usize) -> TermsRead
-    ensures { λ r. ⌜ r ≡ termsAt (now (s .entry)) at ⌝ }
+// Address indices, group, payload: how many indices there are, and where the payload ends.
+pub fn asked_by_terms(s: &[u8], at: usize) -> Number
+    ensures { λ r. ⌜ r ≡ askedByTerms (now (s .entry)) at ⌝ }
 {
-    let Number::Value(indices_count, indices_at) = wire::u32_at(s, at) else {
-        return TermsRead::Refused(wire::cut(s, at, 4));
+    let Number::Value(asked, first) = wire::u32_at(s, at) else {
+        return Number::Refused(wire::cut(s, at, 4));
     };
-    match inputs::indices_from(s, indices_at, indices_count) {
-        Part::Refused(refusal) => TermsRead::Refused(refusal),
+    match inputs::indices_from(s, first, asked) {
+        Part::Refused(refusal) => Number::Refused(refusal),
         Part::Next(g) => {
-            let Number::Value(group, p) = wire::u32_at(s, g) else {
-                return TermsRead::Refused(wire::cut(s, g, 4));
+            let Number::Value(_, p) = wire::u32_at(s, g) else {
+                return Number::Refused(wire::cut(s, g, 4));
             };
             match strings::string_at(s, p, 1024) {
-                StringRead::Whole(payload_at, payload_length, next) => TermsRead::Whole(
-                    TermsFields {
-                        indices_at,
-                        indices_count,
-                        group,
-                        payload_at,
-                        payload_length,
-                    },
-                    next,
-                ),
-                StringRead::Refused(refusal) => TermsRead::Refused(refusal),
+                Part::Refused(refusal) => Number::Refused(refusal),
+                Part::Next(next) => Number::Value(asked, next),
             }
         }
     }
 }
 
-// Asset id, (id, index) pairs, type, terms, and what the type has.
-pub fn operation_at(s: &[u8], at: usize) -> OperationRead
-    ensures { λ r. ⌜ r ≡ operationAt (now (s .entry)) at ⌝ }
-{
-    let Part::Next(p) = wire::part_at(s, at, 32) else {
-        return OperationRead::Refused(wire::cut(s, at, 32));
-    };
-    let Number::Value(outputs_count, outputs_at) = wire::u32_at(s, p) else {
-        return OperationRead::Refused(wire::cut(s, p, 4));
-    };
-    match pairs_from(s, outputs_at, outputs_count) {
-        Part::Refused(refusal) => OperationRead::Refused(refusal),
-        Part::Next(t) => action_at(s, t, outputs_at, outputs_count),
-    }
-}
-
-// Behind the terms of a mint: a list of owners.
-fn mint_owners_at(s: &[u8], at: usize) -> RecipientsRead
-    ensures { λ r. ⌜ r ≡ recipientsAt mintNft (now (s .entry)) at ⌝ }
-{
-    let Number::Value(owners_count, owners_at) = wire::u32_at(s, at) else {
-        return RecipientsRead::Refused(wire::cut(s, at, 4));
-    };
-    match owners::owners_list_at(s, owners_at, owners_count) {
-        Part::Refused(refusal) => RecipientsRead::Refused(refusal),
-        Part::Next(next) => RecipientsRead::Whole(
-            Recipients::Mint {
-                owners_at,
-                owners_count,
-            },
-            next,
-        ),
-    }
-}
-
-// Behind the terms of a transfer: owners.
-fn transfer_owners_at(s: &[u8], at: usize) -> RecipientsRead
-    ensures { λ r. ⌜ r ≡ recipientsAt transferNft (now (s .entry)) at ⌝ }
-{
-    match owners::owners_at(s, at) {
-        OwnersRead::Refused(refusal) => RecipientsRead::Refused(refusal),
-        OwnersRead::Whole(owners, next) => RecipientsRead::Whole(
-            Recipients::Transfer(owners),
-            next,
-        ),
-    }
-}
-
-// Behind the terms, by the operation's type: 12 or 13.
-fn recipients_at(s: &[u8], at: usize, kind: u64) -> RecipientsRead
-    ensures { λ r. ⌜ r ≡ recipientsAt (operationType kind) (now (s .entry)) at ⌝ }
+// Behind the terms, by the operation's type: a mint (12) has a list of owners, a transfer (13) has owners.
+fn recipients_at(s: &[u8], at: usize, kind: u64) -> Part
+    ensures { λ r. ⌜ r ≡ ended (operationOwners (operationType kind)) (now (s .entry)) at ⌝ }
 {
     if kind == 12 {
-        return mint_owners_at(s, at);
+        let Number::Value(count, first) = wire::u32_at(s, at) else {
+            return Part::Refused(wire::cut(s, at, 4));
+        };
+        return owners::owners_list_at(s, first, count);
     }
-    transfer_owners_at(s, at)
+    owners::owners_at(s, at)
 }
 
-// What follows an operation's pairs.
-fn action_at(s: &[u8], at: usize, outputs_at: usize, outputs_count: u64) -> OperationRead
-    ensures { λ r. ⌜ r ≡ actionAt «outputs_at» «outputs_count» (now (s .entry)) at ⌝ }
+// What follows an operation's pairs: type, terms, and what the type has.
+fn asked_by_action(s: &[u8], at: usize) -> Number
+    ensures { λ r. ⌜ r ≡ askedByAction (now (s .entry)) at ⌝ }
 {
     let Number::Value(kind, i) = wire::u32_at(s, at) else {
-        return OperationRead::Refused(wire::cut(s, at, 4));
+        return Number::Refused(wire::cut(s, at, 4));
     };
     if kind < 12 {
-        return OperationRead::Refused(Refusal {
+        return Number::Refused(Refusal {
             number: wire::numbers::UNKNOWN_TYPE,
             place: at,
         });
     }
     if 13 < kind {
-        return OperationRead::Refused(Refusal {
+        return Number::Refused(Refusal {
             number: wire::numbers::UNKNOWN_TYPE,
             place: at,
         });
     }
-    match terms_at(s, i) {
-        TermsRead::Refused(refusal) => OperationRead::Refused(refusal),
-        TermsRead::Whole(terms, o) => match recipients_at(s, o, kind) {
-            RecipientsRead::Refused(refusal) => OperationRead::Refused(refusal),
-            RecipientsRead::Whole(recipients, next) => OperationRead::Whole(
-                OperationFields {
-                    outputs_at,
-                    outputs_count,
-                    terms,
-                    recipients,
-                },
-                next,
-            ),
+    match asked_by_terms(s, i) {
+        Number::Refused(refusal) => Number::Refused(refusal),
+        Number::Value(asked, o) => match recipients_at(s, o, kind) {
+            Part::Refused(refusal) => Number::Refused(refusal),
+            Part::Next(next) => Number::Value(asked, next),
         },
     }
 }
 
-// How many address indices an operation has, and the place behind it.
+// Asset id, (id, index) pairs, action: how many address indices there are, and where the operation ends.
 pub fn asked_by_operation(s: &[u8], at: usize) -> Number
     ensures { λ r. ⌜ r ≡ askedByOperation (now (s .entry)) at ⌝ }
 {
-    match operation_at(s, at) {
-        OperationRead::Refused(refusal) => {
-            return Number::Refused(refusal);
-        }
-        OperationRead::Whole(fields, next) => {
-            let terms = fields.terms;
-            return Number::Value(terms.indices_count, next);
-        }
+    let Part::Next(p) = wire::part_at(s, at, 32) else {
+        return Number::Refused(wire::cut(s, at, 32));
+    };
+    let Number::Value(count, first) = wire::u32_at(s, p) else {
+        return Number::Refused(wire::cut(s, p, 4));
+    };
+    match pairs_from(s, first, count) {
+        Part::Refused(refusal) => Number::Refused(refusal),
+        Part::Next(t) => asked_by_action(s, t),
     }
 }
 

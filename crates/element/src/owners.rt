@@ -4,9 +4,7 @@ ghost use Rattle.wire.specs.Fields.{blob};
 ghost use Rattle.wire.specs.Series.{increasing, unordered};
 ghost use Rattle.wire.specs.Answer.{ended, wholeAt};
 ghost use Rattle.element.specs.Owners.{owners};
-ghost use Rattle.element.specs.Answer.{addressFollows, ownersAt};
-use crate::OwnersFields;
-use crate::OwnersRead;
+ghost use Rattle.element.specs.Answer.{addressFollows};
 use wire::Number;
 use wire::Part;
 use wire::Refusal;
@@ -48,36 +46,26 @@ pub fn addresses_from(s: &[u8], start: usize, count: u64) -> Part
     Part::Next(at)
 }
 
-pub fn owners_at(s: &[u8], at: usize) -> OwnersRead
-    ensures { λ r. ⌜ r ≡ ownersAt (now (s .entry)) at ⌝ }
+// Where the owners at this place end.
+pub fn owners_at(s: &[u8], at: usize) -> Part
+    ensures { λ r. ⌜ r ≡ ended owners (now (s .entry)) at ⌝ }
 {
-    let Number::Value(locktime, t) = wire::u64_at(s, at) else {
-        return OwnersRead::Refused(wire::cut(s, at, 8));
+    let Number::Value(_, t) = wire::u64_at(s, at) else {
+        return Part::Refused(wire::cut(s, at, 8));
     };
     let Number::Value(threshold, n) = wire::u32_at(s, t) else {
-        return OwnersRead::Refused(wire::cut(s, t, 4));
+        return Part::Refused(wire::cut(s, t, 4));
     };
-    let Number::Value(addresses_count, addresses_at) = wire::u32_at(s, n) else {
-        return OwnersRead::Refused(wire::cut(s, n, 4));
+    let Number::Value(count, first) = wire::u32_at(s, n) else {
+        return Part::Refused(wire::cut(s, n, 4));
     };
-    if addresses_count < threshold {
-        return OwnersRead::Refused(Refusal {
+    if count < threshold {
+        return Part::Refused(Refusal {
             number: wire::numbers::BAD_THRESHOLD,
             place: t,
         });
     }
-    match addresses_from(s, addresses_at, addresses_count) {
-        Part::Next(next) => OwnersRead::Whole(
-            OwnersFields {
-                locktime,
-                threshold,
-                addresses_at,
-                addresses_count,
-            },
-            next,
-        ),
-        Part::Refused(refusal) => OwnersRead::Refused(refusal),
-    }
+    addresses_from(s, first, count)
 }
 
 // So many owners from start, of no order.
@@ -88,10 +76,10 @@ pub fn owners_list_at(s: &[u8], start: usize, count: u64) -> Part
     let mut at = start;
     while 0 < left {
         match owners_at(s, at) {
-            OwnersRead::Refused(refusal) => {
+            Part::Refused(refusal) => {
                 return Part::Refused(refusal);
             }
-            OwnersRead::Whole(_, next) => {
+            Part::Next(next) => {
                 at = next;
                 left -= 1;
             }

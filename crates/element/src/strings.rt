@@ -2,30 +2,25 @@
 ghost use mathlib.Core.Path.{_≡_};
 ghost use Rattle.wire.specs.Bytes.{part};
 ghost use Rattle.wire.specs.Answer.{ended};
-ghost use Rattle.element.specs.Strings.{unprintable, text, denomination};
-ghost use Rattle.element.specs.Answer.{stringAt};
-use crate::StringRead;
+ghost use Rattle.element.specs.Strings.{string, unprintable, text, denomination};
 use wire::Number;
 use wire::Part;
 use wire::Refusal;
 
 // A memo or a payload: a 32-bit length, at most so many bytes.
-pub fn string_at(s: &[u8], at: usize, most: u64) -> StringRead
-    ensures { λ r. ⌜ r ≡ stringAt most (now (s .entry)) at ⌝ }
+pub fn string_at(s: &[u8], at: usize, most: u64) -> Part
+    ensures { λ r. ⌜ r ≡ ended (string 4 most) (now (s .entry)) at ⌝ }
 {
     let Number::Value(length, first) = wire::u32_at(s, at) else {
-        return StringRead::Refused(wire::cut(s, at, 4));
+        return Part::Refused(wire::cut(s, at, 4));
     };
     if most < length {
-        return StringRead::Refused(Refusal {
+        return Part::Refused(Refusal {
             number: wire::numbers::BAD_LENGTH,
             place: at,
         });
     }
-    match wire::part_at(s, first, length as usize) {
-        Part::Next(next) => StringRead::Whole(first, length, next),
-        Part::Refused(refusal) => StringRead::Refused(refusal),
-    }
+    wire::part_at(s, first, length as usize)
 }
 
 // The index of the first byte that is not printable; the length where all are.

@@ -9,8 +9,6 @@ use crate::Cursor;
 use crate::Row;
 use crate::Stage;
 use crate::Step;
-use element::OperationRead;
-use element::OutputRead;
 use transaction::Kind;
 use transaction::Layout;
 use wire::Number;
@@ -46,8 +44,8 @@ fn output_step(s: &[u8], kind: u32, stage: Stage, at: usize, left: u64) -> Step
     ensures { λ r. ⌜ r ≡ outputStep kind stage (now (s .entry)) at left ⌝ }
 {
     match element::outputs::transferable_at(s, at) {
-        OutputRead::Refused(_) => Step::Done,
-        OutputRead::Whole(_, end) => Step::Found(
+        Part::Refused(_) => Step::Done,
+        Part::Next(end) => Step::Found(
             Row {
                 kind,
                 start: at,
@@ -85,9 +83,9 @@ fn operation_step(s: &[u8], at: usize, left: u64) -> Step
     requires { ⌜ 0 < left ⌝ }
     ensures { λ r. ⌜ r ≡ operationStep (now (s .entry)) at left ⌝ }
 {
-    match element::operations::operation_at(s, at) {
-        OperationRead::Refused(_) => Step::Done,
-        OperationRead::Whole(_, end) => Step::Found(
+    match element::operations::asked_by_operation(s, at) {
+        Number::Refused(_) => Step::Done,
+        Number::Value(_, end) => Step::Found(
             Row {
                 kind: 3,
                 start: at,
@@ -118,8 +116,8 @@ fn state_step(s: &[u8], at: usize, left: u64) -> Step
     })
 }
 
-fn state_output_at(s: &[u8], at: usize, fx: u64) -> OutputRead
-    ensures { λ r. ⌜ r ≡ outputAt (fxOutputs (fxOf fx)) (now (s .entry)) at ⌝ }
+fn state_output_at(s: &[u8], at: usize, fx: u64) -> Part
+    ensures { λ r. ⌜ r ≡ ended (output (fxOutputs (fxOf fx))) (now (s .entry)) at ⌝ }
 {
     if fx == 0 {
         return element::outputs::secp_at(s, at);
@@ -132,8 +130,8 @@ fn state_output_step(s: &[u8], at: usize, left: u64, fx: u64, inner: u64) -> Ste
     ensures { λ r. ⌜ r ≡ stateOutputStep (now (s .entry)) at left fx inner ⌝ }
 {
     match state_output_at(s, at, fx) {
-        OutputRead::Refused(_) => Step::Done,
-        OutputRead::Whole(_, end) => Step::Found(
+        Part::Refused(_) => Step::Done,
+        Part::Next(end) => Step::Found(
             Row {
                 kind: 6,
                 start: at,

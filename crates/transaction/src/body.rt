@@ -7,7 +7,6 @@ use crate::Kind;
 use crate::Layout;
 use crate::ListRead;
 use crate::UnsignedRead;
-use element::StringRead;
 use wire::Number;
 use wire::Part;
 use wire::Refusal;
@@ -229,8 +228,8 @@ pub fn body_at(s: &[u8], at: usize, kind: Kind) -> UnsignedRead
                 m,
                 MEMO_MOST,
             ) {
-                StringRead::Refused(refusal) => UnsignedRead::Refused(refusal),
-                StringRead::Whole(_, _, o) => match own_at(s, o, kind) {
+                Part::Refused(refusal) => UnsignedRead::Refused(refusal),
+                Part::Next(o) => match own_at(s, o, kind) {
                     ListRead::Refused(refusal) => UnsignedRead::Refused(refusal),
                     ListRead::Whole(own_at, own_count, credentials_at) => UnsignedRead::Whole(
                         Layout {

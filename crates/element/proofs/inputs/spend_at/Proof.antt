@@ -1,7 +1,7 @@
 -- `element::inputs::spend_at` meets its contract.
 -- Assumes nothing.
 use borrow.Author.Needs.{needs}
-use Rattle.element.proofs.Reading.{reading, wholly}
+use Rattle.element.proofs.Reading.{reading}
 use Rattle.element.specs.Inputs.{spend}
 use Rattle.element.proofs.inputs.spend_at.Statement.{statement}
 use Rattle.element.proofs.inputs.spend_at.Tie as tie
@@ -29,12 +29,9 @@ spend-at-spec =
     (λ c. search reading depth 12)  -- returns-4
     (λ c. search reading depth 12)  -- returns-5
     (λ c κs. search needs)  -- u32-at-requires-2
-    (λ c. search needs)  -- enum-known-indices-count
+    (λ c. search needs)  -- enum-known-count
     (λ c. search needs)  -- enum-told-4
     (λ c κs. search needs)  -- cut-requires-4
     (λ c. search reading depth 12)  -- returns-6
     (λ c κs. search needs)  -- indices-from-requires
-    (λ c. search needs)  -- enum-known-next
-    (λ c. search needs)  -- enum-known-refusal
-    (λ c. search wholly depth 12)  -- returns-7
-    (λ c. search reading depth 12))  -- returns-8
+    (λ c. search reading depth 12))  -- returns-7

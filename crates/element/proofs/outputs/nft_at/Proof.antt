@@ -1,7 +1,7 @@
 -- `element::outputs::nft_at` meets its contract.
 -- Assumes nothing.
 use borrow.Author.Needs.{needs}
-use Rattle.element.proofs.Reading.{reading, wholly, placed, on-string}
+use Rattle.element.proofs.Reading.{reading}
 use Rattle.element.specs.Outputs.{output}
 use Rattle.element.proofs.outputs.nft_at.Statement.{statement}
 use Rattle.element.proofs.outputs.nft_at.Tie as tie
@@ -17,27 +17,21 @@ nft-at-spec =
     (λ c κs. search needs)  -- cut-requires
     (λ c. search reading depth 12)  -- returns
     (λ c κs. search needs)  -- u32-at-requires-2
-    (λ c. search needs)  -- enum-known-group
+    (λ c. search needs)  -- enum-known-o
     (λ c. search needs)  -- enum-told-2
     (λ c κs. search needs)  -- cut-requires-2
     (λ c. search reading depth 12)  -- returns-2
     (λ c κs. search needs)  -- owners-at-requires
-    (λ c. search needs)  -- enum-known-owners
-    (λ c. search wholly depth 12)  -- returns-3
-    (λ c. search needs)  -- enum-known-refusal
+    (λ c. search reading depth 12)  -- returns-3
     (λ c. search reading depth 12)  -- returns-4
-    (λ c. search reading depth 12)  -- returns-5
     (λ c κs. search needs)  -- u32-at-requires-3
-    (λ c. search needs)  -- enum-known-group-2
+    (λ c. search needs)  -- enum-known-p
     (λ c. search needs)  -- enum-told-3
     (λ c κs. search needs)  -- cut-requires-3
-    (λ c. search reading depth 12)  -- returns-6
+    (λ c. search reading depth 12)  -- returns-5
     (λ c κs. search needs)  -- string-at-requires
-    (λ c. search needs)  -- enum-known-payload-at
+    (λ c. search needs)  -- enum-known-refusal
+    (λ c. search needs)  -- enum-known-o-2
     (λ c κs. search needs)  -- owners-at-requires-2
-    (λ c. search needs)  -- enum-known-owners-2
-    (λ c. search needs)  -- enum-known-refusal-2
-    (λ c. search needs)  -- enum-known-refusal-3
-    (λ c. search placed depth 12)  -- returns-7
-    (λ c. search (reading, on-string) depth 12)  -- returns-8
-    (λ c. search reading depth 12))  -- returns-9
+    (λ c. search reading depth 12)  -- returns-6
+    (λ c. search reading depth 12))  -- returns-7

@@ -1,7 +1,7 @@
 -- `element::outputs::secp_at` meets its contract.
 -- Assumes nothing.
 use borrow.Author.Needs.{needs}
-use Rattle.element.proofs.Reading.{reading, wholly}
+use Rattle.element.proofs.Reading.{reading}
 use Rattle.element.specs.Outputs.{output}
 use Rattle.element.proofs.outputs.secp_at.Statement.{statement}
 use Rattle.element.proofs.outputs.secp_at.Tie as tie
@@ -17,13 +17,7 @@ secp-at-spec =
     (λ c κs. search needs)  -- cut-requires
     (λ c. search reading depth 12)  -- returns
     (λ c κs. search needs)  -- owners-at-requires
-    (λ c. search needs)  -- enum-known-owners
-    (λ c. search wholly depth 12)  -- returns-2
-    (λ c. search needs)  -- enum-known-refusal
+    (λ c. search reading depth 12)  -- returns-2
     (λ c. search reading depth 12)  -- returns-3
-    (λ c. search reading depth 12)  -- returns-4
     (λ c κs. search needs)  -- transfer-body-at-requires
-    (λ c. search needs)  -- enum-known-fields
-    (λ c. search needs)  -- enum-known-refusal-2
-    (λ c. search wholly depth 12)  -- returns-5
-    (λ c. search reading depth 12))  -- returns-6
+    (λ c. search reading depth 12))  -- returns-4

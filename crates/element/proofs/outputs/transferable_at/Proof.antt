@@ -1,7 +1,7 @@
 -- `element::outputs::transferable_at` meets its contract.
 -- Assumes nothing.
 use borrow.Author.Needs.{needs}
-use Rattle.element.proofs.Reading.{reading, wholly}
+use Rattle.element.proofs.Reading.{reading}
 use Rattle.element.specs.Outputs.{transferableOutput}
 use Rattle.element.proofs.outputs.transferable_at.Statement.{statement}
 use Rattle.element.proofs.outputs.transferable_at.Tie as tie
@@ -23,7 +23,4 @@ transferable-at-spec =
     (λ c. search reading depth 12)  -- returns-2
     (λ c. search reading depth 12)  -- returns-3
     (λ c κs. search needs)  -- transfer-body-at-requires
-    (λ c. search needs)  -- enum-known-fields
-    (λ c. search needs)  -- enum-known-refusal
-    (λ c. search wholly depth 12)  -- returns-4
-    (λ c. search reading depth 12))  -- returns-5
+    (λ c. search reading depth 12))  -- returns-4

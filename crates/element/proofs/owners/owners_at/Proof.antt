@@ -1,7 +1,7 @@
 -- `element::owners::owners_at` meets its contract.
 -- Assumes nothing.
 use borrow.Author.Needs.{needs}
-use Rattle.element.proofs.Reading.{reading, wholly}
+use Rattle.element.proofs.Reading.{reading}
 use Rattle.element.specs.Owners.{owners}
 use Rattle.element.proofs.owners.owners_at.Statement.{statement}
 use Rattle.element.proofs.owners.owners_at.Tie as tie
@@ -12,7 +12,7 @@ owners-at-spec =
     tie.close
     (tie.spec
     (λ c κs. search needs)  -- u64-at-requires
-    (λ c. search needs)  -- enum-known-locktime
+    (λ c. search needs)  -- enum-known-t
     (λ c. search needs)  -- enum-told
     (λ c κs. search needs)  -- cut-requires
     (λ c. search reading depth 12)  -- returns
@@ -22,13 +22,10 @@ owners-at-spec =
     (λ c κs. search needs)  -- cut-requires-2
     (λ c. search reading depth 12)  -- returns-2
     (λ c κs. search needs)  -- u32-at-requires-2
-    (λ c. search needs)  -- enum-known-addresses-count
+    (λ c. search needs)  -- enum-known-count
     (λ c. search needs)  -- enum-told-3
     (λ c κs. search needs)  -- cut-requires-3
     (λ c. search reading depth 12)  -- returns-3
     (λ c. search reading depth 12)  -- returns-4
     (λ c κs. search needs)  -- addresses-from-requires
-    (λ c. search needs)  -- enum-known-next
-    (λ c. search needs)  -- enum-known-refusal
-    (λ c. search wholly depth 12)  -- returns-5
-    (λ c. search reading depth 12))  -- returns-6
+    (λ c. search reading depth 12))  -- returns-5

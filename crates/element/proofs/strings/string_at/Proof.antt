@@ -1,7 +1,7 @@
 -- `element::strings::string_at` meets its contract.
 -- Assumes nothing.
 use borrow.Author.Needs.{needs}
-use Rattle.element.proofs.Reading.{reading, wholly}
+use Rattle.element.proofs.Reading.{reading}
 use Rattle.element.specs.Strings.{string}
 use Rattle.element.proofs.strings.string_at.Statement.{statement}
 use Rattle.element.proofs.strings.string_at.Tie as tie
@@ -18,7 +18,4 @@ string-at-spec =
     (λ c. search reading depth 12)  -- returns
     (λ c. search reading depth 12)  -- returns-2
     (λ c κs. search needs)  -- part-at-requires
-    (λ c. search needs)  -- enum-known-next
-    (λ c. search needs)  -- enum-known-refusal
-    (λ c. search wholly depth 12)  -- returns-3
-    (λ c. search reading depth 12))  -- returns-4
+    (λ c. search reading depth 12))  -- returns-3

@@ -1,0 +1,17 @@
+-- `element::outputs::in_order` meets its contract.
+-- Assumes nothing.
+use borrow.Author.Needs.{needs}
+use Rattle.element.proofs.Reading.{comparing}
+use Rattle.element.proofs.outputs.in_order.Statement.{statement}
+use Rattle.element.proofs.outputs.in_order.Tie as tie
+
+pub in-order-spec : {M : Type 1} → statement M
+in-order-spec =
+    tie.close
+    (tie.spec
+    (λ c. search needs)  -- enum-known-refusal
+    (λ c. search needs)  -- enum-known-next
+    (λ c κs. search needs)  -- parts-below-requires
+    (λ c. search comparing)  -- returns
+    (λ c. search comparing)  -- returns-2
+    (λ c. search comparing))  -- returns-3

@@ -1,0 +1,37 @@
+-- `element::outputs::nft_from` meets its contract. The invariant: the reading of what is left, from here, is the whole reading; what is kept of the output before is its bytes.
+-- Assumes nothing.
+use borrow.Author.Needs.{needs}
+use mathlib.Core.Path.{_≡_}
+use Rattle.wire.specs.Bytes.{part}
+use Rattle.wire.specs.Series.{notBelow, seriesFrom, nondecreasing}
+use Rattle.wire.specs.Answer.{ended}
+use Rattle.wire.proofs.Reading.{list-start, list-end}
+use Rattle.element.specs.Outputs.{output}
+use Rattle.element.specs.Operations.{nftFx, fxOutputs}
+use Rattle.element.proofs.Reading.{ordering}
+use Rattle.element.proofs.outputs.nft_from.Statement.{statement}
+use Rattle.element.proofs.outputs.nft_from.Tie as tie
+
+abbrev Inv-loop : tie.InvT-loop
+Inv-loop s start count left₀ prev₀ at₀ left prev at =
+    ended (seriesFrom (notBelow (output (fxOutputs nftFx))) (part prev at s) left) s at ≡ ended (nondecreasing (output (fxOutputs nftFx)) count) s start
+
+abbrev μ-loop : tie.MeasureT-loop
+μ-loop s start count left₀ prev₀ at₀ left prev at = left
+
+pub nft-from-spec : {M : Type 1} → statement M
+nft-from-spec =
+    tie.close
+    (tie.spec
+    Inv-loop
+    μ-loop
+    (λ c. search list-start)  -- loop-holds
+    (λ c κs. search needs)  -- nft-at-requires
+    (λ c κs. search needs)  -- in-order-requires
+    (λ c. search needs)  -- enum-known-refusal
+    (λ c. search ordering depth 8)  -- returns
+    (λ c. search needs)  -- enum-known-next
+    (λ c. search needs)  -- sub-left
+    (λ c. search needs)  -- loop-less
+    (λ c. search ordering depth 8)  -- loop-again
+    (λ c. search list-end))  -- returns-2
