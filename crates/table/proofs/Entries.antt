@@ -223,7 +223,7 @@ module _ (s : List ℕ) (b : Slice s) where
       W.run-took (number 4) s at (λ e. []) _ t i et
       ∙ W.run-took (number 4) s i (λ e. []) _ c f ec
       ∙ ap (λ (x : ℕ). blob (65 * x) .run s f (λ e. []) (λ b next. row 7 at next ∷ credentialRows (length ws) s next)) same
-      ∙ sym (W.blob-there (65 * w .signatures) s f (row 7 at (f + 65 * w .signatures) ∷ credentialRows (length ws) s (f + 65 * w .signatures)) (λ e. []) (length s - f) _ refl (fits f (w .signatures) room) refl)
+      ∙ sym (W.blob-has (65 * w .signatures) s f (row 7 at (f + 65 * w .signatures) ∷ credentialRows (length ws) s (f + 65 * w .signatures)) (λ e. []) _ (fits f (w .signatures) room) refl)
       ∙ ap (λ (r : List Row). row 7 at (f + 65 * w .signatures) ∷ r) (credential-rows ws (f + 65 * w .signatures) l′ m (at-signatures f (w .signatures) ws l′ m r))
       ∙ ap (λ (x : ℕ). row 7 at x ∷ map located (credentialEntries ws x)) next
     where

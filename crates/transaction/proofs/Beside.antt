@@ -101,11 +101,11 @@ module _ {R : Type 0} (prev s : List ℕ) (q : ℕ) (v : Input) (m : ℕ) (b : S
       omega (arith, st .ends, ap length (input-split prev v), length-append w (number 4 .write n ++ l), length-append (number 4 .write n) l) in
       let there : drop (q + 80) s ≡ rest = subst (λ (k : ℕ). drop (q + k) s ≡ rest) long (drop-step s q w rest whole) in
       sym
-      (W.blob-there 80 s q _ stop (length s - q) _ refl (omega arith)
+      (W.blob-has 80 s q _ stop _ (omega arith)
       (sym
       (number 4 .complete s (q + 80) n (l ++ drop m s) stop _ (count-good prev v g) there
       ∙ ap (λ (k : ℕ). blob (4 * n) .run s (q + 80 + k) stop (λ l next. go n next)) four
-      ∙ sym (W.blob-there (4 * n) s (q + 80 + 4) (go n m) stop (length s - (q + 80 + 4)) _ refl (omega arith) (ap (go n) (sym end))))))
+      ∙ sym (W.blob-has (4 * n) s (q + 80 + 4) (go n m) stop _ (omega arith) (ap (go n) (sym end))))))
 
 -- ---- a list that was read
 

@@ -25,9 +25,6 @@ use Rattle.wire.proofs.Bytes.{Slice, slice-bytes, found}
 use Rattle.wire.proofs.Reading as W
 use Rattle.element.specs.Strings.{string, text, denomination}
 use Rattle.element.specs.Operations.{operation}
-use Rattle.element.specs.Answer.{stringWhole, stringAt}
-use Rattle.element.specs.declared.StringRead.{StringRead}
-use Rattle.element.specs.declared.StringRead.the-variants as S
 use Rattle.element.proofs.Reading.{answer-took, answer-refused, on-value-next, on-part-next, on-string-refused}
 use Rattle.transaction.specs.Slots.{signatureWidth}
 use Rattle.transaction.specs.Credentials.{signatures, credentialPieces, pieces}
@@ -138,13 +135,11 @@ module _ {R : Type 0} (s : List ℕ) (at : ℕ) (z : R) (stop : Refusal → R) (
   pub on-denomination-refused : (go : ℕ → ℕ → R) (e : Refusal) → x ≡ ended denomination s at → x ≡ P.Refused e → z ≡ stop e → z ≡ denomination .run s at stop go
   on-denomination-refused go e = W.stops denomination R s at z stop go x e
 
-pub on-memo : {R : Type 0} (most : ℕ) (s : List ℕ) (at : ℕ) (z : R) (stop : Refusal → R) (go : List ℕ → ℕ → R) (x : StringRead) (f c n : ℕ) → x ≡ stringAt most s at → x ≡ S.Whole f c n → Slice s
+pub on-memo : {R : Type 0} (most : ℕ) (s : List ℕ) (at : ℕ) (z : R) (stop : Refusal → R) (go : List ℕ → ℕ → R) (x : Part) (n : ℕ) → x ≡ ended (string 4 most) s at → x ≡ P.Next n → Slice s
     → ((v : List ℕ) → n ≡ at + length (string 4 most .write v) → z ≡ go v n) → z ≡ string 4 most .run s at stop go
-on-memo most s at z stop go x f c n p q b e =
-    let (v, m, t, i) = answer-took (string 4 most) s at S.Refused stringWhole x p (S.Whole f c n) q (λ e i. let z : _≡_ {A = ℕ} 0 1 = cc in omega arith) in
-    let em : m ≡ n = cc in
-    let u = t ∙ ap (took v) em in
-    e v (written-next (string 4 most) s at v n b u) ∙ sym (W.run-took (string 4 most) s at stop go v n u)
+on-memo most s at z stop go x n p q b e =
+    let (v, t) = W.next-took (string 4 most) s at x n p q in
+    e v (written-next (string 4 most) s at v n b t) ∙ sym (W.run-took (string 4 most) s at stop go v n t)
 
 -- ---- the own part
 

@@ -85,6 +85,10 @@ module _ {R : Type 0} (k : ℕ) (s : List ℕ) (at : ℕ) (z : R) (stop : Refusa
 
 pub ruleset leaf = (blob-there, blob-cut, number-there, number-cut)
 
+-- the same, where it is known and not asked
+pub blob-has : {R : Type 0} (k : ℕ) (s : List ℕ) (at : ℕ) (z : R) (stop : Refusal → R) (go : List ℕ → ℕ → R) → k ≤ length s - at → z ≡ go (take k (drop at s)) (at + k) → z ≡ blob k .run s at stop go
+blob-has k s at z stop go h = blob-there k s at z stop true go (sym (le-leb k (length s - at) h)) refl
+
 -- ---- a call's answer: what it ensures, what the match found, and the reading goes on from there
 
 -- a leaf has one refusal
