@@ -4,16 +4,15 @@ ghost use Rattle.element.specs.Operations.{operation, initialState};
 ghost use Rattle.judge.specs.Judged.{judged};
 ghost use Rattle.judge.specs.Given.{given};
 use crate::Verdict;
-use element::OperationRead;
 use wire::Number;
 use wire::Part;
 
 pub fn operation_rules(bytes: &[u8]) -> Verdict
     ensures { λ r. ⌜ r ≡ judged operation (given (now (bytes .entry))) Verdict.Fine ⌝ }
 {
-    match element::operations::operation_at(bytes, 0) {
-        OperationRead::Refused(refusal) => Verdict::Refuse(refusal.number),
-        OperationRead::Whole(_, end) => {
+    match element::operations::asked_by_operation(bytes, 0) {
+        Number::Refused(refusal) => Verdict::Refuse(refusal.number),
+        Number::Value(_, end) => {
             if end == bytes.len() {
                 return Verdict::Fine;
             }

@@ -2,8 +2,9 @@
 ghost use mathlib.Core.Path.{_≡_};
 ghost use Prim.Native.Nat.{_<_};
 ghost use Rattle.wire.specs.Fields.{number};
+ghost use Rattle.wire.specs.Answer.{ended};
 ghost use Rattle.element.specs.Operations.{fxOf, fxOutputs};
-ghost use Rattle.element.specs.Answer.{outputAt};
+ghost use Rattle.element.specs.Outputs.{output};
 ghost use Rattle.table.specs.Walk.{start, cursor, outputStep, inputStep, operationStep, stateStep, stateOutputStep, credentialStep, ownStep, stepOf};
 use crate::Cursor;
 use crate::Row;

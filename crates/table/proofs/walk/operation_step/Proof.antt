@@ -9,7 +9,7 @@ pub operation-step-spec : {M : Type 1} → statement M
 operation-step-spec =
     tie.close
     (tie.spec
-    (λ c κs. search needs)  -- operation-at-requires
+    (λ c κs. search needs)  -- asked-by-operation-requires
     (λ c. search needs)  -- enum-told
     (λ c. search needs)  -- enum-known-end
     (λ c. search needs)  -- sub-onward
