@@ -505,7 +505,7 @@ module _ {R : Type 0} (k : Fx) (s : List ℕ) (at : ℕ) (z : R) (stop : Refusal
 
 pub ruleset reading = (W.on-value, W.on-short, W.on-part, W.on-cut, W.on-part-refused, W.on-list, W.on-list-refused, W.tests, on-owners, on-owners-refused, on-string, on-string-refused)
 
-pub ruleset wholly = (W.on-value, W.on-part, W.on-parts, W.on-numbers, W.tests, on-string, on-owners, value-made)
+pub ruleset wholly = (W.on-value, W.on-part, W.on-numbers, W.tests, on-string, on-owners, value-made)
 
 -- an operation behind its pairs
 pub ruleset acting = (on-operation-type, on-operation-type-below, on-operation-type-above, on-operation-type-short, on-terms, on-terms-refused, on-recipients, on-recipients-refused, value-made)

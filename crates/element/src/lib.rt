@@ -63,4 +63,3 @@ pub struct OperationFields {
     pub terms: TermsFields,
     pub recipients: Recipients,
 }
-

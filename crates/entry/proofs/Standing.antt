@@ -1,4 +1,4 @@
--- In an accepted transaction each entry is what stands at its row, read by its kind. Assumes nothing.
+-- In an accepted transaction each entry is what stands at its row, by its kind. Assumes nothing.
 use Prim.Native.Nat.{ℕ, zero, suc, _+_, _-_, _*_, _≤_, _<_}
 use mathlib.Core.Path.{_≡_, refl, sym, ap, ap₂, _∙_, subst}
 use mathlib.Core.Bool.{Bool, true, false, not}
@@ -10,22 +10,18 @@ use lib.Dec.{eqb, ltb, leb}
 use borrow.Author.Tests.{eqb-true}
 use Rattle.wire.specs.Bytes.{below, pick}
 use Rattle.wire.specs.Numbers.{Rule, by, refusal, tooLong, bytesAfterEnd, outOfOrder, unknownType, wrongCount}
-use Rattle.wire.specs.Format.{Format, Result, took, refused, read, run-inv, pick-inv}
+use Rattle.wire.specs.Format.{Format, took, refused, read, moved, run-inv, pick-inv}
 use Rattle.wire.specs.Fields.{number, blob, constant}
-use Rattle.wire.specs.Sequence.{guard, andThen, named, tag, find-is, listed}
+use Rattle.wire.specs.Sequence.{guard, andThen, named}
 use Rattle.wire.specs.Series.{items, listRun, list-inv, left, above, notBelow, counted}
 use Rattle.wire.specs.Answer.{wholeAt}
 use Rattle.wire.proofs.Bytes.{Slice, slice-bytes}
 use Rattle.wire.proofs.Reading as W
-use Rattle.element.specs.Outputs.{amount, secpTransfer, outputCode, outputType, outputType-code, Output, output, TransferableOutput, transferableOutput, outputFields}
+use Rattle.element.specs.Outputs.{amount, secpTransfer, Output, output, TransferableOutput, transferableOutput, outputFields}
 use Rattle.element.specs.Inputs.{key, keyWidth, indices, spend, Input, inputAfter, input, inputFields}
-use Rattle.element.specs.Operations.{action, Operation, operation, InitialState, Fx, secpFx, nftFx, fxCode, fxOutputs, fxId, stateOutputs, initialStateAfter, initialState}
-use Rattle.element.specs.Answer.{outputAt, outputWhole, transferableAt, transferableWhole, spendWhole, operationWhole}
-use Rattle.element.specs.declared.OutputRead.{OutputRead}
-use Rattle.element.specs.declared.OutputRead.the-variants as O
-use Rattle.element.specs.declared.InputRead.{InputRead}
-use Rattle.element.specs.declared.InputRead.the-variants as I
-use Rattle.element.specs.declared.OperationRead.the-variants as P
+use Rattle.element.specs.Operations.{action, Operation, operation, InitialState, Fx, fxCode, fxOutputs, fxId, stateOutputs, initialStateAfter, initialState}
+use Rattle.element.specs.declared.OutputFields.{OutputFields}
+use Rattle.transaction.specs.declared.Entry.{Entry}
 use Rattle.transaction.specs.declared.Entry.the-variants as E
 use Rattle.transaction.specs.Entries.{EntryAt, entryKind, noId, outputEntry, exportedEntry, inputEntry, importedEntry, operationEntry, credentialEntries, stateOutputEntry, stateEntries, entriesFrom}
 use Rattle.transaction.specs.Plan.{Plan, shut, end, field, many, Value, form, atLeast, listOf, planEntries}
@@ -40,7 +36,12 @@ use Rattle.transaction.specs.Credentials.{Want, credentialCode, signatures, eac
 use Rattle.transaction.proofs.Beside.{at-least-inv}
 use Rattle.transaction.proofs.Reading.{written-next}
 use Rattle.table.proofs.Entries.{fx-number, number-next, signatures-inv}
-use Rattle.entry.specs.Typed.{stateOutputAt, inputAt, onOutput, onInput, onOperation, credentialTyped, typedAt, behindKey, assetAt, txidAt}
+use Rattle.entry.specs.Fields.{outputFound, inputFound}
+use Rattle.entry.specs.Typed.{onOutput, onInput, credentialTyped, typedAt, behindKey, assetAt, txidAt}
+use Rattle.entry.specs.declared.OutputFound.{OutputFound}
+use Rattle.entry.specs.declared.InputFound.{InputFound}
+use Rattle.entry.specs.declared.InputFound.the-variants as I
+use Rattle.entry.proofs.Finding.{output-found, input-found, operation-found}
 use Rattle.entry.specs.declared.Typed.the-variants as T
 
 module _ (P : EntryAt → Type 0) where
@@ -117,29 +118,6 @@ spend-asset s at w m h =
     let same : (x, y) ≡ w = cc in
     W.whole-part 32 s at x i ex ∙ ap (λ (u : List ℕ × (Unit {0} × (ℕ × List ℕ))). u .0) same
 
--- what an FxID chooses
-abbrev byFx : {R : Type 0} → Fx → R → R → R
-byFx secpFx x y = x
-byFx nftFx x y = y
-
-of-fx : {R : Type 0} (k : Fx) (f : Fx → R) → byFx k (f secpFx) (f nftFx) ≡ f k
-of-fx secpFx f = refl
-of-fx nftFx f = refl
-
-by-type : {R : Type 0} (k : Fx) (n : ℕ) → listed outputCode (fxOutputs k) n ≡ true → (x y : R) → pick (ltb n 10) x y ≡ byFx k x y
-by-type secpFx n h x y = below-ten (eqb n 6) (eqb n 7) refl refl h
-  where
-    below-ten : (p q : Bool) → eqb n 6 ≡ p → eqb n 7 ≡ q → pick p true (pick q true false) ≡ true → pick (ltb n 10) x y ≡ x
-    below-ten true q e f h = let i : n ≡ 6 = eqb-true n 6 e in rw i
-    below-ten false true e f h = let i : n ≡ 7 = eqb-true n 7 f in rw i
-    below-ten false false e f h = let z : _≡_ {A = ℕ} 0 1 = cc in absurd (omega arith)
-by-type nftFx n h x y = from-ten (eqb n 10) (eqb n 11) refl refl h
-  where
-    from-ten : (p q : Bool) → eqb n 10 ≡ p → eqb n 11 ≡ q → pick p true (pick q true false) ≡ true → pick (ltb n 10) x y ≡ y
-    from-ten true q e f h = let i : n ≡ 10 = eqb-true n 10 e in rw i
-    from-ten false true e f h = let i : n ≡ 11 = eqb-true n 11 f in rw i
-    from-ten false false e f h = let z : _≡_ {A = ℕ} 0 1 = cc in absurd (omega arith)
-
 -- ---- what stands at the row of an entry is the entry
 
 pub record Standing (s : List ℕ) (e : EntryAt) : Type 0 where
@@ -160,81 +138,66 @@ module _ (s : List ℕ) (b : Slice s) where
 
   -- ---- outputs
 
-  output-typed : (at : ℕ) (v : TransferableOutput) (m : ℕ) → read transferableOutput s at ≡ took v m → transferableAt s at ≡ O.Whole (outputFields (at + 32) m (v .output)) m
-  output-typed at v m h = W.run-took transferableOutput s at O.Refused (transferableWhole at) v m h
-
-  output-asset : (at : ℕ) (v : TransferableOutput) (m : ℕ) → read transferableOutput s at ≡ took v m → wholeAt 32 s at ≡ v .asset
+  output-stands : (make : OutputFields → Entry) (at : ℕ) (v : TransferableOutput) (m : ℕ) → read transferableOutput s at ≡ took v m
+      → (blob 32 .run s at (λ e. T.Missing) (λ asset o. onOutput (outputFound s o) make) ≡ T.Entry (make (outputFields (at + 32) m (v .output)))) × (wholeAt 32 s at ≡ v .asset)
   unfolding transferableOutput named andThen
-  output-asset at v m h =
+  output-stands make at v m h =
       let (x, i, ex, e₁) = run-inv (blob 32) s at _ v m h in
       let (o, k, eo, e₂) = run-inv (output (secpTransfer ∷ [])) s i (λ out n. took record { asset = x; output = out } n) v m e₁ in
-      let same : record { asset = x; output = o } ≡ v = cc in
-      W.whole-part 32 s at x i ex ∙ ap (λ (o : TransferableOutput). o .asset) same
+      let behind : i ≡ at + 32 = written-next (blob 32) s at x i b ex ∙ ap (λ (j : ℕ). at + j) (W.blob-wide 32 x (blob 32 .sound s at x i (slice-bytes s b) ex .0)) in (
+        moved (λ w j. blob 32 .run s at (λ e. T.Missing) (λ asset o. onOutput (outputFound s o) make) ≡ T.Entry (make (outputFields (at + 32) j (w .output)))) e₂
+            (W.run-took (blob 32) s at (λ e. T.Missing) _ x i ex ∙ ap (λ (f : OutputFound). onOutput f make) (output-found s b (secpTransfer ∷ []) i o k eo)
+            ∙ ap (λ (j : ℕ). T.Entry (make (outputFields j k o))) behind),
+        moved (λ w j. wholeAt 32 s at ≡ w .asset) e₂ (W.whole-part 32 s at x i ex),
+      )
 
   outputs-stand : (prev : List ℕ) (at : ℕ) (v : TransferableOutput) (m : ℕ) → read (notBelow transferableOutput prev) s at ≡ took v m → All (outputEntry at m v)
   outputs-stand prev at v m h =
-      let r = guarded-inv transferableOutput (λ a. not (below (transferableOutput .write a) prev)) outOfOrder at v m h in
-      (record { typed = ap (λ (x : OutputRead). onOutput x E.Output) (output-typed at v m r); asset = output-asset at v m r; txid = refl }, tt)
+      let (f, a) = output-stands E.Output at v m (guarded-inv transferableOutput (λ a. not (below (transferableOutput .write a) prev)) outOfOrder at v m h) in
+      (record { typed = f; asset = a; txid = refl }, tt)
 
   exported-stand : (prev : List ℕ) (at : ℕ) (v : TransferableOutput) (m : ℕ) → read (notBelow transferableOutput prev) s at ≡ took v m → All (exportedEntry at m v)
   exported-stand prev at v m h =
-      let r = guarded-inv transferableOutput (λ a. not (below (transferableOutput .write a) prev)) outOfOrder at v m h in
-      (record { typed = ap (λ (x : OutputRead). onOutput x E.ExportedOutput) (output-typed at v m r); asset = output-asset at v m r; txid = refl }, tt)
+      let (f, a) = output-stands E.ExportedOutput at v m (guarded-inv transferableOutput (λ a. not (below (transferableOutput .write a) prev)) outOfOrder at v m h) in
+      (record { typed = f; asset = a; txid = refl }, tt)
 
   -- ---- inputs
 
   input-stands : (prev : List ℕ) (at : ℕ) (v : Input) (m : ℕ) → read (input prev) s at ≡ took v m
-      → (inputAt s at ≡ I.Whole (inputFields m v) m) × (behindKey s at ≡ v .asset) × (wholeAt 32 s at ≡ v .txid)
+      → (inputFound s at ≡ I.Fields (inputFields m v)) × (behindKey s at ≡ v .asset) × (wholeAt 32 s at ≡ v .txid)
   unfolding inputAfter named andThen guard key
   input-stands prev at v m h =
       let (id, i, ei, e₁) = run-inv (blob 32) s at _ v m h in
       let (index, k, ek, e₂) = run-inv (number 4) s i _ v m e₁ in
       let (_, e₃) = pick-inv (below (take keyWidth prev) (key .write (id, index))) (by outOfOrder at) _ v m e₂ in
-      let (w, j, ew, e₄) = run-inv spend s k (λ w n. took (spent id index w) n) v m e₃ in
-      let same : spent id index w ≡ v = cc in
-      let there : j ≡ m = cc in
-      parts id i index k w j v m ei ek ew same there
-    where
-      parts : (id : List ℕ) (i index k : ℕ) (w : List ℕ × (Unit {0} × (ℕ × List ℕ))) (j : ℕ) (v : Input) (m : ℕ)
-          → read (blob 32) s at ≡ took id i → read (number 4) s i ≡ took index k → read spend s k ≡ took w j → spent id index w ≡ v → j ≡ m
-          → (inputAt s at ≡ I.Whole (inputFields m v) m) × (behindKey s at ≡ v .asset) × (wholeAt 32 s at ≡ v .txid)
-      parts id i index k w j v m ei ek ew same there = (
-        W.run-took (blob 32) s at I.Refused _ id i ei ∙ W.run-took (number 4) s i I.Refused _ index k ek ∙ W.run-took spend s k I.Refused (spendWhole index) w j ew
-            ∙ ap₂ (λ (x : Input) (n : ℕ). I.Whole (inputFields n x) n) same there,
-        W.run-took (blob 32) s at (λ e. noId) _ id i ei ∙ W.run-took (number 4) s i (λ e. noId) _ index k ek ∙ spend-asset s k w j ew ∙ ap (λ (x : Input). x .asset) same,
-        W.whole-part 32 s at id i ei ∙ ap (λ (x : Input). x .txid) same,
+      let (w, j, ew, e₄) = run-inv spend s k (λ w n. took (spent id index w) n) v m e₃ in (
+        moved (λ x n. inputFound s at ≡ I.Fields (inputFields n x)) e₄ (input-found s b at id i index k w j ei ek ew),
+        moved (λ x n. behindKey s at ≡ x .asset) e₄
+            (W.run-took (blob 32) s at (λ e. noId) _ id i ei ∙ W.run-took (number 4) s i (λ e. noId) _ index k ek ∙ spend-asset s k w j ew),
+        moved (λ x n. wholeAt 32 s at ≡ x .txid) e₄ (W.whole-part 32 s at id i ei),
       )
 
   inputs-stand : (prev : List ℕ) (at : ℕ) (v : Input) (m : ℕ) → read (input prev) s at ≡ took v m → All (inputEntry at m v)
   inputs-stand prev at v m h =
       let (f, a, t) = input-stands prev at v m h in
-      (record { typed = ap (λ (x : InputRead). onInput x E.Input) f; asset = a; txid = t }, tt)
+      (record { typed = ap (λ (x : InputFound). onInput x E.Input) f; asset = a; txid = t }, tt)
 
   imported-stand : (prev : List ℕ) (at : ℕ) (v : Input) (m : ℕ) → read (input prev) s at ≡ took v m → All (importedEntry at m v)
   imported-stand prev at v m h =
       let (f, a, t) = input-stands prev at v m h in
-      (record { typed = ap (λ (x : InputRead). onInput x E.ImportedInput) f; asset = a; txid = t }, tt)
+      (record { typed = ap (λ (x : InputFound). onInput x E.ImportedInput) f; asset = a; txid = t }, tt)
 
   -- ---- operations
 
   operations-stand : (prev : List ℕ) (at : ℕ) (v : Operation) (m : ℕ) → read operation s at ≡ took v m → All (operationEntry at m v)
-  operations-stand prev at v m h =
-      (record { typed = ap onOperation (W.run-took operation s at P.Refused (operationWhole at) v m h); asset = asset-first at v m h; txid = refl }, tt)
-    where
-      asset-first : (at : ℕ) (v : Operation) (m : ℕ) → read operation s at ≡ took v m → wholeAt 32 s at ≡ v .asset
-      asset-first at v m h = operation-asset s at v m h
+  operations-stand prev at v m h = (record { typed = operation-found s b at v m h; asset = operation-asset s at v m h; txid = refl }, tt)
 
-  -- ---- outputs of initial states: the type tells the FxID
+  -- ---- outputs of initial states
 
   state-outputs-stand : (k : Fx) (prev : List ℕ) (at : ℕ) (v : Output) (m : ℕ) → read (notBelow (output (fxOutputs k)) prev) s at ≡ took v m → All (stateOutputEntry at m v)
-  unfolding output tag andThen
   state-outputs-stand k prev at v m h =
       let r : read (output (fxOutputs k)) s at ≡ took v m = guarded-inv (output (fxOutputs k)) (λ a. not (below (output (fxOutputs k) .write a) prev)) outOfOrder at v m h in
-      let (n, i, en, e₁) = run-inv (number 4) s at _ v m r in
-      let (has, e₂) = pick-inv (listed outputCode (fxOutputs k) n) (by unknownType at) _ v m (sym (find-is outputCode outputType outputType-code (fxOutputs k) n _ (refused (by unknownType at))) ∙ e₁) in
-      let there : stateOutputAt s at ≡ O.Whole (outputFields at m v) m =
-      W.run-took (number 4) s at O.Refused _ n i en ∙ by-type k n has (outputAt (fxOutputs secpFx) s at) (outputAt (fxOutputs nftFx) s at) ∙ of-fx k (λ (f : Fx). outputAt (fxOutputs f) s at) ∙ W.run-took (output (fxOutputs k)) s at O.Refused (outputWhole at) v m r in
-      (record { typed = ap (λ (x : OutputRead). onOutput x E.InitialStateOutput) there; asset = refl; txid = refl }, tt)
+      (record { typed = ap (λ (f : OutputFound). onOutput f E.InitialStateOutput) (output-found s b (fxOutputs k) at v m r); asset = refl; txid = refl }, tt)
 
   states-stand : (prev : List ℕ) (at : ℕ) (v : InitialState) (m : ℕ) → read (initialState prev) s at ≡ took v m → All (stateEntries at m v)
   unfolding initialStateAfter named andThen guard stateOutputs

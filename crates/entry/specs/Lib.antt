@@ -1,3 +1,4 @@
 -- Entry n as typed fields
 pub mod Entry
+pub mod Fields
 pub mod Typed

@@ -1,62 +1,74 @@
--- What stands at a row, read by its kind alone. In an accepted transaction it is the row's entry (`entries-stand`, of proofs/Standing). Assumes nothing.
-use Prim.Native.Nat.{ℕ}
+-- What stands at a row, as typed fields by its kind alone. In an accepted transaction it is the row's entry (`entries-stand`, of proofs/Standing). Assumes nothing.
+use Prim.Native.Nat.{ℕ, _*_}
 use mathlib.Core.List.{List}
-use lib.Dec.{eqb, ltb}
+use lib.Dec.{eqb}
 use Rattle.wire.specs.Bytes.{pick}
 use Rattle.wire.specs.Fields.{number, blob}
 use Rattle.wire.specs.Answer.{wholeAt}
-use Rattle.element.specs.Operations.{secpFx, nftFx, fxOutputs}
-use Rattle.element.specs.Answer.{outputAt, transferableAt, spendAt, operationAt}
 use Rattle.element.specs.declared.OutputFields.{OutputFields}
-use Rattle.element.specs.declared.OutputRead.{OutputRead}
-use Rattle.element.specs.declared.OutputRead.the-variants as O
 use Rattle.element.specs.declared.InputFields.{InputFields}
-use Rattle.element.specs.declared.InputRead.{InputRead}
-use Rattle.element.specs.declared.InputRead.the-variants as I
-use Rattle.element.specs.declared.OperationRead.{OperationRead}
-use Rattle.element.specs.declared.OperationRead.the-variants as P
+use Rattle.element.specs.declared.TermsFields.{TermsFields}
+use Rattle.element.specs.declared.Recipients.{Recipients}
+use Rattle.element.specs.declared.OperationFields.{OperationFields}
 use Rattle.transaction.specs.Entries.{noId}
 use Rattle.transaction.specs.declared.Entry.{Entry}
 use Rattle.transaction.specs.declared.Entry.the-variants as E
 use Rattle.table.specs.declared.Row.{Row}
 use Rattle.entry.specs.Entry.{missingEntry}
+use Rattle.entry.specs.Fields.{outputFound, inputFound, termsFound, recipientsFound}
+use Rattle.entry.specs.declared.OutputFound.{OutputFound}
+use Rattle.entry.specs.declared.OutputFound.the-variants as O
+use Rattle.entry.specs.declared.InputFound.{InputFound}
+use Rattle.entry.specs.declared.InputFound.the-variants as I
+use Rattle.entry.specs.declared.TermsFound.{TermsFound}
+use Rattle.entry.specs.declared.TermsFound.the-variants as M
+use Rattle.entry.specs.declared.RecipientsFound.{RecipientsFound}
+use Rattle.entry.specs.declared.RecipientsFound.the-variants as R
 use Rattle.entry.specs.declared.Typed.{Typed}
 use Rattle.entry.specs.declared.Typed.the-variants as T
 use Rattle.entry.specs.declared.EntryRead.{EntryRead}
 use Rattle.entry.specs.declared.EntryAnswer.the-variants as A
 
--- types 6 and 7 stand under FxID 0, types 10 and 11 under FxID 1
-abbrev pub stateOutputAt : List ℕ → ℕ → OutputRead
-stateOutputAt s at = number 4 .run s at O.Refused λ type i. pick (ltb type 10) (outputAt (fxOutputs secpFx) s at) (outputAt (fxOutputs nftFx) s at)
+-- ---- what was found, as an entry of its kind
 
-abbrev pub inputAt : List ℕ → ℕ → InputRead
-inputAt s at = blob 32 .run s at I.Refused λ id i. number 4 .run s i I.Refused λ index k. spendAt index s k
+abbrev pub onOutput : OutputFound → (OutputFields → Entry) → Typed
+onOutput (O.Fields f) make = T.Entry (make f)
+onOutput O.Missing make = T.Missing
 
--- ---- what was read, as an entry of its kind
-
-abbrev pub onOutput : OutputRead → (OutputFields → Entry) → Typed
-onOutput (O.Whole f n) make = T.Entry (make f)
-onOutput (O.Refused e) make = T.Missing
-
-abbrev pub onInput : InputRead → (InputFields → Entry) → Typed
-onInput (I.Whole f n) make = T.Entry (make f)
-onInput (I.Refused e) make = T.Missing
-
-abbrev pub onOperation : OperationRead → Typed
-onOperation (P.Whole f n) = T.Entry (E.Operation f)
-onOperation (P.Refused e) = T.Missing
+abbrev pub onInput : InputFound → (InputFields → Entry) → Typed
+onInput (I.Fields f) make = T.Entry (make f)
+onInput I.Missing make = T.Missing
 
 abbrev pub outputTyped : ℕ → List ℕ → ℕ → Typed
-outputTyped kind s at = onOutput (transferableAt s at) λ f. pick (eqb kind 1) (E.Output f) (E.ExportedOutput f)
+outputTyped kind s at = blob 32 .run s at (λ e. T.Missing) λ asset o. onOutput (outputFound s o) λ f. pick (eqb kind 1) (E.Output f) (E.ExportedOutput f)
 
 abbrev pub inputTyped : ℕ → List ℕ → ℕ → Typed
-inputTyped kind s at = onInput (inputAt s at) λ f. pick (eqb kind 2) (E.Input f) (E.ImportedInput f)
+inputTyped kind s at = onInput (inputFound s at) λ f. pick (eqb kind 2) (E.Input f) (E.ImportedInput f)
+
+-- an operation whose pairs stand from `place` on
+abbrev pub onRecipients : RecipientsFound → (Recipients → OperationFields) → Typed
+onRecipients (R.Fields r) make = T.Entry (E.Operation (make r))
+onRecipients R.Missing make = T.Missing
+
+abbrev pub onTerms : TermsFound → (TermsFields → ℕ → Typed) → Typed
+onTerms (M.Fields t n) go = go t n
+onTerms M.Missing go = T.Missing
+
+abbrev pub actionTyped : ℕ → ℕ → List ℕ → ℕ → Typed
+actionTyped place count s at =
+    number 4 .run s at (λ e. T.Missing) λ type i.
+    onTerms (termsFound s i) λ t o.
+    onRecipients (recipientsFound type s o) λ r. record { «outputs_at» = place; «outputs_count» = count; terms = t; recipients = r }
 
 abbrev pub operationTyped : List ℕ → ℕ → Typed
-operationTyped s at = onOperation (operationAt s at)
+operationTyped s at =
+    blob 32 .run s at (λ e. T.Missing) λ asset p.
+    number 4 .run s p (λ e. T.Missing) λ count first.
+    blob (36 * count) .run s first (λ e. T.Missing) λ pairs t.
+    actionTyped first count s t
 
 abbrev pub stateOutputTyped : List ℕ → ℕ → Typed
-stateOutputTyped s at = onOutput (stateOutputAt s at) E.InitialStateOutput
+stateOutputTyped s at = onOutput (outputFound s at) E.InitialStateOutput
 
 abbrev pub credentialTyped : List ℕ → ℕ → Typed
 credentialTyped s at =

@@ -1,10 +1,13 @@
-// Entry n of an accepted transaction, as typed fields: its row is found by the walk, and read once more by its kind.
+// Entry n of an accepted transaction, as typed fields: its row is found by the walk, and its fields by their places.
 ghost use mathlib.Core.Path.{_≡_};
 ghost use Rattle.entry.specs.Entry.{refusedEntry, missingEntry, entryOf};
-ghost use Rattle.entry.specs.Typed.{stateOutputAt, inputAt, outputTyped, stateOutputTyped, inputTyped, operationTyped, credentialTyped, typedAt, behindKey, assetAt, txidAt, rowEntry};
-use element::InputRead;
-use element::OperationRead;
-use element::OutputRead;
+ghost use Rattle.entry.specs.Typed.{outputTyped, stateOutputTyped, inputTyped, actionTyped, operationTyped, credentialTyped, typedAt, behindKey, assetAt, txidAt, rowEntry};
+use element::InputFields;
+use element::OperationFields;
+use element::OutputFields;
+use element::OwnersFields;
+use element::Recipients;
+use element::TermsFields;
 use table::Nth;
 use table::Row;
 use transaction::Checked;
@@ -13,6 +16,8 @@ use transaction::Entry;
 use wire::Number;
 use wire::Part;
 use wire::Refusal;
+
+mod fields;
 
 // An entry with its start, its end, and the bytes of the whole transaction.
 pub enum EntryAnswer {
@@ -27,43 +32,47 @@ pub struct EntryRead {
     pub txid: [u8; 32],
 }
 
+// The numbers of what stands at a place, if they are all there.
+pub enum OwnersFound {
+    Fields(OwnersFields),
+    Missing,
+}
+
+pub enum OutputFound {
+    Fields(OutputFields),
+    Missing,
+}
+
+pub enum InputFound {
+    Fields(InputFields),
+    Missing,
+}
+
+// With the place behind them.
+pub enum TermsFound {
+    Fields(TermsFields, usize),
+    Missing,
+}
+
+pub enum RecipientsFound {
+    Fields(Recipients),
+    Missing,
+}
+
 pub enum Typed {
     Entry(Entry),
     Missing,
 }
 
-// An output of any type: those of FxID 0 are below 10.
-fn state_output_at(s: &[u8], at: usize) -> OutputRead
-    ensures { λ r. ⌜ r ≡ stateOutputAt (now (s .entry)) at ⌝ }
-{
-    let Number::Value(kind, _) = wire::u32_at(s, at) else {
-        return OutputRead::Refused(wire::cut(s, at, 4));
-    };
-    if kind < 10 {
-        return element::outputs::secp_at(s, at);
-    }
-    element::outputs::nft_at(s, at)
-}
-
-// An input, whatever stands before it.
-fn input_at(s: &[u8], at: usize) -> InputRead
-    ensures { λ r. ⌜ r ≡ inputAt (now (s .entry)) at ⌝ }
-{
-    let Part::Next(i) = wire::part_at(s, at, 32) else {
-        return InputRead::Refused(wire::cut(s, at, 32));
-    };
-    let Number::Value(index, e) = wire::u32_at(s, i) else {
-        return InputRead::Refused(wire::cut(s, i, 4));
-    };
-    element::inputs::spend_at(s, e, index)
-}
-
 fn output_typed(s: &[u8], kind: u32, at: usize) -> Typed
     ensures { λ r. ⌜ r ≡ outputTyped kind (now (s .entry)) at ⌝ }
 {
-    match element::outputs::transferable_at(s, at) {
-        OutputRead::Refused(_) => Typed::Missing,
-        OutputRead::Whole(fields, _) => {
+    let Part::Next(o) = wire::part_at(s, at, 32) else {
+        return Typed::Missing;
+    };
+    match fields::output_at(s, o) {
+        OutputFound::Missing => Typed::Missing,
+        OutputFound::Fields(fields) => {
             if kind == 1 {
                 return Typed::Entry(Entry::Output(fields));
             }
@@ -75,9 +84,9 @@ fn output_typed(s: &[u8], kind: u32, at: usize) -> Typed
 fn input_typed(s: &[u8], kind: u32, at: usize) -> Typed
     ensures { λ r. ⌜ r ≡ inputTyped kind (now (s .entry)) at ⌝ }
 {
-    match input_at(s, at) {
-        InputRead::Refused(_) => Typed::Missing,
-        InputRead::Whole(fields, _) => {
+    match fields::input_at(s, at) {
+        InputFound::Missing => Typed::Missing,
+        InputFound::Fields(fields) => {
             if kind == 2 {
                 return Typed::Entry(Entry::Input(fields));
             }
@@ -86,21 +95,48 @@ fn input_typed(s: &[u8], kind: u32, at: usize) -> Typed
     }
 }
 
+// What follows an operation's pairs.
+fn action_typed(s: &[u8], at: usize, outputs_at: usize, outputs_count: u64) -> Typed
+    ensures { λ r. ⌜ r ≡ actionTyped «outputs_at» «outputs_count» (now (s .entry)) at ⌝ }
+{
+    let Number::Value(kind, i) = wire::u32_at(s, at) else {
+        return Typed::Missing;
+    };
+    match fields::terms_at(s, i) {
+        TermsFound::Missing => Typed::Missing,
+        TermsFound::Fields(terms, o) => match fields::recipients_at(s, o, kind) {
+            RecipientsFound::Missing => Typed::Missing,
+            RecipientsFound::Fields(recipients) => Typed::Entry(Entry::Operation(OperationFields {
+                outputs_at,
+                outputs_count,
+                terms,
+                recipients,
+            })),
+        },
+    }
+}
+
 fn operation_typed(s: &[u8], at: usize) -> Typed
     ensures { λ r. ⌜ r ≡ operationTyped (now (s .entry)) at ⌝ }
 {
-    match element::operations::operation_at(s, at) {
-        OperationRead::Refused(_) => Typed::Missing,
-        OperationRead::Whole(fields, _) => Typed::Entry(Entry::Operation(fields)),
-    }
+    let Part::Next(p) = wire::part_at(s, at, 32) else {
+        return Typed::Missing;
+    };
+    let Number::Value(outputs_count, outputs_at) = wire::u32_at(s, p) else {
+        return Typed::Missing;
+    };
+    let Part::Next(t) = wire::part_at(s, outputs_at, 36 * outputs_count as usize) else {
+        return Typed::Missing;
+    };
+    action_typed(s, t, outputs_at, outputs_count)
 }
 
 fn state_output_typed(s: &[u8], at: usize) -> Typed
     ensures { λ r. ⌜ r ≡ stateOutputTyped (now (s .entry)) at ⌝ }
 {
-    match state_output_at(s, at) {
-        OutputRead::Refused(_) => Typed::Missing,
-        OutputRead::Whole(fields, _) => Typed::Entry(Entry::InitialStateOutput(fields)),
+    match fields::output_at(s, at) {
+        OutputFound::Missing => Typed::Missing,
+        OutputFound::Fields(fields) => Typed::Entry(Entry::InitialStateOutput(fields)),
     }
 }
 

@@ -157,30 +157,22 @@ module _ {A : Type 0} (F : Format A) (k : ℕ) (wide : (a : A) → F .Good a →
   wide-chain prev (a ∷ l) h =
       rw (length-append (F .write a) (listWrite (above F) (left (above F)) (F .write a) l), wide a (h .0 .0), wide-chain (F .write a) l (h .1), mul-suc) (add-comm k (k * length l))
 
-  pub wide-list : (c : ℕ) (s : List ℕ) (at n : ℕ) → Slice s → (x : Part) → x ≡ ended (increasing F c) s at → x ≡ P.Next n
-      → (l : List A) × (c ≡ length l) × (n ≡ at + k * length l) × (read (increasing F c) s at ≡ took l n)
+  pub wide-took : (c : ℕ) (s : List ℕ) (at : ℕ) (l : List A) (n : ℕ) → Slice s → read (increasing F c) s at ≡ took l n → (c ≡ length l) × (n ≡ at + k * length l)
   unfolding items
-  wide-list c s at n b x p q =
-      let (l, t) = next-took (increasing F c) s at x n p q in
+  wide-took c s at l n b t =
       let (g, h) = increasing F c .sound s at l n (slice-bytes s b) t in
-      (l, sym (g .0), h .ends ∙ ap (λ j. at + j) (wide-chain [] l (g .1)), t)
+      (sym (g .0), h .ends ∙ ap (λ j. at + j) (wide-chain [] l (g .1)))
 
 pub blob-wide : (k : ℕ) (b : List ℕ) → blob k .Good b → length (blob k .write b) ≡ k
 unfolding blob
 blob-wide k b h = h .0
 
-module _ {R : Type 0} (k c : ℕ) (s : List ℕ) (at : ℕ) (z : R) (stop : Refusal → R) (x : Part) where
-  pub on-parts : (go : List (List ℕ) → ℕ → R) (n : ℕ) → x ≡ ended (increasing (blob k) c) s at → x ≡ P.Next n → Slice s
-      → ((l : List (List ℕ)) → c ≡ length l → at ≡ n - k * length l → z ≡ go l n) → z ≡ increasing (blob k) c .run s at stop go
-  on-parts go n p q b e =
-      let (l, h, i, t) = wide-list (blob k) k (blob-wide k) c s at n b x p q in
-      e l h (omega arith) ∙ sym (run-took (increasing (blob k) c) s at stop go l n t)
-
-  pub on-numbers : (go : List ℕ → ℕ → R) (n : ℕ) → x ≡ ended (increasing (number k) c) s at → x ≡ P.Next n → Slice s
-      → ((l : List ℕ) → c ≡ length l → at ≡ n - k * length l → z ≡ go l n) → z ≡ increasing (number k) c .run s at stop go
-  on-numbers go n p q b e =
-      let (l, h, i, t) = wide-list (number k) k (λ v h. length-number k v) c s at n b x p q in
-      e l h (omega arith) ∙ sym (run-took (increasing (number k) c) s at stop go l n t)
+-- a list of numbers: how many they are
+pub on-numbers : {R : Type 0} (k c : ℕ) (s : List ℕ) (at : ℕ) (z : R) (stop : Refusal → R) (x : Part) (go : List ℕ → ℕ → R) (n : ℕ) → x ≡ ended (increasing (number k) c) s at → x ≡ P.Next n → Slice s
+    → ((l : List ℕ) → c ≡ length l → z ≡ go l n) → z ≡ increasing (number k) c .run s at stop go
+on-numbers k c s at z stop x go n p q b e =
+    let (l, t) = next-took (increasing (number k) c) s at x n p q in
+    e l (wide-took (number k) k (λ v h. length-number k v) c s at l n b t .0) ∙ sym (run-took (increasing (number k) c) s at stop go l n t)
 
 -- a part: its bytes are those of s
 part-took : (k : ℕ) (s : List ℕ) (at : ℕ) (x : Part) (n : ℕ) → x ≡ ended (blob k) s at → x ≡ P.Next n → read (blob k) s at ≡ took (part at n s) n
@@ -294,7 +286,7 @@ pub ruleset tests = (if-lt, if-not-lt, if-le, if-not-le, if-eq, if-ne, if-zero, 
 pub ruleset reading = (on-value, on-short, on-part, on-cut, on-part-refused, on-list, on-list-refused, tests)
 
 -- a let-else chain that went through to its end: every field was there
-pub ruleset wholly = (on-value, on-part, on-parts, on-numbers, tests)
+pub ruleset wholly = (on-value, on-part, on-numbers, tests)
 
 -- ---- a loop: the code counts down, the format goes by `suc`. The invariant is that the rest of the reading is the whole reading, y
 

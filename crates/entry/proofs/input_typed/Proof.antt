@@ -11,6 +11,6 @@ input-typed-spec =
     (λ c κs. search needs)  -- input-at-requires
     (λ c. search needs)  -- enum-told
     (λ c. search needs)  -- enum-known-fields
-    (λ c. search typing depth 10)  -- returns
-    (λ c. search typing depth 10)  -- returns-2
-    (λ c. search typing depth 10))  -- returns-3
+    (λ c. search typing depth 12)  -- returns
+    (λ c. search typing depth 12)  -- returns-2
+    (λ c. search typing depth 12))  -- returns-3

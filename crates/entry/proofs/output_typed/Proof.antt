@@ -8,9 +8,13 @@ pub output-typed-spec : {M : Type 1} → statement M
 output-typed-spec =
     tie.close
     (tie.spec
-    (λ c κs. search needs)  -- transferable-at-requires
+    (λ c κs. search needs)  -- part-at-requires
+    (λ c. search needs)  -- enum-known-o
     (λ c. search needs)  -- enum-told
+    (λ c. search typing depth 12)  -- returns
+    (λ c κs. search needs)  -- output-at-requires
+    (λ c. search needs)  -- enum-told-2
     (λ c. search needs)  -- enum-known-fields
-    (λ c. search typing depth 10)  -- returns
-    (λ c. search typing depth 10)  -- returns-2
-    (λ c. search typing depth 10))  -- returns-3
+    (λ c. search typing depth 12)  -- returns-2
+    (λ c. search typing depth 12)  -- returns-3
+    (λ c. search typing depth 12))  -- returns-4

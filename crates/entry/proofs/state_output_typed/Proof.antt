@@ -8,8 +8,8 @@ pub state-output-typed-spec : {M : Type 1} → statement M
 state-output-typed-spec =
     tie.close
     (tie.spec
-    (λ c κs. search needs)  -- state-output-at-requires
+    (λ c κs. search needs)  -- output-at-requires
     (λ c. search needs)  -- enum-told
     (λ c. search needs)  -- enum-known-fields
-    (λ c. search typing depth 10)  -- returns
-    (λ c. search typing depth 10))  -- returns-2
+    (λ c. search typing depth 12)  -- returns
+    (λ c. search typing depth 12))  -- returns-2

@@ -1,0 +1,15 @@
+-- `entry::fields::mint_at` meets its contract. Assumes nothing.
+use borrow.Author.Needs.{needs}
+use Rattle.entry.proofs.Typing.{finding}
+use Rattle.entry.proofs.fields.mint_at.Statement.{statement}
+use Rattle.entry.proofs.fields.mint_at.Tie as tie
+
+pub mint-at-spec : {M : Type 1} → statement M
+mint-at-spec =
+    tie.close
+    (tie.spec
+    (λ c κs. search needs)  -- owners-at-requires
+    (λ c. search needs)  -- enum-told
+    (λ c. search needs)  -- enum-known-owners
+    (λ c. search finding depth 12)  -- returns
+    (λ c. search finding depth 12))  -- returns-2

@@ -1,0 +1,87 @@
+-- The numbers of what stands at a place, by their places alone. Where an element was read they are its fields (proofs/Finding). Assumes nothing.
+use Prim.Native.Nat.{ℕ, _*_}
+use mathlib.Core.List.{List}
+use lib.Dec.{eqb}
+use Rattle.wire.specs.Bytes.{pick}
+use Rattle.wire.specs.Fields.{number, blob}
+use Rattle.element.specs.declared.OwnersFields.{OwnersFields}
+use Rattle.element.specs.declared.OutputFields.{OutputFields}
+use Rattle.element.specs.declared.OutputFields.the-variants as F
+use Rattle.element.specs.declared.Recipients.{Recipients}
+use Rattle.element.specs.declared.Recipients.the-variants as Q
+use Rattle.entry.specs.declared.OwnersFound.{OwnersFound}
+use Rattle.entry.specs.declared.OwnersFound.the-variants as W
+use Rattle.entry.specs.declared.OutputFound.{OutputFound}
+use Rattle.entry.specs.declared.OutputFound.the-variants as O
+use Rattle.entry.specs.declared.InputFound.{InputFound}
+use Rattle.entry.specs.declared.InputFound.the-variants as I
+use Rattle.entry.specs.declared.TermsFound.{TermsFound}
+use Rattle.entry.specs.declared.TermsFound.the-variants as T
+use Rattle.entry.specs.declared.RecipientsFound.{RecipientsFound}
+use Rattle.entry.specs.declared.RecipientsFound.the-variants as R
+
+abbrev pub ownersFound : List ℕ → ℕ → OwnersFound
+ownersFound s at =
+    number 8 .run s at (λ e. W.Missing) λ locktime t.
+    number 4 .run s t (λ e. W.Missing) λ threshold n.
+    number 4 .run s n (λ e. W.Missing) λ count first.
+    W.Fields record { locktime = locktime; threshold = threshold; «addresses_at» = first; «addresses_count» = count }
+
+-- ---- outputs, behind their type
+
+abbrev pub outputOf : OwnersFound → (OwnersFields → OutputFields) → OutputFound
+outputOf (W.Fields o) make = O.Fields (make o)
+outputOf W.Missing make = O.Missing
+
+abbrev pub mintFound : List ℕ → ℕ → OutputFound
+mintFound s at = outputOf (ownersFound s at) F.SecpMint
+
+abbrev pub transferFound : List ℕ → ℕ → OutputFound
+transferFound s at = number 8 .run s at (λ e. O.Missing) λ amount o. outputOf (ownersFound s o) (F.SecpTransfer amount)
+
+abbrev pub nftMintFound : List ℕ → ℕ → OutputFound
+nftMintFound s at = number 4 .run s at (λ e. O.Missing) λ group o. outputOf (ownersFound s o) (F.NftMint group)
+
+abbrev pub nftTransferFound : List ℕ → ℕ → OutputFound
+nftTransferFound s at =
+    number 4 .run s at (λ e. O.Missing) λ group p.
+    number 4 .run s p (λ e. O.Missing) λ length first.
+    blob length .run s first (λ e. O.Missing) λ payload o.
+    outputOf (ownersFound s o) (F.NftTransfer group first length)
+
+abbrev pub bodyFound : ℕ → List ℕ → ℕ → OutputFound
+bodyFound type s at = pick (eqb type 6) (mintFound s at) (pick (eqb type 7) (transferFound s at) (pick (eqb type 10) (nftMintFound s at) (nftTransferFound s at)))
+
+abbrev pub outputFound : List ℕ → ℕ → OutputFound
+outputFound s at = number 4 .run s at (λ e. O.Missing) λ type b. bodyFound type s b
+
+-- ---- inputs
+
+abbrev pub inputFound : List ℕ → ℕ → InputFound
+inputFound s at =
+    blob 32 .run s at (λ e. I.Missing) λ txid i.
+    number 4 .run s i (λ e. I.Missing) λ index a.
+    blob 32 .run s a (λ e. I.Missing) λ asset k.
+    number 4 .run s k (λ e. I.Missing) λ type m.
+    number 8 .run s m (λ e. I.Missing) λ amount n.
+    number 4 .run s n (λ e. I.Missing) λ count first.
+    I.Fields record { index = index; amount = amount; «indices_at» = first; «indices_count» = count }
+
+-- ---- operations, behind their type
+
+abbrev pub termsFound : List ℕ → ℕ → TermsFound
+termsFound s at =
+    number 4 .run s at (λ e. T.Missing) λ count first.
+    blob (4 * count) .run s first (λ e. T.Missing) λ list g.
+    number 4 .run s g (λ e. T.Missing) λ group p.
+    number 4 .run s p (λ e. T.Missing) λ length begin.
+    blob length .run s begin (λ e. T.Missing) λ payload next.
+    T.Fields record { «indices_at» = first; «indices_count» = count; group = group; «payload_at» = begin; «payload_length» = length } next
+
+abbrev pub transferTo : OwnersFound → RecipientsFound
+transferTo (W.Fields o) = R.Fields (Q.Transfer o)
+transferTo W.Missing = R.Missing
+
+abbrev pub recipientsFound : ℕ → List ℕ → ℕ → RecipientsFound
+recipientsFound type s at =
+    pick (eqb type 12) (number 4 .run s at (λ e. R.Missing) λ count first. R.Fields (Q.Mint first count)) (transferTo (ownersFound s at))

@@ -1,0 +1,197 @@
+// The numbers of what stands at a place of an accepted transaction, by their places alone: the check has judged them.
+ghost use mathlib.Core.Path.{_≡_};
+ghost use Rattle.entry.specs.Fields.{ownersFound, mintFound, transferFound, nftMintFound, nftTransferFound, outputFound, inputFound, termsFound, recipientsFound};
+use crate::InputFound;
+use crate::OutputFound;
+use crate::OwnersFound;
+use crate::RecipientsFound;
+use crate::TermsFound;
+use element::InputFields;
+use element::OutputFields;
+use element::OwnersFields;
+use element::Recipients;
+use element::TermsFields;
+use wire::Number;
+use wire::Part;
+
+pub fn owners_at(s: &[u8], at: usize) -> OwnersFound
+    ensures { λ r. ⌜ r ≡ ownersFound (now (s .entry)) at ⌝ }
+{
+    let Number::Value(locktime, t) = wire::u64_at(s, at) else {
+        return OwnersFound::Missing;
+    };
+    let Number::Value(threshold, n) = wire::u32_at(s, t) else {
+        return OwnersFound::Missing;
+    };
+    let Number::Value(addresses_count, addresses_at) = wire::u32_at(s, n) else {
+        return OwnersFound::Missing;
+    };
+    OwnersFound::Fields(OwnersFields {
+        locktime,
+        threshold,
+        addresses_at,
+        addresses_count,
+    })
+}
+
+// Type 6 behind its type: owners.
+fn mint_at(s: &[u8], at: usize) -> OutputFound
+    ensures { λ r. ⌜ r ≡ mintFound (now (s .entry)) at ⌝ }
+{
+    match owners_at(s, at) {
+        OwnersFound::Missing => OutputFound::Missing,
+        OwnersFound::Fields(owners) => OutputFound::Fields(OutputFields::SecpMint(owners)),
+    }
+}
+
+// Type 7: amount, owners.
+fn transfer_at(s: &[u8], at: usize) -> OutputFound
+    ensures { λ r. ⌜ r ≡ transferFound (now (s .entry)) at ⌝ }
+{
+    let Number::Value(amount, o) = wire::u64_at(s, at) else {
+        return OutputFound::Missing;
+    };
+    match owners_at(s, o) {
+        OwnersFound::Missing => OutputFound::Missing,
+        OwnersFound::Fields(owners) => OutputFound::Fields(OutputFields::SecpTransfer {
+            amount,
+            owners,
+        }),
+    }
+}
+
+// Type 10: group, owners.
+fn nft_mint_at(s: &[u8], at: usize) -> OutputFound
+    ensures { λ r. ⌜ r ≡ nftMintFound (now (s .entry)) at ⌝ }
+{
+    let Number::Value(group, o) = wire::u32_at(s, at) else {
+        return OutputFound::Missing;
+    };
+    match owners_at(s, o) {
+        OwnersFound::Missing => OutputFound::Missing,
+        OwnersFound::Fields(owners) => OutputFound::Fields(OutputFields::NftMint { group, owners }),
+    }
+}
+
+// Type 11: group, payload, owners.
+fn nft_transfer_at(s: &[u8], at: usize) -> OutputFound
+    ensures { λ r. ⌜ r ≡ nftTransferFound (now (s .entry)) at ⌝ }
+{
+    let Number::Value(group, p) = wire::u32_at(s, at) else {
+        return OutputFound::Missing;
+    };
+    let Number::Value(payload_length, payload_at) = wire::u32_at(s, p) else {
+        return OutputFound::Missing;
+    };
+    let Part::Next(o) = wire::part_at(s, payload_at, payload_length as usize) else {
+        return OutputFound::Missing;
+    };
+    match owners_at(s, o) {
+        OwnersFound::Missing => OutputFound::Missing,
+        OwnersFound::Fields(owners) => OutputFound::Fields(OutputFields::NftTransfer {
+            group,
+            payload_at,
+            payload_length,
+            owners,
+        }),
+    }
+}
+
+// An output of any of the four types.
+pub fn output_at(s: &[u8], at: usize) -> OutputFound
+    ensures { λ r. ⌜ r ≡ outputFound (now (s .entry)) at ⌝ }
+{
+    let Number::Value(kind, b) = wire::u32_at(s, at) else {
+        return OutputFound::Missing;
+    };
+    if kind == 6 {
+        return mint_at(s, b);
+    }
+    if kind == 7 {
+        return transfer_at(s, b);
+    }
+    if kind == 10 {
+        return nft_mint_at(s, b);
+    }
+    nft_transfer_at(s, b)
+}
+
+// An input: transaction id, index, asset id, type, amount, address indices.
+pub fn input_at(s: &[u8], at: usize) -> InputFound
+    ensures { λ r. ⌜ r ≡ inputFound (now (s .entry)) at ⌝ }
+{
+    let Part::Next(i) = wire::part_at(s, at, 32) else {
+        return InputFound::Missing;
+    };
+    let Number::Value(index, a) = wire::u32_at(s, i) else {
+        return InputFound::Missing;
+    };
+    let Part::Next(k) = wire::part_at(s, a, 32) else {
+        return InputFound::Missing;
+    };
+    let Number::Value(_, m) = wire::u32_at(s, k) else {
+        return InputFound::Missing;
+    };
+    let Number::Value(amount, n) = wire::u64_at(s, m) else {
+        return InputFound::Missing;
+    };
+    let Number::Value(indices_count, indices_at) = wire::u32_at(s, n) else {
+        return InputFound::Missing;
+    };
+    InputFound::Fields(InputFields {
+        index,
+        amount,
+        indices_at,
+        indices_count,
+    })
+}
+
+// An operation's address indices, group and payload, and the place behind them.
+pub fn terms_at(s: &[u8], at: usize) -> TermsFound
+    ensures { λ r. ⌜ r ≡ termsFound (now (s .entry)) at ⌝ }
+{
+    let Number::Value(indices_count, indices_at) = wire::u32_at(s, at) else {
+        return TermsFound::Missing;
+    };
+    let Part::Next(g) = wire::part_at(s, indices_at, 4 * indices_count as usize) else {
+        return TermsFound::Missing;
+    };
+    let Number::Value(group, p) = wire::u32_at(s, g) else {
+        return TermsFound::Missing;
+    };
+    let Number::Value(payload_length, payload_at) = wire::u32_at(s, p) else {
+        return TermsFound::Missing;
+    };
+    let Part::Next(next) = wire::part_at(s, payload_at, payload_length as usize) else {
+        return TermsFound::Missing;
+    };
+    TermsFound::Fields(
+        TermsFields {
+            indices_at,
+            indices_count,
+            group,
+            payload_at,
+            payload_length,
+        },
+        next,
+    )
+}
+
+// Behind the terms: a mint (12) has a list of owners, a transfer (13) has owners.
+pub fn recipients_at(s: &[u8], at: usize, kind: u64) -> RecipientsFound
+    ensures { λ r. ⌜ r ≡ recipientsFound kind (now (s .entry)) at ⌝ }
+{
+    if kind == 12 {
+        let Number::Value(owners_count, owners_at) = wire::u32_at(s, at) else {
+            return RecipientsFound::Missing;
+        };
+        return RecipientsFound::Fields(Recipients::Mint {
+            owners_at,
+            owners_count,
+        });
+    }
+    match owners_at(s, at) {
+        OwnersFound::Missing => RecipientsFound::Missing,
+        OwnersFound::Fields(owners) => RecipientsFound::Fields(Recipients::Transfer(owners)),
+    }
+}
