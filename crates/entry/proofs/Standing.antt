@@ -36,12 +36,12 @@ use Rattle.transaction.specs.Credentials.{Want, credentialCode, signatures, eac
 use Rattle.transaction.proofs.Beside.{at-least-inv}
 use Rattle.transaction.proofs.Reading.{written-next}
 use Rattle.table.proofs.Entries.{fx-number, number-next, signatures-inv}
-use Rattle.entry.specs.Fields.{outputFound, inputFound}
-use Rattle.entry.specs.Typed.{onOutput, onInput, credentialTyped, typedAt, behindKey, assetAt, txidAt}
-use Rattle.entry.specs.declared.OutputFound.{OutputFound}
-use Rattle.entry.specs.declared.InputFound.{InputFound}
-use Rattle.entry.specs.declared.InputFound.the-variants as I
-use Rattle.entry.proofs.Finding.{output-found, input-found, operation-found}
+use Rattle.fields.specs.Found.{outputFound, inputFound}
+use Rattle.fields.specs.declared.OutputFound.{OutputFound}
+use Rattle.fields.specs.declared.InputFound.{InputFound}
+use Rattle.fields.specs.declared.InputFound.the-variants as I
+use Rattle.fields.proofs.Finding.{output-found, input-found, operation-found}
+use Rattle.entry.specs.Typed.{onOutput, onInput, onOperation, credentialTyped, typedAt, behindKey, assetAt, txidAt}
 use Rattle.entry.specs.declared.Typed.the-variants as T
 
 module _ (P : EntryAt → Type 0) where
@@ -190,7 +190,7 @@ module _ (s : List ℕ) (b : Slice s) where
   -- ---- operations
 
   operations-stand : (prev : List ℕ) (at : ℕ) (v : Operation) (m : ℕ) → read operation s at ≡ took v m → All (operationEntry at m v)
-  operations-stand prev at v m h = (record { typed = operation-found s b at v m h; asset = operation-asset s at v m h; txid = refl }, tt)
+  operations-stand prev at v m h = (record { typed = ap onOperation (operation-found s b at v m h); asset = operation-asset s at v m h; txid = refl }, tt)
 
   -- ---- outputs of initial states
 

@@ -1,4 +1,3 @@
 -- Entry n as typed fields
 pub mod Entry
-pub mod Fields
 pub mod Typed

@@ -1,5 +1,5 @@
 -- What stands at a row, as typed fields by its kind alone. In an accepted transaction it is the row's entry (`entries-stand`, of proofs/Standing). Assumes nothing.
-use Prim.Native.Nat.{ℕ, _*_}
+use Prim.Native.Nat.{ℕ}
 use mathlib.Core.List.{List}
 use lib.Dec.{eqb}
 use Rattle.wire.specs.Bytes.{pick}
@@ -7,23 +7,18 @@ use Rattle.wire.specs.Fields.{number, blob}
 use Rattle.wire.specs.Answer.{wholeAt}
 use Rattle.element.specs.declared.OutputFields.{OutputFields}
 use Rattle.element.specs.declared.InputFields.{InputFields}
-use Rattle.element.specs.declared.TermsFields.{TermsFields}
-use Rattle.element.specs.declared.Recipients.{Recipients}
-use Rattle.element.specs.declared.OperationFields.{OperationFields}
 use Rattle.transaction.specs.Entries.{noId}
 use Rattle.transaction.specs.declared.Entry.{Entry}
 use Rattle.transaction.specs.declared.Entry.the-variants as E
 use Rattle.table.specs.declared.Row.{Row}
+use Rattle.fields.specs.Found.{outputFound, inputFound, operationFound}
+use Rattle.fields.specs.declared.OutputFound.{OutputFound}
+use Rattle.fields.specs.declared.OutputFound.the-variants as O
+use Rattle.fields.specs.declared.InputFound.{InputFound}
+use Rattle.fields.specs.declared.InputFound.the-variants as I
+use Rattle.fields.specs.declared.OperationFound.{OperationFound}
+use Rattle.fields.specs.declared.OperationFound.the-variants as Y
 use Rattle.entry.specs.Entry.{missingEntry}
-use Rattle.entry.specs.Fields.{outputFound, inputFound, termsFound, recipientsFound}
-use Rattle.entry.specs.declared.OutputFound.{OutputFound}
-use Rattle.entry.specs.declared.OutputFound.the-variants as O
-use Rattle.entry.specs.declared.InputFound.{InputFound}
-use Rattle.entry.specs.declared.InputFound.the-variants as I
-use Rattle.entry.specs.declared.TermsFound.{TermsFound}
-use Rattle.entry.specs.declared.TermsFound.the-variants as M
-use Rattle.entry.specs.declared.RecipientsFound.{RecipientsFound}
-use Rattle.entry.specs.declared.RecipientsFound.the-variants as R
 use Rattle.entry.specs.declared.Typed.{Typed}
 use Rattle.entry.specs.declared.Typed.the-variants as T
 use Rattle.entry.specs.declared.EntryRead.{EntryRead}
@@ -45,27 +40,12 @@ outputTyped kind s at = blob 32 .run s at (λ e. T.Missing) λ asset o. onOutput
 abbrev pub inputTyped : ℕ → List ℕ → ℕ → Typed
 inputTyped kind s at = onInput (inputFound s at) λ f. pick (eqb kind 2) (E.Input f) (E.ImportedInput f)
 
--- an operation whose pairs stand from `place` on
-abbrev pub onRecipients : RecipientsFound → (Recipients → OperationFields) → Typed
-onRecipients (R.Fields r) make = T.Entry (E.Operation (make r))
-onRecipients R.Missing make = T.Missing
-
-abbrev pub onTerms : TermsFound → (TermsFields → ℕ → Typed) → Typed
-onTerms (M.Fields t n) go = go t n
-onTerms M.Missing go = T.Missing
-
-abbrev pub actionTyped : ℕ → ℕ → List ℕ → ℕ → Typed
-actionTyped place count s at =
-    number 4 .run s at (λ e. T.Missing) λ type i.
-    onTerms (termsFound s i) λ t o.
-    onRecipients (recipientsFound type s o) λ r. record { «outputs_at» = place; «outputs_count» = count; terms = t; recipients = r }
+abbrev pub onOperation : OperationFound → Typed
+onOperation (Y.Fields f) = T.Entry (E.Operation f)
+onOperation Y.Missing = T.Missing
 
 abbrev pub operationTyped : List ℕ → ℕ → Typed
-operationTyped s at =
-    blob 32 .run s at (λ e. T.Missing) λ asset p.
-    number 4 .run s p (λ e. T.Missing) λ count first.
-    blob (36 * count) .run s first (λ e. T.Missing) λ pairs t.
-    actionTyped first count s t
+operationTyped s at = onOperation (operationFound s at)
 
 abbrev pub stateOutputTyped : List ℕ → ℕ → Typed
 stateOutputTyped s at = onOutput (outputFound s at) E.InitialStateOutput

@@ -1,13 +1,10 @@
 // Entry n of an accepted transaction, as typed fields: its row is found by the walk, and its fields by their places.
 ghost use mathlib.Core.Path.{_≡_};
 ghost use Rattle.entry.specs.Entry.{refusedEntry, missingEntry, entryOf};
-ghost use Rattle.entry.specs.Typed.{outputTyped, stateOutputTyped, inputTyped, actionTyped, operationTyped, credentialTyped, typedAt, behindKey, assetAt, txidAt, rowEntry};
-use element::InputFields;
-use element::OperationFields;
-use element::OutputFields;
-use element::OwnersFields;
-use element::Recipients;
-use element::TermsFields;
+ghost use Rattle.entry.specs.Typed.{outputTyped, stateOutputTyped, inputTyped, operationTyped, credentialTyped, typedAt, behindKey, assetAt, txidAt, rowEntry};
+use fields::InputFound;
+use fields::OperationFound;
+use fields::OutputFound;
 use table::Nth;
 use table::Row;
 use transaction::Checked;
@@ -16,8 +13,6 @@ use transaction::Entry;
 use wire::Number;
 use wire::Part;
 use wire::Refusal;
-
-mod fields;
 
 // An entry with its start, its end, and the bytes of the whole transaction.
 pub enum EntryAnswer {
@@ -30,33 +25,6 @@ pub struct EntryRead {
     pub answer: EntryAnswer,
     pub asset: [u8; 32],
     pub txid: [u8; 32],
-}
-
-// The numbers of what stands at a place, if they are all there.
-pub enum OwnersFound {
-    Fields(OwnersFields),
-    Missing,
-}
-
-pub enum OutputFound {
-    Fields(OutputFields),
-    Missing,
-}
-
-pub enum InputFound {
-    Fields(InputFields),
-    Missing,
-}
-
-// With the place behind them.
-pub enum TermsFound {
-    Fields(TermsFields, usize),
-    Missing,
-}
-
-pub enum RecipientsFound {
-    Fields(Recipients),
-    Missing,
 }
 
 pub enum Typed {
@@ -95,40 +63,13 @@ fn input_typed(s: &[u8], kind: u32, at: usize) -> Typed
     }
 }
 
-// What follows an operation's pairs.
-fn action_typed(s: &[u8], at: usize, outputs_at: usize, outputs_count: u64) -> Typed
-    ensures { λ r. ⌜ r ≡ actionTyped «outputs_at» «outputs_count» (now (s .entry)) at ⌝ }
-{
-    let Number::Value(kind, i) = wire::u32_at(s, at) else {
-        return Typed::Missing;
-    };
-    match fields::terms_at(s, i) {
-        TermsFound::Missing => Typed::Missing,
-        TermsFound::Fields(terms, o) => match fields::recipients_at(s, o, kind) {
-            RecipientsFound::Missing => Typed::Missing,
-            RecipientsFound::Fields(recipients) => Typed::Entry(Entry::Operation(OperationFields {
-                outputs_at,
-                outputs_count,
-                terms,
-                recipients,
-            })),
-        },
-    }
-}
-
 fn operation_typed(s: &[u8], at: usize) -> Typed
     ensures { λ r. ⌜ r ≡ operationTyped (now (s .entry)) at ⌝ }
 {
-    let Part::Next(p) = wire::part_at(s, at, 32) else {
-        return Typed::Missing;
-    };
-    let Number::Value(outputs_count, outputs_at) = wire::u32_at(s, p) else {
-        return Typed::Missing;
-    };
-    let Part::Next(t) = wire::part_at(s, outputs_at, 36 * outputs_count as usize) else {
-        return Typed::Missing;
-    };
-    action_typed(s, t, outputs_at, outputs_count)
+    match fields::operation_at(s, at) {
+        OperationFound::Missing => Typed::Missing,
+        OperationFound::Fields(fields) => Typed::Entry(Entry::Operation(fields)),
+    }
 }
 
 fn state_output_typed(s: &[u8], at: usize) -> Typed

@@ -1,8 +1,8 @@
--- `entry::fields::recipients_at` meets its contract. Assumes nothing.
+-- `fields::recipients_at` meets its contract. Assumes nothing.
 use borrow.Author.Needs.{needs}
-use Rattle.entry.proofs.Typing.{finding}
-use Rattle.entry.proofs.fields.recipients_at.Statement.{statement}
-use Rattle.entry.proofs.fields.recipients_at.Tie as tie
+use Rattle.fields.proofs.Passing.{finding}
+use Rattle.fields.proofs.recipients_at.Statement.{statement}
+use Rattle.fields.proofs.recipients_at.Tie as tie
 
 pub recipients-at-spec : {M : Type 1} → statement M
 recipients-at-spec =

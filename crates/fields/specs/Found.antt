@@ -1,4 +1,4 @@
--- The numbers of what stands at a place, by their places alone. Where an element was read they are its fields (proofs/Finding). Assumes nothing.
+-- The typed fields of what stands at a place, by their places alone. Where an element was read they are its fields (proofs/Finding). Assumes nothing.
 use Prim.Native.Nat.{ℕ, _*_}
 use mathlib.Core.List.{List}
 use lib.Dec.{eqb}
@@ -7,18 +7,22 @@ use Rattle.wire.specs.Fields.{number, blob}
 use Rattle.element.specs.declared.OwnersFields.{OwnersFields}
 use Rattle.element.specs.declared.OutputFields.{OutputFields}
 use Rattle.element.specs.declared.OutputFields.the-variants as F
+use Rattle.element.specs.declared.TermsFields.{TermsFields}
+use Rattle.element.specs.declared.OperationFields.{OperationFields}
 use Rattle.element.specs.declared.Recipients.{Recipients}
 use Rattle.element.specs.declared.Recipients.the-variants as Q
-use Rattle.entry.specs.declared.OwnersFound.{OwnersFound}
-use Rattle.entry.specs.declared.OwnersFound.the-variants as W
-use Rattle.entry.specs.declared.OutputFound.{OutputFound}
-use Rattle.entry.specs.declared.OutputFound.the-variants as O
-use Rattle.entry.specs.declared.InputFound.{InputFound}
-use Rattle.entry.specs.declared.InputFound.the-variants as I
-use Rattle.entry.specs.declared.TermsFound.{TermsFound}
-use Rattle.entry.specs.declared.TermsFound.the-variants as T
-use Rattle.entry.specs.declared.RecipientsFound.{RecipientsFound}
-use Rattle.entry.specs.declared.RecipientsFound.the-variants as R
+use Rattle.fields.specs.declared.OwnersFound.{OwnersFound}
+use Rattle.fields.specs.declared.OwnersFound.the-variants as W
+use Rattle.fields.specs.declared.OutputFound.{OutputFound}
+use Rattle.fields.specs.declared.OutputFound.the-variants as O
+use Rattle.fields.specs.declared.InputFound.{InputFound}
+use Rattle.fields.specs.declared.InputFound.the-variants as I
+use Rattle.fields.specs.declared.TermsFound.{TermsFound}
+use Rattle.fields.specs.declared.TermsFound.the-variants as T
+use Rattle.fields.specs.declared.RecipientsFound.{RecipientsFound}
+use Rattle.fields.specs.declared.RecipientsFound.the-variants as R
+use Rattle.fields.specs.declared.OperationFound.{OperationFound}
+use Rattle.fields.specs.declared.OperationFound.the-variants as Y
 
 abbrev pub ownersFound : List ℕ → ℕ → OwnersFound
 ownersFound s at =
@@ -85,3 +89,28 @@ transferTo W.Missing = R.Missing
 abbrev pub recipientsFound : ℕ → List ℕ → ℕ → RecipientsFound
 recipientsFound type s at =
     pick (eqb type 12) (number 4 .run s at (λ e. R.Missing) λ count first. R.Fields (Q.Mint first count)) (transferTo (ownersFound s at))
+
+abbrev pub onTerms : TermsFound → (TermsFields → ℕ → OperationFound) → OperationFound
+onTerms (T.Fields t n) go = go t n
+onTerms T.Missing go = Y.Missing
+
+abbrev pub onRecipients : RecipientsFound → (Recipients → OperationFields) → OperationFound
+onRecipients (R.Fields r) make = Y.Fields (make r)
+onRecipients R.Missing make = Y.Missing
+
+-- an operation whose pairs stand from `place` on
+abbrev pub operationOf : ℕ → ℕ → TermsFields → Recipients → OperationFields
+operationOf place count t r = record { «outputs_at» = place; «outputs_count» = count; terms = t; recipients = r }
+
+abbrev pub actionFound : ℕ → ℕ → List ℕ → ℕ → OperationFound
+actionFound place count s at =
+    number 4 .run s at (λ e. Y.Missing) λ type i.
+    onTerms (termsFound s i) λ t o.
+    onRecipients (recipientsFound type s o) (operationOf place count t)
+
+abbrev pub operationFound : List ℕ → ℕ → OperationFound
+operationFound s at =
+    blob 32 .run s at (λ e. Y.Missing) λ asset p.
+    number 4 .run s p (λ e. Y.Missing) λ count first.
+    blob (36 * count) .run s first (λ e. Y.Missing) λ pairs t.
+    actionFound first count s t

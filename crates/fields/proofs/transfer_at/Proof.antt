@@ -1,8 +1,8 @@
--- `entry::fields::transfer_at` meets its contract. Assumes nothing.
+-- `fields::transfer_at` meets its contract. Assumes nothing.
 use borrow.Author.Needs.{needs}
-use Rattle.entry.proofs.Typing.{finding}
-use Rattle.entry.proofs.fields.transfer_at.Statement.{statement}
-use Rattle.entry.proofs.fields.transfer_at.Tie as tie
+use Rattle.fields.proofs.Passing.{finding}
+use Rattle.fields.proofs.transfer_at.Statement.{statement}
+use Rattle.fields.proofs.transfer_at.Tie as tie
 
 pub transfer-at-spec : {M : Type 1} → statement M
 transfer-at-spec =

@@ -1,8 +1,8 @@
--- `entry::fields::output_at` meets its contract. Assumes nothing.
+-- `fields::output_at` meets its contract. Assumes nothing.
 use borrow.Author.Needs.{needs}
-use Rattle.entry.proofs.Typing.{finding}
-use Rattle.entry.proofs.fields.output_at.Statement.{statement}
-use Rattle.entry.proofs.fields.output_at.Tie as tie
+use Rattle.fields.proofs.Passing.{finding}
+use Rattle.fields.proofs.output_at.Statement.{statement}
+use Rattle.fields.proofs.output_at.Tie as tie
 
 pub output-at-spec : {M : Type 1} → statement M
 output-at-spec =

@@ -30,24 +30,18 @@ use Rattle.element.specs.declared.Recipients.the-variants as Q
 use Rattle.element.specs.declared.OperationFields.{OperationFields}
 use Rattle.element.proofs.Reading.{key-wide}
 use Rattle.transaction.proofs.Reading.{written-next}
-use Rattle.transaction.specs.declared.Entry.the-variants as E
-use Rattle.entry.specs.Typed.{onTerms, onRecipients, actionTyped, operationTyped}
-use Rattle.entry.specs.Fields.{ownersFound, outputOf, bodyFound, outputFound, inputFound, termsFound, transferTo, recipientsFound}
-use Rattle.entry.specs.declared.OwnersFound.{OwnersFound}
-use Rattle.entry.specs.declared.OwnersFound.the-variants as W
-use Rattle.entry.specs.declared.OutputFound.{OutputFound}
-use Rattle.entry.specs.declared.OutputFound.the-variants as O
-use Rattle.entry.specs.declared.InputFound.the-variants as I
-use Rattle.entry.specs.declared.TermsFound.{TermsFound}
-use Rattle.entry.specs.declared.TermsFound.the-variants as M
-use Rattle.entry.specs.declared.RecipientsFound.{RecipientsFound}
-use Rattle.entry.specs.declared.RecipientsFound.the-variants as R
-use Rattle.entry.specs.declared.Typed.{Typed}
-use Rattle.entry.specs.declared.Typed.the-variants as T
-
--- an operation whose pairs stand from `place` on
-abbrev operationOf : ℕ → ℕ → TermsFields → Recipients → OperationFields
-operationOf place count t r = record { «outputs_at» = place; «outputs_count» = count; terms = t; recipients = r }
+use Rattle.fields.specs.Found.{ownersFound, outputOf, bodyFound, outputFound, inputFound, termsFound, transferTo, recipientsFound, onTerms, onRecipients, operationOf, actionFound, operationFound}
+use Rattle.fields.specs.declared.OwnersFound.{OwnersFound}
+use Rattle.fields.specs.declared.OwnersFound.the-variants as W
+use Rattle.fields.specs.declared.OutputFound.{OutputFound}
+use Rattle.fields.specs.declared.OutputFound.the-variants as O
+use Rattle.fields.specs.declared.InputFound.the-variants as I
+use Rattle.fields.specs.declared.TermsFound.{TermsFound}
+use Rattle.fields.specs.declared.TermsFound.the-variants as M
+use Rattle.fields.specs.declared.RecipientsFound.{RecipientsFound}
+use Rattle.fields.specs.declared.RecipientsFound.the-variants as R
+use Rattle.fields.specs.declared.OperationFound.{OperationFound}
+use Rattle.fields.specs.declared.OperationFound.the-variants as Y
 
 -- what follows the pairs, from `at` up to `end`
 abbrev actionFields : ℕ → ℕ → ℕ → ℕ → Action → OperationFields
@@ -204,7 +198,7 @@ module _ (s : List ℕ) (b : Slice s) where
       L.run-took (number 4) s at (λ e. R.Missing) _ c f ec ∙ ap₂ (λ (x y : ℕ). R.Fields (Q.Mint x y)) (number-ends 4 at c f ec) (sym size)
   recipients-found transferNft at o m h = ap transferTo (owners-found at o m h)
 
-  action-found : (place count at : ℕ) (v : Action) (m : ℕ) → read action s at ≡ took v m → actionTyped place count s at ≡ T.Entry (E.Operation (actionFields place count at m v))
+  action-found : (place count at : ℕ) (v : Action) (m : ℕ) → read action s at ≡ took v m → actionFound place count s at ≡ Y.Fields (actionFields place count at m v)
   unfolding action tag andThen
   action-found place count at v m h =
       let (n, i, en, e₁) = run-inv (number 4) s at _ v m h in
@@ -213,14 +207,14 @@ module _ (s : List ℕ) (b : Slice s) where
       let (r, k, er, e₄) = run-inv (operationOwners (operationType n)) s o (λ r k. took (operationType n, (w, r)) k) v m e₃ in
       let next : i ≡ at + 4 = number-ends 4 at n i en in
       let end : o ≡ at + 4 + length (terms .write w) = written-next terms s i w o b ew ∙ ap (λ (j : ℕ). j + length (terms .write w)) next in
-      moved (λ x j. actionTyped place count s at ≡ T.Entry (E.Operation (actionFields place count at j x))) e₄
-      (L.run-took (number 4) s at (λ e. T.Missing) _ n i en
+      moved (λ x j. actionFound place count s at ≡ Y.Fields (actionFields place count at j x)) e₄
+      (L.run-took (number 4) s at (λ e. Y.Missing) _ n i en
       ∙ ap (λ (f : TermsFound). onTerms f (λ t o. onRecipients (recipientsFound n s o) (operationOf place count t))) (terms-found i w o ew)
       ∙ ap (λ (c : ℕ). onRecipients (recipientsFound c s o) (operationOf place count (termsFields i o w))) (sym (listed-code operationCode operationType operationType-code (mintNft ∷ transferNft ∷ []) n has))
       ∙ ap (λ (f : RecipientsFound). onRecipients f (operationOf place count (termsFields i o w))) (recipients-found (operationType n) o r k er)
-      ∙ ap (λ (f : OperationFields). T.Entry (E.Operation f)) (action-placed place count at i o k (operationType n) w r next end))
+      ∙ ap (λ (f : OperationFields). Y.Fields f) (action-placed place count at i o k (operationType n) w r next end))
 
-  pub operation-found : (at : ℕ) (v : Operation) (m : ℕ) → read operation s at ≡ took v m → operationTyped s at ≡ T.Entry (E.Operation (operationFields at m v))
+  pub operation-found : (at : ℕ) (v : Operation) (m : ℕ) → read operation s at ≡ took v m → operationFound s at ≡ Y.Fields (operationFields at m v)
   unfolding operation named andThen counted
   operation-found at v m h =
       let (x, p, ex, e₁) = run-inv (blob 32) s at _ v m h in
@@ -229,7 +223,7 @@ module _ (s : List ℕ) (b : Slice s) where
       let (w, k, ew, e₄) = run-inv action s t (λ w k. took record { asset = x; outputs = l; terms = w .1 .0; owners = (w .0, w .1 .1) } k) v m e₃ in
       let (size, ends) = L.wide-took key keyWidth key-wide c s f l t b el in
       let first : f ≡ at + 36 = omega (arith, number-ends 4 p c f ec, written-next (blob 32) s at x p b ex, L.blob-wide 32 x (blob 32 .sound s at x p (slice-bytes s b) ex .0)) in
-      moved (λ y j. operationTyped s at ≡ T.Entry (E.Operation (operationFields at j y))) e₄
-      (L.run-took (blob 32) s at (λ e. T.Missing) _ x p ex ∙ L.run-took (number 4) s p (λ e. T.Missing) _ c f ec
-      ∙ span key keyWidth key-wide c f l t (λ e. T.Missing) _ el _ (λ y. action-found f c t w k ew)
-      ∙ ap (λ (o : OperationFields). T.Entry (E.Operation o)) (operation-placed at f c t k x l w first size ends))
+      moved (λ y j. operationFound s at ≡ Y.Fields (operationFields at j y)) e₄
+      (L.run-took (blob 32) s at (λ e. Y.Missing) _ x p ex ∙ L.run-took (number 4) s p (λ e. Y.Missing) _ c f ec
+      ∙ span key keyWidth key-wide c f l t (λ e. Y.Missing) _ el _ (λ y. action-found f c t w k ew)
+      ∙ ap (λ (o : OperationFields). Y.Fields o) (operation-placed at f c t k x l w first size ends))

@@ -1,12 +1,8 @@
-// The numbers of what stands at a place of an accepted transaction, by their places alone: the check has judged them.
+// The typed fields of what stands at a place of an accepted transaction, found by their places alone: the check has judged them.
 ghost use mathlib.Core.Path.{_≡_};
-ghost use Rattle.entry.specs.Fields.{ownersFound, mintFound, transferFound, nftMintFound, nftTransferFound, outputFound, inputFound, termsFound, recipientsFound};
-use crate::InputFound;
-use crate::OutputFound;
-use crate::OwnersFound;
-use crate::RecipientsFound;
-use crate::TermsFound;
+ghost use Rattle.fields.specs.Found.{ownersFound, mintFound, transferFound, nftMintFound, nftTransferFound, outputFound, inputFound, termsFound, recipientsFound, actionFound, operationFound};
 use element::InputFields;
+use element::OperationFields;
 use element::OutputFields;
 use element::OwnersFields;
 use element::Recipients;
@@ -14,7 +10,39 @@ use element::TermsFields;
 use wire::Number;
 use wire::Part;
 
-pub fn owners_at(s: &[u8], at: usize) -> OwnersFound
+// The fields of what stands at a place, if they are all there.
+pub enum OwnersFound {
+    Fields(OwnersFields),
+    Missing,
+}
+
+pub enum OutputFound {
+    Fields(OutputFields),
+    Missing,
+}
+
+pub enum InputFound {
+    Fields(InputFields),
+    Missing,
+}
+
+// With the place behind them.
+pub enum TermsFound {
+    Fields(TermsFields, usize),
+    Missing,
+}
+
+pub enum RecipientsFound {
+    Fields(Recipients),
+    Missing,
+}
+
+pub enum OperationFound {
+    Fields(OperationFields),
+    Missing,
+}
+
+fn owners_at(s: &[u8], at: usize) -> OwnersFound
     ensures { λ r. ⌜ r ≡ ownersFound (now (s .entry)) at ⌝ }
 {
     let Number::Value(locktime, t) = wire::u64_at(s, at) else {
@@ -147,7 +175,7 @@ pub fn input_at(s: &[u8], at: usize) -> InputFound
 }
 
 // An operation's address indices, group and payload, and the place behind them.
-pub fn terms_at(s: &[u8], at: usize) -> TermsFound
+fn terms_at(s: &[u8], at: usize) -> TermsFound
     ensures { λ r. ⌜ r ≡ termsFound (now (s .entry)) at ⌝ }
 {
     let Number::Value(indices_count, indices_at) = wire::u32_at(s, at) else {
@@ -178,7 +206,7 @@ pub fn terms_at(s: &[u8], at: usize) -> TermsFound
 }
 
 // Behind the terms: a mint (12) has a list of owners, a transfer (13) has owners.
-pub fn recipients_at(s: &[u8], at: usize, kind: u64) -> RecipientsFound
+fn recipients_at(s: &[u8], at: usize, kind: u64) -> RecipientsFound
     ensures { λ r. ⌜ r ≡ recipientsFound kind (now (s .entry)) at ⌝ }
 {
     if kind == 12 {
@@ -194,4 +222,41 @@ pub fn recipients_at(s: &[u8], at: usize, kind: u64) -> RecipientsFound
         OwnersFound::Missing => RecipientsFound::Missing,
         OwnersFound::Fields(owners) => RecipientsFound::Fields(Recipients::Transfer(owners)),
     }
+}
+
+// What follows an operation's pairs.
+fn action_at(s: &[u8], at: usize, outputs_at: usize, outputs_count: u64) -> OperationFound
+    ensures { λ r. ⌜ r ≡ actionFound «outputs_at» «outputs_count» (now (s .entry)) at ⌝ }
+{
+    let Number::Value(kind, i) = wire::u32_at(s, at) else {
+        return OperationFound::Missing;
+    };
+    match terms_at(s, i) {
+        TermsFound::Missing => OperationFound::Missing,
+        TermsFound::Fields(terms, o) => match recipients_at(s, o, kind) {
+            RecipientsFound::Missing => OperationFound::Missing,
+            RecipientsFound::Fields(recipients) => OperationFound::Fields(OperationFields {
+                outputs_at,
+                outputs_count,
+                terms,
+                recipients,
+            }),
+        },
+    }
+}
+
+// An operation: asset id, (id, index) pairs, and what follows them.
+pub fn operation_at(s: &[u8], at: usize) -> OperationFound
+    ensures { λ r. ⌜ r ≡ operationFound (now (s .entry)) at ⌝ }
+{
+    let Part::Next(p) = wire::part_at(s, at, 32) else {
+        return OperationFound::Missing;
+    };
+    let Number::Value(outputs_count, outputs_at) = wire::u32_at(s, p) else {
+        return OperationFound::Missing;
+    };
+    let Part::Next(t) = wire::part_at(s, outputs_at, 36 * outputs_count as usize) else {
+        return OperationFound::Missing;
+    };
+    action_at(s, t, outputs_at, outputs_count)
 }

@@ -1,8 +1,8 @@
--- `entry::fields::owners_at` meets its contract. Assumes nothing.
+-- `fields::owners_at` meets its contract. Assumes nothing.
 use borrow.Author.Needs.{needs}
-use Rattle.entry.proofs.Typing.{finding}
-use Rattle.entry.proofs.fields.owners_at.Statement.{statement}
-use Rattle.entry.proofs.fields.owners_at.Tie as tie
+use Rattle.fields.proofs.Passing.{finding}
+use Rattle.fields.proofs.owners_at.Statement.{statement}
+use Rattle.fields.proofs.owners_at.Tie as tie
 
 pub owners-at-spec : {M : Type 1} → statement M
 owners-at-spec =

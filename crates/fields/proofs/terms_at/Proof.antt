@@ -1,8 +1,8 @@
--- `entry::fields::terms_at` meets its contract. Assumes nothing.
+-- `fields::terms_at` meets its contract. Assumes nothing.
 use borrow.Author.Needs.{needs}
-use Rattle.entry.proofs.Typing.{finding, span-fits}
-use Rattle.entry.proofs.fields.terms_at.Statement.{statement}
-use Rattle.entry.proofs.fields.terms_at.Tie as tie
+use Rattle.fields.proofs.Passing.{finding, span-fits}
+use Rattle.fields.proofs.terms_at.Statement.{statement}
+use Rattle.fields.proofs.terms_at.Tie as tie
 
 pub terms-at-spec : {M : Type 1} → statement M
 terms-at-spec =

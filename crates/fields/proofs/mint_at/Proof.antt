@@ -1,8 +1,8 @@
--- `entry::fields::mint_at` meets its contract. Assumes nothing.
+-- `fields::mint_at` meets its contract. Assumes nothing.
 use borrow.Author.Needs.{needs}
-use Rattle.entry.proofs.Typing.{finding}
-use Rattle.entry.proofs.fields.mint_at.Statement.{statement}
-use Rattle.entry.proofs.fields.mint_at.Tie as tie
+use Rattle.fields.proofs.Passing.{finding}
+use Rattle.fields.proofs.mint_at.Statement.{statement}
+use Rattle.fields.proofs.mint_at.Tie as tie
 
 pub mint-at-spec : {M : Type 1} → statement M
 mint-at-spec =

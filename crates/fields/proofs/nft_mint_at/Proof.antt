@@ -1,8 +1,8 @@
--- `entry::fields::nft_mint_at` meets its contract. Assumes nothing.
+-- `fields::nft_mint_at` meets its contract. Assumes nothing.
 use borrow.Author.Needs.{needs}
-use Rattle.entry.proofs.Typing.{finding}
-use Rattle.entry.proofs.fields.nft_mint_at.Statement.{statement}
-use Rattle.entry.proofs.fields.nft_mint_at.Tie as tie
+use Rattle.fields.proofs.Passing.{finding}
+use Rattle.fields.proofs.nft_mint_at.Statement.{statement}
+use Rattle.fields.proofs.nft_mint_at.Tie as tie
 
 pub nft-mint-at-spec : {M : Type 1} → statement M
 nft-mint-at-spec =

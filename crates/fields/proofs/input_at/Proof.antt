@@ -1,8 +1,8 @@
--- `entry::fields::input_at` meets its contract. Assumes nothing.
+-- `fields::input_at` meets its contract. Assumes nothing.
 use borrow.Author.Needs.{needs}
-use Rattle.entry.proofs.Typing.{finding}
-use Rattle.entry.proofs.fields.input_at.Statement.{statement}
-use Rattle.entry.proofs.fields.input_at.Tie as tie
+use Rattle.fields.proofs.Passing.{finding}
+use Rattle.fields.proofs.input_at.Statement.{statement}
+use Rattle.fields.proofs.input_at.Tie as tie
 
 pub input-at-spec : {M : Type 1} → statement M
 input-at-spec =

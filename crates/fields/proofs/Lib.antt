@@ -1,0 +1,3 @@
+-- What is proved of typed fields
+pub mod Passing
+pub mod Finding

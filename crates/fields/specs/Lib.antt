@@ -1,0 +1,2 @@
+-- The typed fields of elements, found by their places
+pub mod Found
