@@ -12,7 +12,7 @@ use Rattle.wire.specs.Series.{items, listRun, list-inv, left, notBelow}
 use Rattle.wire.specs.declared.Number.the-variants as N
 use Rattle.wire.proofs.Bytes.{Slice}
 use Rattle.wire.proofs.Reading.{run-took}
-use Rattle.element.specs.Strings.{memo}
+use Rattle.string.specs.Strings.{memo}
 use Rattle.element.specs.Outputs.{TransferableOutput, transferableOutput}
 use Rattle.element.specs.Inputs.{Input, input}
 use Rattle.element.specs.Operations.{Operation, operation}

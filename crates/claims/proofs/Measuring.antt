@@ -8,7 +8,7 @@ use Rattle.wire.specs.Fields.{number, blob, length-number}
 use Rattle.wire.specs.Sequence.{andThen, guard, named, tag}
 use Rattle.wire.specs.Series.{items, listWrite, above, left}
 use Rattle.wire.proofs.Reading as W
-use Rattle.element.specs.Strings.{string, payload}
+use Rattle.string.specs.Strings.{string, payload}
 use Rattle.element.specs.Owners.{Owners, owners, addressWidth}
 use Rattle.element.specs.Outputs.{OutputType, outputCode, secpMint, secpTransfer, nftMint, nftTransfer, amount, transferBody, outputBody, output}
 use Rattle.transaction.proofs.Beside.{length-input}

@@ -8,7 +8,7 @@ use Rattle.wire.specs.Format.{read, verdict, Result, took, refused}
 use Rattle.wire.specs.Fields.{number, blobRun, constant}
 use Rattle.wire.specs.Sequence.{guard, tag}
 use Rattle.wire.specs.Series.{items, listRun, listWrite, counted}
-use Rattle.element.specs.Strings.{string, text, printable, unprintable, denomination}
+use Rattle.string.specs.Strings.{string, text, printable, unprintable, denomination}
 use Rattle.element.specs.Owners.{owners}
 use Rattle.element.specs.Outputs.{amount, transferBody, output, transferableOutput}
 use Rattle.element.specs.Inputs.{key, indices, spend, inputAfter}

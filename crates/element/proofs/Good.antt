@@ -16,7 +16,7 @@ use Rattle.wire.specs.Series.{left, Chain, above, notBelow, series, counted}
 use Rattle.wire.specs.Orders.{All, OneOf, Increasing, Nondecreasing, Ascending}
 use Rattle.wire.proofs.Bytes.{key-below}
 use Rattle.wire.proofs.Orders.{constant-good, tag-good, keyBelow-order, above-good, notBelow-good, unordered-good, ascending-good, series-good, counted-good, adjacent-map}
-use Rattle.element.specs.Strings.{string, payload, isPrintable, unprintable, text, denomination}
+use Rattle.string.specs.Strings.{string, payload, isPrintable, unprintable, text, denomination}
 use Rattle.element.specs.Owners.{Owners, owners}
 use Rattle.element.specs.Outputs.{amount, transferBody, OutputType, secpMint, secpTransfer, nftMint, nftTransfer, outputCode, OutputBody, outputBody, outputType, outputType-code, Output, output, TransferableOutput, transferableOutput}
 use Rattle.element.specs.Inputs.{key, indices, Input, spend, inputAfter, input}

@@ -34,7 +34,7 @@ use Rattle.wire.specs.Answer.{ended, valued, wholeAt}
 use Rattle.wire.proofs.Bytes.{Slice, slice-bytes, found, below-digits, key-below}
 use Rattle.wire.proofs.Orders.{empty-below}
 use Rattle.wire.proofs.Reading as W
-use Rattle.element.specs.Strings.{unprintable, unprintable-le, string}
+use Rattle.string.proofs.Reading as S
 use Rattle.element.specs.Owners.{Owners, owners}
 use Rattle.element.specs.Outputs.{OutputType, Output, output, TransferableOutput, transferableOutput}
 use Rattle.element.specs.Inputs.{key, Input, spend, inputAfter, input}
@@ -79,35 +79,6 @@ module _ {A T R : Type 0} (F : Format A) (no : Refusal → T) (whole : A → ℕ
   on-refused e q never same r =
       let (d, t, i) = answer-refused F s at no whole x p (no e) q (λ v m j. let k : _≡_ {A = ℕ} 0 1 = never v m j in omega arith) in
       r ∙ ap stop (sym (same d i)) ∙ sym (W.run-refused F s at stop go d t)
-
--- ---- fields: how wide a number or a part is that was read, and where the reading goes on
-
-module _ (k : ℕ) (s : List ℕ) (at : ℕ) (x : Number) (v n : ℕ) (p : x ≡ valued (number k) s at) (q : x ≡ N.Value v n) (b : Slice s) where
-  value-read : number k .Good v × Stands s at (number k .write v) n
-  value-read = number k .sound s at v n (slice-bytes s b) (W.number-value-inv (read (number k) s at) v n (sym (number k .same s at N.Refused N.Value) ∙ found p q))
-
-  -- it has as many bytes
-  pub value-small : v < 256 ^ k
-  unfolding number
-  value-small = value-read .0
-
-  value-next : n ≡ at + k
-  value-next = value-read .1 .ends ∙ ap (λ j. at + j) (length-number k v)
-
-module _ (k : ℕ) (s : List ℕ) (at : ℕ) (x : Part) (n : ℕ) (p : x ≡ ended (blob k) s at) (q : x ≡ P.Next n) (b : Slice s) where
-  part-read : (length (part at n s) ≡ k) × (n ≡ at + k)
-  unfolding blob
-  part-read =
-      let (v, t) = W.next-took (blob k) s at x n p q in
-      let (g, h) = blob k .sound s at v n (slice-bytes s b) t in
-      (ap length (sym (W.blob-part k s at v n t)) ∙ g .0, h .ends ∙ ap (λ j. at + j) (g .0))
-
-module _ {R : Type 0} (s : List ℕ) (at : ℕ) (z : R) (stop : Refusal → R) (b : Slice s) where
-  pub on-value-next : (k : ℕ) (go : ℕ → ℕ → R) (x : Number) (v n : ℕ) → x ≡ valued (number k) s at → x ≡ N.Value v n → (n ≡ at + k → z ≡ go v n) → z ≡ number k .run s at stop go
-  on-value-next k go x v n p q e = W.on-value k s at z stop go x v n p q (e (value-next k s at x v n p q b))
-
-  pub on-part-next : (k : ℕ) (go : List ℕ → ℕ → R) (x : Part) (n : ℕ) → x ≡ ended (blob k) s at → x ≡ P.Next n → (n ≡ at + k → z ≡ go (part at n s) n) → z ≡ blob k .run s at stop go
-  on-part-next k go x n p q e = W.on-part k s at z stop go x n p q (e (part-read k s at x n p q b .1))
 
 -- ---- order: code keeps the element before, and whether there is any; the format, its bytes, [] before the first
 
@@ -204,57 +175,6 @@ module _ {A : Type 0} (G : List ℕ → Format A) (k : ℕ) (viewed : A → List
       run-alike-read (G (take k prev)) s at stop _ _ (λ a m q.
       ap (λ (b : List ℕ). listRun G (λ b a. viewed a) n b s m stop (λ l j. go (a ∷ l) j)) (sym (front (take k prev) a (G (take k prev) .sound s at a m bs q .0)))
       ∙ items-viewed s bs n (G (take k prev) .write a) m stop (λ l j. go (a ∷ l) j))
-
--- ---- strings
-
-module _ {R : Type 0} (most : ℕ) (s : List ℕ) (at : ℕ) (z : R) (stop : Refusal → R) (go : List ℕ → ℕ → R) (x : Part) where
-  pub on-string : (n : ℕ) → x ≡ ended (string 4 most) s at → x ≡ P.Next n → ((v : List ℕ) → z ≡ go v n) → z ≡ string 4 most .run s at stop go
-  on-string = W.ends (string 4 most) R s at z stop go x
-
-  pub on-string-refused : (e : Refusal) → x ≡ ended (string 4 most) s at → x ≡ P.Refused e → z ≡ stop e → z ≡ string 4 most .run s at stop go
-  on-string-refused = W.stops (string 4 most) R s at z stop go x
-
--- characters: what is left of the search for one that is not printable, from index i on
-unfoldable pub unprintableFrom : List ℕ → ℕ → ℕ
-unprintableFrom s i = i + unprintable (drop i s)
-
-pub unprintable-all : (s : List ℕ) → unprintableFrom s 0 ≡ unprintable s
-unfolding unprintableFrom
-unprintable-all s = zero-add (unprintable s)
-
-module _ (s : List ℕ) (i y : ℕ) (w : unprintableFrom s i ≡ y) where
-  pub unprintable-low : i < length s → getD s i 0 < 32 → i ≡ y
-  unfolding unprintableFrom unprintable
-  unprintable-low h k = sym (add-zero i) ∙ rw (drop-cons s i 0 h, lt-leb 32 (getD s i 0) k) at w
-
-  pub unprintable-high : i < length s → 126 < getD s i 0 → i ≡ y
-  unfolding unprintableFrom unprintable
-  unprintable-high h k = sym (add-zero i) ∙ rw (drop-cons s i 0 h, le-leb 32 (getD s i 0) (omega arith), lt-leb (getD s i 0) 126 k) at w
-
-  pub unprintable-on : i < length s → 32 ≤ getD s i 0 → getD s i 0 ≤ 126 → unprintableFrom s (i + 1) ≡ y
-  unfolding unprintableFrom unprintable
-  unprintable-on h k l =
-      let e : i + suc (unprintable (drop (suc i) s)) ≡ y = rw (drop-cons s i 0 h, le-leb 32 (getD s i 0) k, le-leb (getD s i 0) 126 l) at w in
-      rw add-one (omega arith)
-
-  pub unprintable-end : length s ≤ i → i ≡ y
-  unfolding unprintableFrom unprintable
-  unprintable-end h = sym (add-zero i) ∙ rw (drop-of-length-le s h) at w
-
-pub ruleset characters = (unprintable-low, unprintable-high, unprintable-on, unprintable-end)
-
--- the characters of a body that is wholly there, where the code has looked at them: u is the index of the first that is not printable
-module _ (k : ℕ) (s : List ℕ) (at : ℕ) (z X : Part) (x : Part) (n : ℕ) (b : List ℕ) (u : ℕ)
-    (p : x ≡ ended (blob k) s at) (q : x ≡ P.Next n) (c : Slice s) (e : b ≡ part at n s) (d : u ≡ unprintable b) where
-  pub if-printable : u ≡ k → z ≡ X → z ≡ pick (eqb (unprintable (part at n s)) (length (part at n s))) X (P.Refused (by notPrintable (at + unprintable (part at n s))))
-  if-printable h i = rw (← e, ← d, h, e, part-read k s at x n p q c .0, eq-eqb k k refl) i
-
-  pub if-unprintable : (u ≡ k → ⊥) → z ≡ P.Refused (by notPrintable (at + u)) → z ≡ pick (eqb (unprintable (part at n s)) (length (part at n s))) X (P.Refused (by notPrintable (at + unprintable (part at n s))))
-  if-unprintable h i = rw (part-read k s at x n p q c .0, ← e, ← d, ne-eqb u k h) i
-
--- and its place is a number of 64 bits
-pub unprintable-fits : (s b : List ℕ) (a e u : ℕ) → b ≡ part a e s → u ≡ unprintable b → length s < 2 ^ 64 → a < 2 ^ 64 → a + u < 2 ^ 64
-unprintable-fits s b a e u h k i j = omega (arith, k, unprintable-le b, ap length h, length-take (e - a) (drop a s), length-drop a s)
 
 -- ---- owners
 
@@ -503,9 +423,9 @@ module _ {R : Type 0} (k : Fx) (s : List ℕ) (at : ℕ) (z : R) (stop : Refusal
 
 -- ---- rulesets: a chain up to a refusal or to an answer that is handed up, and one that went through to its end
 
-pub ruleset reading = (W.on-value, W.on-short, W.on-part, W.on-cut, W.on-part-refused, W.on-list, W.on-list-refused, W.tests, on-owners, on-owners-refused, on-string, on-string-refused)
+pub ruleset reading = (W.on-value, W.on-short, W.on-part, W.on-cut, W.on-part-refused, W.on-list, W.on-list-refused, W.tests, on-owners, on-owners-refused, S.on-string, S.on-string-refused)
 
-pub ruleset wholly = (W.on-value, W.on-part, W.on-numbers, W.tests, on-string, on-owners, value-made)
+pub ruleset wholly = (W.on-value, W.on-part, W.on-numbers, W.tests, S.on-string, on-owners, value-made)
 
 -- an operation behind its pairs
 pub ruleset acting = (on-operation-type, on-operation-type-below, on-operation-type-above, on-operation-type-short, on-terms, on-terms-refused, on-recipients, on-recipients-refused, value-made)

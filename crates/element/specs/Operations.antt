@@ -10,7 +10,7 @@ use Rattle.wire.specs.Format.{Format}
 use Rattle.wire.specs.Fields.{number, blob}
 use Rattle.wire.specs.Sequence.{andThen, named, tag}
 use Rattle.wire.specs.Series.{above, notBelow, counted}
-use Rattle.element.specs.Strings.{payload}
+use Rattle.string.specs.Strings.{payload}
 use Rattle.element.specs.Owners.{Owners, owners, ownersFields}
 use Rattle.element.specs.Outputs.{OutputType, secpMint, secpTransfer, nftMint, nftTransfer, Output, output}
 use Rattle.element.specs.Inputs.{key, keyWidth, indices}

@@ -9,7 +9,7 @@ use Rattle.wire.specs.Numbers.{zeroAmount, unknownType}
 use Rattle.wire.specs.Format.{Format}
 use Rattle.wire.specs.Fields.{number, blob}
 use Rattle.wire.specs.Sequence.{andThen, guard, named, tag}
-use Rattle.element.specs.Strings.{payload}
+use Rattle.string.specs.Strings.{payload}
 use Rattle.element.specs.Owners.{Owners, owners, ownersFields}
 use Rattle.element.specs.declared.OutputFields.{OutputFields}
 use Rattle.element.specs.declared.OutputFields.the-variants as O

@@ -4,7 +4,6 @@ pub mod inputs;
 pub mod operations;
 pub mod outputs;
 pub mod owners;
-pub mod strings;
 
 // The numbers of an owners part: its addresses are addresses_count times 20 bytes from addresses_at on.
 pub struct OwnersFields {

@@ -8,7 +8,6 @@ ghost use Rattle.element.specs.Answer.{askedByTerms, askedByAction, aske
 use crate::inputs;
 use crate::outputs;
 use crate::owners;
-use crate::strings;
 use wire::Number;
 use wire::Part;
 use wire::Refusal;
@@ -59,7 +58,7 @@ pub fn asked_by_terms(s: &[u8], at: usize) -> Number
             let Number::Value(_, p) = wire::u32_at(s, g) else {
                 return Number::Refused(wire::cut(s, g, 4));
             };
-            match strings::string_at(s, p, 1024) {
+            match string::string_at(s, p, 1024) {
                 Part::Refused(refusal) => Number::Refused(refusal),
                 Part::Next(next) => Number::Value(asked, next),
             }

@@ -6,7 +6,6 @@ ghost use Rattle.element.specs.Outputs.{transferBody, output, transferab
 ghost use Rattle.element.specs.Operations.{secpFx, nftFx, fxOutputs};
 ghost use Rattle.element.specs.Answer.{inOrder};
 use crate::owners;
-use crate::strings;
 use wire::Number;
 use wire::Part;
 use wire::Refusal;
@@ -68,7 +67,7 @@ pub fn nft_at(s: &[u8], at: usize) -> Part
     let Number::Value(_, p) = wire::u32_at(s, g) else {
         return Part::Refused(wire::cut(s, g, 4));
     };
-    match strings::string_at(s, p, 1024) {
+    match string::string_at(s, p, 1024) {
         Part::Refused(refusal) => Part::Refused(refusal),
         Part::Next(o) => owners::owners_at(s, o),
     }

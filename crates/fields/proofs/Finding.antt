@@ -15,7 +15,7 @@ use Rattle.wire.specs.Sequence.{guard, andThen, named, tag, find-is, listed, li
 use Rattle.wire.specs.Series.{items, left, above, increasing, unordered, counted, items-sized}
 use Rattle.wire.proofs.Bytes.{Slice, slice-bytes}
 use Rattle.wire.proofs.Reading as L
-use Rattle.element.specs.Strings.{string}
+use Rattle.string.specs.Strings.{string}
 use Rattle.element.specs.Owners.{Owners, addressWidth, owners, ownersFields}
 use Rattle.element.specs.Outputs.{amount, OutputType, secpMint, secpTransfer, nftMint, nftTransfer, outputCode, outputType, outputType-code, OutputBody, transferBody, outputBody, Output, output, outputFields}
 use Rattle.element.specs.Inputs.{key, keyWidth, indices, spend, Input, inputFields}

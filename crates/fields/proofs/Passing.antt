@@ -16,7 +16,7 @@ use Rattle.element.specs.declared.TermsFields.{TermsFields}
 use Rattle.element.specs.declared.Recipients.{Recipients}
 use Rattle.element.specs.declared.Recipients.the-variants as Q
 use Rattle.element.specs.declared.OperationFields.{OperationFields}
-use Rattle.element.proofs.Reading.{value-small}
+use Rattle.wire.proofs.Reading.{value-small}
 use Rattle.fields.specs.Found.{outputOf, transferTo, onTerms, onRecipients}
 use Rattle.fields.specs.declared.OwnersFound.{OwnersFound}
 use Rattle.fields.specs.declared.OwnersFound.the-variants as W

@@ -15,7 +15,7 @@ use Rattle.wire.specs.Numbers.{ruleNumber, unknownType, badLength, notPrintable
 use Rattle.wire.specs.Fields.{number, blob, constant}
 use Rattle.wire.specs.Sequence.{andThen, guard, guardAt, named, tag}
 use Rattle.wire.specs.declared.Refusal.{Refusal}
-use Rattle.element.specs.Strings.{string, text, unprintable, printable, denomination}
+use Rattle.string.specs.Strings.{string, text, unprintable, printable, denomination}
 use Rattle.transaction.specs.Family.{head}
 use Rattle.transaction.specs.Avm.{avm}
 use Rattle.transaction.specs.Answer.{memoMost}

@@ -6,7 +6,7 @@ use lib.ListN.{length}
 use lib.Dec.{ltb, leb, eqb}
 use Rattle.wire.specs.Bytes.{pick}
 use Rattle.wire.specs.Numbers.{ruleNumber, unknownType, badLength, emptyList, notPrintable, badDenomination}
-use Rattle.element.specs.Strings.{unprintable}
+use Rattle.string.specs.Strings.{unprintable}
 use Rattle.judge.specs.declared.Verdict.{Verdict}
 use Rattle.judge.specs.declared.Verdict.the-variants as J
 

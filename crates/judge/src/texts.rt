@@ -42,7 +42,7 @@ pub fn text_rules(bytes: &[u8], most: usize) -> Verdict
     if most < bytes.len() {
         return Verdict::Refuse(wire::numbers::BAD_LENGTH);
     }
-    if element::strings::first_unprintable(bytes) == bytes.len() {
+    if string::first_unprintable(bytes) == bytes.len() {
         return Verdict::Fine;
     }
     Verdict::Refuse(wire::numbers::NOT_PRINTABLE)

@@ -15,11 +15,11 @@ use Rattle.wire.specs.Sequence.{andThen, guard, guardAt, named, tag}
 use Rattle.wire.specs.Series.{Chain, items, left, above, notBelow, counted}
 use Rattle.element.specs.Owners.{Owners, owners}
 use Rattle.element.specs.Outputs.{amount, Output, secpMint, secpTransfer, nftMint, nftTransfer, transferBody, output, TransferableOutput, transferableOutput}
-use Rattle.element.specs.Strings.{denomination}
+use Rattle.string.specs.Strings.{denomination}
 use Rattle.element.specs.Inputs.{key, indices, spend, Input, inputAfter, input}
 use Rattle.element.specs.Operations as Operations
 use Rattle.element.specs.Operations.{InitialState, initialStateAfter, initialState}
-use Rattle.element.specs.Strings as Strings
+use Rattle.string.specs.Strings as Strings
 use Rattle.transaction.specs.Entries.{outputEntry, exportedEntry, inputEntry, importedEntry}
 use Rattle.transaction.specs.Slots.{slotAt, putAll}
 use Rattle.transaction.specs.Credentials.{layout, blanks}

@@ -17,7 +17,7 @@ use Rattle.wire.specs.Sequence.{guard, tag, andThen, «as»}
 use Rattle.wire.specs.Series.{items, listRun, list-inv, left, notBelow}
 use Rattle.wire.proofs.Bytes.{Slice, slice-bytes}
 use Rattle.wire.proofs.Reading as W
-use Rattle.element.specs.Strings.{memo, name, symbol, denomination}
+use Rattle.string.specs.Strings.{memo, name, symbol, denomination}
 use Rattle.element.specs.Outputs.{OutputType, Output, output, TransferableOutput, transferableOutput}
 use Rattle.element.specs.Inputs.{Input, input}
 use Rattle.element.specs.Operations.{Operation, operation, InitialState, Fx, fxCode, fxOf, fxOf-code, fxOutputs, fxId, stateOutputs, initialStateAfter, initialState}

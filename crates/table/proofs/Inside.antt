@@ -8,7 +8,7 @@ use Rattle.wire.specs.Format.{Format}
 use Rattle.wire.specs.Fields.{number, blob, length-number}
 use Rattle.wire.specs.Sequence.{guard, tag}
 use Rattle.wire.specs.Series.{items, left, listWrite, notBelow}
-use Rattle.element.specs.Strings.{memo, name, symbol, denomination}
+use Rattle.string.specs.Strings.{memo, name, symbol, denomination}
 use Rattle.element.specs.Outputs.{output, transferableOutput}
 use Rattle.element.specs.Inputs.{input}
 use Rattle.element.specs.Operations.{operation, InitialState, fxCode, fxOutputs, fxId, stateOutputs, initialStateAfter, initialState}

@@ -18,7 +18,7 @@ use Rattle.wire.specs.Series.{items, listRun, listWrite, list-inv, left, above,
 use Rattle.wire.specs.Answer.{ended}
 use Rattle.wire.proofs.Bytes.{Slice, slice-bytes}
 use Rattle.wire.proofs.Reading as W
-use Rattle.element.specs.Strings.{memo}
+use Rattle.string.specs.Strings.{memo}
 use Rattle.element.specs.Outputs.{amount, TransferableOutput, transferableOutput}
 use Rattle.element.specs.Inputs.{key, indices, spend, Input, inputAfter, input}
 use Rattle.element.specs.Operations.{Operation, operation, InitialState}

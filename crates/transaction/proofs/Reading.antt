@@ -23,9 +23,11 @@ use Rattle.wire.specs.Series.{items, left, items-sized, notBelow}
 use Rattle.wire.specs.Answer.{ended, valued}
 use Rattle.wire.proofs.Bytes.{Slice, slice-bytes, found}
 use Rattle.wire.proofs.Reading as W
-use Rattle.element.specs.Strings.{string, text, denomination}
+use Rattle.string.specs.Strings.{string, text, denomination}
 use Rattle.element.specs.Operations.{operation}
-use Rattle.element.proofs.Reading.{answer-took, answer-refused, on-value-next, on-part-next, on-string-refused}
+use Rattle.wire.proofs.Reading.{on-value-next, on-part-next}
+use Rattle.string.proofs.Reading.{on-string-refused}
+use Rattle.element.proofs.Reading.{answer-took, answer-refused}
 use Rattle.transaction.specs.Slots.{signatureWidth}
 use Rattle.transaction.specs.Credentials.{signatures, credentialPieces, pieces}
 use Rattle.transaction.specs.Plan.{Value, form, atLeast}

@@ -12,7 +12,7 @@ use Rattle.wire.specs.Bytes.{Bytes}
 use Rattle.wire.specs.Numbers.{refusal, tooLong}
 use Rattle.wire.specs.Format.{Result, took, refused, onResult, verdict, refused-placed}
 use Rattle.wire.specs.Series.{notBelow}
-use Rattle.element.specs.Strings.{memo}
+use Rattle.string.specs.Strings.{memo}
 use Rattle.element.specs.Outputs.{transferableOutput}
 use Rattle.element.specs.Inputs.{input}
 use Rattle.transaction.specs.Signed as Any

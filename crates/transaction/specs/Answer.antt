@@ -11,7 +11,7 @@ use Rattle.wire.specs.Series.{notBelow}
 use Rattle.wire.specs.declared.Refusal.{Refusal}
 use Rattle.wire.specs.declared.Part.{Part}
 use Rattle.wire.specs.declared.Part.the-variants as P
-use Rattle.element.specs.Strings.{memo, name, symbol, denomination}
+use Rattle.string.specs.Strings.{memo, name, symbol, denomination}
 use Rattle.element.specs.Outputs.{transferableOutput}
 use Rattle.element.specs.Inputs.{input}
 use Rattle.element.specs.Operations.{operation, initialState}

@@ -9,7 +9,7 @@ use Rattle.wire.specs.Bytes.{pick}
 use Rattle.wire.specs.Fields.{number, length-number, blob}
 use Rattle.wire.specs.Sequence.{guard}
 use Rattle.wire.specs.Series.{notBelow}
-use Rattle.element.specs.Strings.{memo, name, symbol, denomination}
+use Rattle.string.specs.Strings.{memo, name, symbol, denomination}
 use Rattle.element.specs.Outputs.{TransferableOutput, transferableOutput}
 use Rattle.element.specs.Inputs.{Input, key, inputAfter, input}
 use Rattle.element.specs.Operations.{Operation, operation, InitialState, fxCode, fxId, initialStateAfter, initialState}

@@ -143,11 +143,11 @@ pub fn states_at(s: &[u8], at: usize) -> ListRead
 fn asset_at(s: &[u8], at: usize) -> ListRead
     ensures { λ r. ⌜ r ≡ ownAt Kind.CreateAsset (now (s .entry)) at ⌝ }
 {
-    match element::strings::text_at(s, at, 128) {
+    match string::text_at(s, at, 128) {
         Part::Refused(refusal) => ListRead::Refused(refusal),
-        Part::Next(b) => match element::strings::text_at(s, b, 4) {
+        Part::Next(b) => match string::text_at(s, b, 4) {
             Part::Refused(refusal) => ListRead::Refused(refusal),
-            Part::Next(d) => match element::strings::denomination_at(s, d) {
+            Part::Next(d) => match string::denomination_at(s, d) {
                 Part::Refused(refusal) => ListRead::Refused(refusal),
                 Part::Next(l) => match states_at(s, l) {
                     ListRead::Refused(refusal) => ListRead::Refused(refusal),
@@ -223,7 +223,7 @@ pub fn body_at(s: &[u8], at: usize, kind: Kind) -> UnsignedRead
         ListRead::Refused(refusal) => UnsignedRead::Refused(refusal),
         ListRead::Whole(_, outputs_count, i) => match base_inputs_at(s, i) {
             ListRead::Refused(refusal) => UnsignedRead::Refused(refusal),
-            ListRead::Whole(inputs_at, inputs_count, m) => match element::strings::string_at(
+            ListRead::Whole(inputs_at, inputs_count, m) => match string::string_at(
                 s,
                 m,
                 MEMO_MOST,

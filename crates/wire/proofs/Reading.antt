@@ -219,6 +219,35 @@ module _ {R : Type 0} (k : ℕ) (s : List ℕ) (at : ℕ) (z : R) (stop : Refusa
         let o = number-refused-inv (read (number k) s at) e (sym (number k .same s at N.Refused N.Value) ∙ found p q) in
         on-number-refused e p q (r ∙ ap stop (g ∙ sym (number-stops k s at e o)))
 
+-- ---- how wide a number or a part is that was read, and where the reading goes on
+
+module _ (k : ℕ) (s : List ℕ) (at : ℕ) (x : Number) (v n : ℕ) (p : x ≡ valued (number k) s at) (q : x ≡ N.Value v n) (b : Slice s) where
+  value-read : number k .Good v × Stands s at (number k .write v) n
+  value-read = number k .sound s at v n (slice-bytes s b) (value-took k s at x v n p q)
+
+  -- it has as many bytes
+  pub value-small : v < 256 ^ k
+  unfolding number
+  value-small = value-read .0
+
+  value-next : n ≡ at + k
+  value-next = value-read .1 .ends ∙ ap (λ j. at + j) (length-number k v)
+
+module _ (k : ℕ) (s : List ℕ) (at : ℕ) (x : Part) (n : ℕ) (p : x ≡ ended (blob k) s at) (q : x ≡ P.Next n) (b : Slice s) where
+  pub part-read : (length (part at n s) ≡ k) × (n ≡ at + k)
+  unfolding blob
+  part-read =
+      let (v, t) = next-took (blob k) s at x n p q in
+      let (g, h) = blob k .sound s at v n (slice-bytes s b) t in
+      (ap length (sym (blob-part k s at v n t)) ∙ g .0, h .ends ∙ ap (λ j. at + j) (g .0))
+
+module _ {R : Type 0} (s : List ℕ) (at : ℕ) (z : R) (stop : Refusal → R) (b : Slice s) where
+  pub on-value-next : (k : ℕ) (go : ℕ → ℕ → R) (x : Number) (v n : ℕ) → x ≡ valued (number k) s at → x ≡ N.Value v n → (n ≡ at + k → z ≡ go v n) → z ≡ number k .run s at stop go
+  on-value-next k go x v n p q e = on-value k s at z stop go x v n p q (e (value-next k s at x v n p q b))
+
+  pub on-part-next : (k : ℕ) (go : List ℕ → ℕ → R) (x : Part) (n : ℕ) → x ≡ ended (blob k) s at → x ≡ P.Next n → (n ≡ at + k → z ≡ go (part at n s) n) → z ≡ blob k .run s at stop go
+  on-part-next k go x n p q e = on-part k s at z stop go x n p q (e (part-read k s at x n p q b .1))
+
 -- ---- bytes handed over by value
 
 module _ (k : ℕ) (s : List ℕ) (at : ℕ) where

@@ -2,7 +2,7 @@
 use Prim.Native.Nat.{ℕ}
 use mathlib.Core.List.{List}
 use Rattle.wire.specs.Fields.{blob}
-use Rattle.element.specs.Strings.{memo, name, symbol, denomination}
+use Rattle.string.specs.Strings.{memo, name, symbol, denomination}
 use Rattle.transaction.specs.Avm.{avm}
 use Rattle.transaction.specs.Answer.{memoMost}
 use Rattle.transaction.specs.declared.Segment.the-variants as S

@@ -2,7 +2,7 @@
 use native.Mathlib.Omega.{arith}
 use borrow.Author.Needs.{needs}
 use Rattle.wire.proofs.Reading.{on-value, on-short, on-part, on-cut}
-use Rattle.element.proofs.Reading.{value-small}
+use Rattle.wire.proofs.Reading.{value-small}
 use Rattle.blank.specs.Closing.{askedByInput}
 use Rattle.blank.proofs.asked_by_input.Statement.{statement}
 use Rattle.blank.proofs.asked_by_input.Tie as tie

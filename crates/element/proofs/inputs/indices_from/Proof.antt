@@ -9,8 +9,8 @@ use Rattle.wire.specs.Fields.{number}
 use Rattle.wire.specs.Sequence.{guard}
 use Rattle.wire.specs.Series.{above, seriesFrom, increasing}
 use Rattle.wire.specs.Answer.{ended}
-use Rattle.wire.proofs.Reading.{turn, list-end}
-use Rattle.element.proofs.Reading.{value-small, if-number-follows, if-number-not}
+use Rattle.wire.proofs.Reading.{turn, list-end, value-small}
+use Rattle.element.proofs.Reading.{if-number-follows, if-number-not}
 use Rattle.element.proofs.inputs.indices_from.Statement.{statement}
 use Rattle.element.proofs.inputs.indices_from.Tie as tie
 

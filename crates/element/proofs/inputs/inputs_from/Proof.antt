@@ -10,9 +10,9 @@ use Rattle.wire.specs.Fields.{number}
 use Rattle.wire.specs.Sequence.{guard}
 use Rattle.wire.specs.Series.{series}
 use Rattle.wire.specs.Answer.{ended}
-use Rattle.wire.proofs.Reading.{list-on, list-end, on-part-there, on-cut, on-value, on-short}
+use Rattle.wire.proofs.Reading.{list-on, list-end, on-part-there, on-cut, on-value, on-short, value-small}
 use Rattle.element.specs.Inputs.{key, inputAfter, input}
-use Rattle.element.proofs.Reading.{value-small, if-key-follows, if-key-not, key-again, id-length, inputsAfter, inputs-are, on-spend, on-spend-refused}
+use Rattle.element.proofs.Reading.{if-key-follows, if-key-not, key-again, id-length, inputsAfter, inputs-are, on-spend, on-spend-refused}
 use Rattle.element.proofs.inputs.inputs_from.Statement.{statement}
 use Rattle.element.proofs.inputs.inputs_from.Tie as tie
 

@@ -1,6 +1,6 @@
 -- `slot::walk::run_at` meets its contract. Assumes nothing.
 use native.Mathlib.Omega.{arith}
-use Rattle.element.proofs.Reading.{value-small}
+use Rattle.wire.proofs.Reading.{value-small}
 use Rattle.slot.proofs.Walking.{running}
 use borrow.Author.Needs.{needs}
 use Rattle.slot.proofs.walk.run_at.Statement.{statement}

@@ -2,7 +2,7 @@
 -- Assumes nothing.
 use borrow.Author.Needs.{needs}
 use native.Mathlib.Omega.{arith}
-use Rattle.element.proofs.Reading.{value-small}
+use Rattle.wire.proofs.Reading.{value-small}
 use Rattle.table.proofs.Walking.{stepping}
 use Rattle.table.proofs.walk.input_step.Statement.{statement}
 use Rattle.table.proofs.walk.input_step.Tie as tie

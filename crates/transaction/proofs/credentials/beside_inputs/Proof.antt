@@ -6,7 +6,7 @@ use Rattle.transaction.specs.Answer.{besideInputs}
 use Rattle.wire.proofs.Reading.{on-value, on-short, on-part, on-cut}
 use Rattle.transaction.proofs.Reading.{inputs-on, inputs-end, on-credential, on-credential-refused, same}
 use native.Mathlib.Omega.{arith}
-use Rattle.element.proofs.Reading.{value-small}
+use Rattle.wire.proofs.Reading.{value-small}
 use Rattle.transaction.proofs.credentials.beside_inputs.Statement.{statement}
 use Rattle.transaction.proofs.credentials.beside_inputs.Tie as tie
 

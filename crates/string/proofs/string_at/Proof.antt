@@ -1,10 +1,10 @@
--- `element::strings::string_at` meets its contract.
+-- `string::string_at` meets its contract.
 -- Assumes nothing.
 use borrow.Author.Needs.{needs}
-use Rattle.element.proofs.Reading.{reading}
-use Rattle.element.specs.Strings.{string}
-use Rattle.element.proofs.strings.string_at.Statement.{statement}
-use Rattle.element.proofs.strings.string_at.Tie as tie
+use Rattle.string.proofs.Reading.{reading}
+use Rattle.string.specs.Strings.{string}
+use Rattle.string.proofs.string_at.Statement.{statement}
+use Rattle.string.proofs.string_at.Tie as tie
 
 pub string-at-spec : {M : Type 1} → statement M
 unfolding string

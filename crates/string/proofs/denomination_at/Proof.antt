@@ -1,10 +1,10 @@
--- `element::strings::denomination_at` meets its contract.
+-- `string::denomination_at` meets its contract.
 -- Assumes nothing.
 use borrow.Author.Needs.{needs}
 use Rattle.wire.proofs.Reading.{reading}
-use Rattle.element.specs.Strings.{denomination}
-use Rattle.element.proofs.strings.denomination_at.Statement.{statement}
-use Rattle.element.proofs.strings.denomination_at.Tie as tie
+use Rattle.string.specs.Strings.{denomination}
+use Rattle.string.proofs.denomination_at.Statement.{statement}
+use Rattle.string.proofs.denomination_at.Tie as tie
 
 pub denomination-at-spec : {M : Type 1} → statement M
 unfolding denomination

@@ -1,13 +1,13 @@
--- `element::strings::first_unprintable` meets its contract. The invariant: what is left of the search, from index i on, is the whole.
+-- `string::first_unprintable` meets its contract. The invariant: what is left of the search, from index i on, is the whole.
 -- Assumes nothing.
 use borrow.Author.Needs.{needs}
 use Prim.Native.Nat.{_-_}
 use mathlib.Core.Path.{_≡_}
 use lib.ListN.{length}
-use Rattle.element.specs.Strings.{unprintable}
-use Rattle.element.proofs.Reading.{unprintableFrom, unprintable-all, characters}
-use Rattle.element.proofs.strings.first_unprintable.Statement.{statement}
-use Rattle.element.proofs.strings.first_unprintable.Tie as tie
+use Rattle.string.specs.Strings.{unprintable}
+use Rattle.string.proofs.Reading.{unprintableFrom, unprintable-all, characters}
+use Rattle.string.proofs.first_unprintable.Statement.{statement}
+use Rattle.string.proofs.first_unprintable.Tie as tie
 
 abbrev Inv-loop : tie.InvT-loop
 Inv-loop s i₀ i =

@@ -1,11 +1,11 @@
--- `element::strings::text_at` meets its contract.
+-- `string::text_at` meets its contract.
 -- Assumes nothing.
 use borrow.Author.Needs.{needs}
 use Rattle.wire.proofs.Reading.{on-value, on-short, on-part, on-cut, tests}
-use Rattle.element.proofs.Reading.{unprintable-fits, if-printable, if-unprintable}
-use Rattle.element.specs.Strings.{text}
-use Rattle.element.proofs.strings.text_at.Statement.{statement}
-use Rattle.element.proofs.strings.text_at.Tie as tie
+use Rattle.string.proofs.Reading.{unprintable-fits, if-printable, if-unprintable}
+use Rattle.string.specs.Strings.{text}
+use Rattle.string.proofs.text_at.Statement.{statement}
+use Rattle.string.proofs.text_at.Tie as tie
 
 pub text-at-spec : {M : Type 1} → statement M
 unfolding text

@@ -2,7 +2,7 @@
 ghost use mathlib.Core.Path.{_≡_};
 ghost use Rattle.wire.specs.Bytes.{part};
 ghost use Rattle.wire.specs.Answer.{ended};
-ghost use Rattle.element.specs.Strings.{string, unprintable, text, denomination};
+ghost use Rattle.string.specs.Strings.{string, unprintable, text, denomination};
 use wire::Number;
 use wire::Part;
 use wire::Refusal;

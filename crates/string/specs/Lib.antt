@@ -1,0 +1,2 @@
+-- Strings: a length and so many bytes
+pub mod Strings
