@@ -175,7 +175,7 @@ fn closing_end(s: &[u8], layout: Layout, at: usize, most: usize) -> Part
     match blanks_end(s, 9, layout.inputs_count, layout.inputs_at, at + 4, most) {
         Part::Refused(refusal) => Part::Refused(refusal),
         Part::Next(m) => {
-            let wanted = transaction::credentials::own_wants(kind, layout.own_count);
+            let wanted = checker::credentials::own_wants(kind, layout.own_count);
             blanks_end(s, own_type(kind), wanted, layout.own_at, m, most)
         }
     }
@@ -188,7 +188,7 @@ fn put_closing(buf: &mut [u8], at: usize, layout: Layout)
 {
     let kind = layout.kind;
     let inputs = layout.inputs_count;
-    let wanted = transaction::credentials::own_wants(kind, layout.own_count);
+    let wanted = checker::credentials::own_wants(kind, layout.own_count);
     buffer::put_u32(buf, at, inputs + wanted);
     let m = put_blanks(buf, at, 9, inputs, layout.inputs_at, at + 4);
     put_blanks(buf, at, own_type(kind), wanted, layout.own_at, m);
@@ -229,7 +229,7 @@ pub fn close(buf: &mut [u8], at: usize) -> Part
             place: 0,
         });
     }
-    match transaction::body::unsigned_at(&buf[..at]) {
+    match checker::body::unsigned_at(&buf[..at]) {
         UnsignedRead::Refused(refusal) => Part::Refused(Refusal {
             number: refusal.number,
             place: 0,

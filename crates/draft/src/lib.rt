@@ -27,7 +27,7 @@ fn refused(number: u32, place: usize) -> Answer
 pub fn fill(draft: &mut [u8], k: usize, signature: &[u8]) -> Answer
     ensures { λ r. ⌜ (r, now (draft .exit)) ≡ fillCall (reader (avm memoMost)) (now (draft .entry)) k (now (signature .entry)) ⌝ }
 {
-    let Checked::Accepted(layout, end) = transaction::check::check(draft) else {
+    let Checked::Accepted(layout, end) = checker::check::check(draft) else {
         return refused(wire::numbers::FIRST_NOT_ACCEPTED, 0);
     };
     let Found::At(at) = slot::walk::place_of(draft, layout.credentials_at, k) else {
@@ -55,10 +55,10 @@ fn put_merge(room: &mut [u8], first: &[u8], second: &[u8], at: usize)
 pub fn merge(first: &[u8], second: &[u8], out: &mut [u8]) -> Answer
     ensures { λ r. ⌜ (r, now (out .exit)) ≡ mergeCall (reader (avm memoMost)) (now (first .entry)) (now (second .entry)) (now (out .entry)) ⌝ }
 {
-    let Checked::Accepted(layout, end) = transaction::check::check(first) else {
+    let Checked::Accepted(layout, end) = checker::check::check(first) else {
         return refused(wire::numbers::FIRST_NOT_ACCEPTED, 0);
     };
-    let Checked::Accepted(other, _) = transaction::check::check(second) else {
+    let Checked::Accepted(other, _) = checker::check::check(second) else {
         return refused(wire::numbers::SECOND_NOT_ACCEPTED, 0);
     };
     let at = layout.credentials_at;

@@ -7,15 +7,13 @@
 --                    `on-..-refused`)
 --   rulesets         a chain up to a refusal, and one that went through to its end
 -- Assumes nothing.
-use Prim.Native.Nat.{ℕ, zero, suc, _+_, _-_, _*_, _^_, _≤_, _<_}
-use mathlib.Core.Path.{_≡_, refl, sym, ap, ap₂, _∙_}
+use Prim.Native.Nat.{ℕ, zero, suc, _+_, _^_, _≤_, _<_}
+use mathlib.Core.Path.{_≡_, refl, sym, ap, _∙_}
 use mathlib.Core.Bool.{Bool, true, false, not}
 use mathlib.Core.List.{List, [], _∷_, _++_}
 use native.Mathlib.Omega.{arith}
-use native.Mathlib.Numerals.{add-one}
-use native.Mathlib.Nat.{zero-add, add-zero}
-use lib.ListN.{length, take, drop, getD, length-append, length-take, length-drop, drop-of-length-le}
-use lib.Seq.{drop-cons, take-at}
+use lib.ListN.{length, take, length-append}
+use lib.Seq.{take-at}
 use lib.Dec.{ltb, leb, eqb}
 use borrow.Author.Tests.{ltb-true, ltb-false, lt-leb, le-leb, eq-eqb, ne-eqb}
 use Rattle.wire.specs.declared.Refusal.{Refusal}
@@ -25,7 +23,7 @@ use Rattle.wire.specs.declared.Number.{Number}
 use Rattle.wire.specs.declared.Number.the-variants as N
 use Rattle.wire.specs.Bytes.{Bytes, digits, length-digits, below, pick, part}
 use Rattle.wire.specs.Format.{Format, Result, took, refused, onResult, read, Stands, stands-part, run-alike, run-alike-read}
-use Rattle.wire.specs.Numbers.{by, cutAt, notPrintable, unknownType, outOfOrder}
+use Rattle.wire.specs.Numbers.{by, cutAt, unknownType, outOfOrder}
 use Rattle.wire.specs.Fields.{blob, number, length-number}
 use Rattle.wire.specs.Sequence.{guard, tag}
 use Rattle.wire.specs.Series.{items, listRun, left, notBelow, nondecreasing, series}
@@ -38,8 +36,8 @@ use Rattle.string.proofs.Reading as S
 use Rattle.element.specs.Owners.{Owners, owners}
 use Rattle.element.specs.Outputs.{OutputType, Output, output, TransferableOutput, transferableOutput}
 use Rattle.element.specs.Inputs.{key, Input, spend, inputAfter, input}
-use Rattle.element.specs.Operations.{OperationType, mintNft, transferNft, operationCode, operationType, operationType-code, OperationOwners, operationOwners, terms, action, Operation, operation, Fx, secpFx, nftFx, fxCode, fxOf, fxOutputs, fxId, stateOutputs, InitialState, initialStateAfter, initialState}
-use Rattle.element.specs.Answer.{Terms, Action, termsAsk, askedByTerms, actionAsks, askedByAction, operationAsks, askedByOperation, inOrder}
+use Rattle.element.specs.Operations.{OperationType, mintNft, transferNft, operationCode, operationType, operationType-code, OperationOwners, operationOwners, terms, Operation, operation, Fx, secpFx, nftFx, fxCode, fxOf, fxOutputs, fxId, stateOutputs, InitialState, initialStateAfter, initialState}
+use Rattle.element.specs.Answer.{Terms, termsAsked, askedByTerms, operationAsked, askedByOperation, inOrder}
 
 -- ---- answers: what an answer with a case for what is wholly read and one for a refusal says of the reading
 
@@ -288,10 +286,10 @@ value-made c d n e = rw e
 
 module _ {R : Type 0} (s : List ℕ) (at : ℕ) (z : R) (stop : Refusal → R) (go : Terms → ℕ → R) (x : Number) (p : x ≡ askedByTerms s at) where
   pub on-terms : (c n : ℕ) → x ≡ N.Value c n → ((v : Terms) → c ≡ length (v .0) → z ≡ go v n) → z ≡ terms .run s at stop go
-  on-terms c n q e = on-whole terms N.Refused termsAsk s at z stop go x p (N.Value c n) n q (λ d i. cc) (λ v m i. cc) (λ v i t. e v (cc))
+  on-terms c n q e = on-whole terms N.Refused termsAsked s at z stop go x p (N.Value c n) n q (λ d i. cc) (λ v m i. cc) (λ v i t. e v (cc))
 
   pub on-terms-refused : (e : Refusal) → x ≡ N.Refused e → z ≡ stop e → z ≡ terms .run s at stop go
-  on-terms-refused e q = on-refused terms N.Refused termsAsk s at z stop go x p e q (λ v m i. cc) (λ d i. cc)
+  on-terms-refused e q = on-refused terms N.Refused termsAsked s at z stop go x p e q (λ v m i. cc) (λ d i. cc)
 
 -- behind the terms: what the type has
 module _ (kind : ℕ) (s : List ℕ) (at : ℕ) (z : Part) where
@@ -343,10 +341,10 @@ module _ {R : Type 0} (s : List ℕ) (at : ℕ) (z : R) (stop : Refusal → R) (
 
 module _ {R : Type 0} (s : List ℕ) (at : ℕ) (z : R) (stop : Refusal → R) (go : Operation → ℕ → R) (x : Number) (p : x ≡ askedByOperation s at) where
   pub on-asked : (c n : ℕ) → x ≡ N.Value c n → ((v : Operation) → c ≡ length (v .terms .0) → z ≡ go v n) → z ≡ operation .run s at stop go
-  on-asked c n q e = on-whole operation N.Refused operationAsks s at z stop go x p (N.Value c n) n q (λ d i. cc) (λ v m i. cc) (λ v i t. e v (cc))
+  on-asked c n q e = on-whole operation N.Refused operationAsked s at z stop go x p (N.Value c n) n q (λ d i. cc) (λ v m i. cc) (λ v i t. e v (cc))
 
   pub on-asked-refused : (e : Refusal) → x ≡ N.Refused e → z ≡ stop e → z ≡ operation .run s at stop go
-  on-asked-refused e q = on-refused operation N.Refused operationAsks s at z stop go x p e q (λ v m i. cc) (λ d i. cc)
+  on-asked-refused e q = on-refused operation N.Refused operationAsked s at z stop go x p e q (λ v m i. cc) (λ d i. cc)
 
 -- ---- initial states
 

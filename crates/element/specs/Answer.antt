@@ -21,23 +21,23 @@ Terms = List ℕ × (ℕ × List ℕ)
 abbrev pub Action : Type 0
 Action = (k : OperationType) × (Terms × OperationOwners k)
 
-abbrev pub termsAsk : Terms → ℕ → Number
-termsAsk v n = N.Value (length (v .0)) n
+abbrev pub termsAsked : Terms → ℕ → Number
+termsAsked v n = N.Value (length (v .0)) n
 
 abbrev pub askedByTerms : List ℕ → ℕ → Number
-askedByTerms s at = terms .run s at N.Refused termsAsk
+askedByTerms s at = terms .run s at N.Refused termsAsked
 
-abbrev pub actionAsks : Action → ℕ → Number
-actionAsks v n = N.Value (length (v .1 .0 .0)) n
+abbrev pub actionAsked : Action → ℕ → Number
+actionAsked v n = N.Value (length (v .1 .0 .0)) n
 
 abbrev pub askedByAction : List ℕ → ℕ → Number
-askedByAction s at = action .run s at N.Refused actionAsks
+askedByAction s at = action .run s at N.Refused actionAsked
 
-abbrev pub operationAsks : Operation → ℕ → Number
-operationAsks v n = N.Value (length (v .terms .0)) n
+abbrev pub operationAsked : Operation → ℕ → Number
+operationAsked v n = N.Value (length (v .terms .0)) n
 
 abbrev pub askedByOperation : List ℕ → ℕ → Number
-askedByOperation s at = operation .run s at N.Refused operationAsks
+askedByOperation s at = operation .run s at N.Refused operationAsked
 
 -- ---- orders as code keeps them: the first of a list has none before it
 

@@ -1,14 +1,14 @@
 -- In an accepted transaction each entry is what stands at its row, by its kind. Assumes nothing.
-use Prim.Native.Nat.{ℕ, zero, suc, _+_, _-_, _*_, _≤_, _<_}
-use mathlib.Core.Path.{_≡_, refl, sym, ap, ap₂, _∙_, subst}
-use mathlib.Core.Bool.{Bool, true, false, not}
+use Prim.Native.Nat.{ℕ, zero, suc, _+_, _*_}
+use mathlib.Core.Path.{_≡_, refl, ap, _∙_, subst}
+use mathlib.Core.Bool.{Bool, not}
 use mathlib.Core.List.{List, [], _∷_, _++_}
 use native.Mathlib.Omega.{arith}
 use native.Mathlib.Nat.{mul-comm}
-use lib.ListN.{length, take, drop}
-use lib.Dec.{eqb, ltb, leb}
+use lib.ListN.{length, take}
+use lib.Dec.{eqb, leb}
 use borrow.Author.Tests.{eqb-true}
-use Rattle.wire.specs.Bytes.{below, pick}
+use Rattle.wire.specs.Bytes.{below}
 use Rattle.wire.specs.Numbers.{Rule, by, refusal, tooLong, bytesAfterEnd, outOfOrder, unknownType, wrongCount}
 use Rattle.wire.specs.Format.{Format, took, refused, read, moved, run-inv, pick-inv}
 use Rattle.wire.specs.Fields.{number, blob, constant}
@@ -24,7 +24,7 @@ use Rattle.element.specs.declared.OutputFields.{OutputFields}
 use Rattle.transaction.specs.declared.Entry.{Entry}
 use Rattle.transaction.specs.declared.Entry.the-variants as E
 use Rattle.transaction.specs.Entries.{EntryAt, entryKind, noId, outputEntry, exportedEntry, inputEntry, importedEntry, operationEntry, credentialEntries, stateOutputEntry, stateEntries, entriesFrom}
-use Rattle.transaction.specs.Plan.{Plan, shut, end, field, many, Value, form, atLeast, listOf, planEntries}
+use Rattle.transaction.specs.Plan.{Plan, shut, end, field, many, Value, form, listOf, planEntries}
 use Rattle.transaction.specs.Signed as Any
 use Rattle.transaction.specs.Family.{head, Signed, Unsigned, unsigned, wants, check, entries}
 use Rattle.transaction.specs.Avm.{ownPlan, plan, avm}

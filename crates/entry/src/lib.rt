@@ -202,7 +202,7 @@ fn row_entry(s: &[u8], row: Row, bytes: usize) -> EntryRead
 pub fn entry(s: &[u8], n: u64) -> EntryRead
     ensures { λ r. ⌜ r ≡ entryOf (now (s .entry)) n ⌝ }
 {
-    match transaction::check::check(s) {
+    match checker::check::check(s) {
         Checked::Refused(refusal) => refused(refusal),
         Checked::Accepted(layout, bytes) => match table::rows::find(s, layout, n) {
             Nth::Missing => missing(),

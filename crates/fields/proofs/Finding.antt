@@ -1,24 +1,22 @@
 -- What was read is found again by its places: the fields of owners, outputs, inputs and operations. Assumes nothing.
 use Prim.Native.Nat.{ℕ, _+_, _-_, _*_, _≤_}
-use mathlib.Core.Path.{_≡_, refl, sym, ap, ap₂, _∙_, subst}
-use mathlib.Core.Bool.{Bool, true}
+use mathlib.Core.Path.{_≡_, sym, ap, ap₂, _∙_, subst}
 use mathlib.Core.List.{List, [], _∷_}
 use native.Mathlib.Omega.{arith}
 use lib.ListN.{length, take, drop, length-append, length-drop}
 use lib.Dec.{eqb, ltb, leb}
-use Rattle.wire.specs.Bytes.{pick}
 use Rattle.wire.specs.Numbers.{by, badThreshold, zeroAmount, badLength, unknownType}
 use Rattle.wire.specs.declared.Refusal.{Refusal}
 use Rattle.wire.specs.Format.{Format, took, refused, read, Stands, moved, run-inv, pick-inv}
 use Rattle.wire.specs.Fields.{number, length-number, blob, blob-sized, constant}
 use Rattle.wire.specs.Sequence.{guard, andThen, named, tag, find-is, listed, listed-code}
-use Rattle.wire.specs.Series.{items, left, above, increasing, unordered, counted, items-sized}
+use Rattle.wire.specs.Series.{left, increasing, unordered, counted, items-sized}
 use Rattle.wire.proofs.Bytes.{Slice, slice-bytes}
 use Rattle.wire.proofs.Reading as L
 use Rattle.string.specs.Strings.{string}
 use Rattle.element.specs.Owners.{Owners, addressWidth, owners, ownersFields}
 use Rattle.element.specs.Outputs.{amount, OutputType, secpMint, secpTransfer, nftMint, nftTransfer, outputCode, outputType, outputType-code, OutputBody, transferBody, outputBody, Output, output, outputFields}
-use Rattle.element.specs.Inputs.{key, keyWidth, indices, spend, Input, inputFields}
+use Rattle.element.specs.Inputs.{key, keyWidth, indices, spend, inputFields}
 use Rattle.element.specs.Operations.{OperationType, mintNft, transferNft, operationCode, operationType, operationType-code, OperationOwners, operationOwners, terms, termsFields, recipients, action, Operation, operation, operationFields}
 use Rattle.element.specs.Answer.{Terms, Action}
 use Rattle.element.specs.declared.OwnersFields.{OwnersFields}
@@ -33,14 +31,12 @@ use Rattle.transaction.proofs.Reading.{written-next}
 use Rattle.fields.specs.Found.{ownersFound, outputOf, bodyFound, outputFound, inputFound, termsFound, transferTo, recipientsFound, onTerms, onRecipients, operationOf, actionFound, operationFound}
 use Rattle.fields.specs.declared.OwnersFound.{OwnersFound}
 use Rattle.fields.specs.declared.OwnersFound.the-variants as W
-use Rattle.fields.specs.declared.OutputFound.{OutputFound}
 use Rattle.fields.specs.declared.OutputFound.the-variants as O
 use Rattle.fields.specs.declared.InputFound.the-variants as I
 use Rattle.fields.specs.declared.TermsFound.{TermsFound}
 use Rattle.fields.specs.declared.TermsFound.the-variants as M
 use Rattle.fields.specs.declared.RecipientsFound.{RecipientsFound}
 use Rattle.fields.specs.declared.RecipientsFound.the-variants as R
-use Rattle.fields.specs.declared.OperationFound.{OperationFound}
 use Rattle.fields.specs.declared.OperationFound.the-variants as Y
 
 -- what follows the pairs, from `at` up to `end`

@@ -15,7 +15,7 @@ use transaction::Checked;
 pub extern "C" fn cellfacet_check(bytes: &[u8]) -> u64
     ensures { λ r. ⌜ r ≡ packed (verdict (check (avm memoMost) (now (bytes .entry)))) ⌝ }
 {
-    match transaction::check::check(bytes) {
+    match checker::check::check(bytes) {
         Checked::Accepted(_, end) => end as u64,
         Checked::Refused(refusal) => refusal.number as u64 * 4294967296 + refusal.place as u64,
     }

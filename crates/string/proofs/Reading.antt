@@ -60,10 +60,10 @@ pub ruleset characters = (unprintable-low, unprintable-high, unprintable-on, unp
 module _ (k : ℕ) (s : List ℕ) (at : ℕ) (z X : Part) (x : Part) (n : ℕ) (b : List ℕ) (u : ℕ)
     (p : x ≡ ended (blob k) s at) (q : x ≡ P.Next n) (c : Slice s) (e : b ≡ part at n s) (d : u ≡ unprintable b) where
   pub if-printable : u ≡ k → z ≡ X → z ≡ pick (eqb (unprintable (part at n s)) (length (part at n s))) X (P.Refused (by notPrintable (at + unprintable (part at n s))))
-  if-printable h i = rw (← e, ← d, h, e, W.part-read k s at x n p q c .0, eq-eqb k k refl) i
+  if-printable h i = rw (← e, ← d, h, e, W.part-long k s at x n p q c, eq-eqb k k refl) i
 
   pub if-unprintable : (u ≡ k → ⊥) → z ≡ P.Refused (by notPrintable (at + u)) → z ≡ pick (eqb (unprintable (part at n s)) (length (part at n s))) X (P.Refused (by notPrintable (at + unprintable (part at n s))))
-  if-unprintable h i = rw (W.part-read k s at x n p q c .0, ← e, ← d, ne-eqb u k h) i
+  if-unprintable h i = rw (W.part-long k s at x n p q c, ← e, ← d, ne-eqb u k h) i
 
 -- and its place is a number of 64 bits
 pub unprintable-fits : (s b : List ℕ) (a e u : ℕ) → b ≡ part a e s → u ≡ unprintable b → length s < 2 ^ 64 → a < 2 ^ 64 → a + u < 2 ^ 64

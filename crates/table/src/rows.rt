@@ -114,7 +114,7 @@ fn put_rows(s: &[u8], layout: Layout, table: &mut [u32])
 pub fn check_table(s: &[u8], table: &mut [u32]) -> Tabled
     ensures { λ r. ⌜ filled r (now (table .exit)) ≡ tabled (now (s .entry)) (now (table .entry)) ⌝ }
 {
-    match transaction::check::check(s) {
+    match checker::check::check(s) {
         Checked::Refused(refusal) => Tabled::Refused(refusal),
         Checked::Accepted(layout, end) => match count(s, layout, table.len() / 3) {
             Count::TooMany => Tabled::Refused(Refusal {

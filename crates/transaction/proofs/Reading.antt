@@ -25,7 +25,7 @@ use Rattle.wire.proofs.Bytes.{Slice, slice-bytes, found}
 use Rattle.wire.proofs.Reading as W
 use Rattle.string.specs.Strings.{string, text, denomination}
 use Rattle.element.specs.Operations.{operation}
-use Rattle.wire.proofs.Reading.{on-value-next, on-part-next}
+use Rattle.wire.proofs.Reading.{on-value-next}
 use Rattle.string.proofs.Reading.{on-string-refused}
 use Rattle.element.proofs.Reading.{answer-took, answer-refused}
 use Rattle.transaction.specs.Slots.{signatureWidth}

@@ -1,8 +1,4 @@
-// A signed AVM transaction: its check, its table of entries, and each entry's typed fields.
-pub mod body;
-pub mod check;
-pub mod credentials;
-
+// A signed AVM transaction: its types, what a check and a reading of it answer, and each entry's typed fields.
 use element::InputFields;
 use element::OperationFields;
 use element::OutputFields;

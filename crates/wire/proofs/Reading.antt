@@ -234,19 +234,15 @@ module _ (k : ℕ) (s : List ℕ) (at : ℕ) (x : Number) (v n : ℕ) (p : x ≡
   value-next = value-read .1 .ends ∙ ap (λ j. at + j) (length-number k v)
 
 module _ (k : ℕ) (s : List ℕ) (at : ℕ) (x : Part) (n : ℕ) (p : x ≡ ended (blob k) s at) (q : x ≡ P.Next n) (b : Slice s) where
-  pub part-read : (length (part at n s) ≡ k) × (n ≡ at + k)
+  pub part-long : length (part at n s) ≡ k
   unfolding blob
-  part-read =
+  part-long =
       let (v, t) = next-took (blob k) s at x n p q in
-      let (g, h) = blob k .sound s at v n (slice-bytes s b) t in
-      (ap length (sym (blob-part k s at v n t)) ∙ g .0, h .ends ∙ ap (λ j. at + j) (g .0))
+      ap length (sym (blob-part k s at v n t)) ∙ blob k .sound s at v n (slice-bytes s b) t .0 .0
 
-module _ {R : Type 0} (s : List ℕ) (at : ℕ) (z : R) (stop : Refusal → R) (b : Slice s) where
-  pub on-value-next : (k : ℕ) (go : ℕ → ℕ → R) (x : Number) (v n : ℕ) → x ≡ valued (number k) s at → x ≡ N.Value v n → (n ≡ at + k → z ≡ go v n) → z ≡ number k .run s at stop go
-  on-value-next k go x v n p q e = on-value k s at z stop go x v n p q (e (value-next k s at x v n p q b))
-
-  pub on-part-next : (k : ℕ) (go : List ℕ → ℕ → R) (x : Part) (n : ℕ) → x ≡ ended (blob k) s at → x ≡ P.Next n → (n ≡ at + k → z ≡ go (part at n s) n) → z ≡ blob k .run s at stop go
-  on-part-next k go x n p q e = on-part k s at z stop go x n p q (e (part-read k s at x n p q b .1))
+pub on-value-next : {R : Type 0} (s : List ℕ) (at : ℕ) (z : R) (stop : Refusal → R) (b : Slice s) (k : ℕ) (go : ℕ → ℕ → R) (x : Number) (v n : ℕ) → x ≡ valued (number k) s at → x ≡ N.Value v n
+    → (n ≡ at + k → z ≡ go v n) → z ≡ number k .run s at stop go
+on-value-next s at z stop b k go x v n p q e = on-value k s at z stop go x v n p q (e (value-next k s at x v n p q b))
 
 -- ---- bytes handed over by value
 

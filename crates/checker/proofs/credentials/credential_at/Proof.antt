@@ -1,0 +1,31 @@
+-- `checker::credentials::credential_at` meets its contract.
+-- Assumes nothing.
+use borrow.Author.Needs.{needs}
+use Rattle.transaction.specs.Credentials.{pieces}
+use Rattle.wire.specs.Fields.{constant}
+use Rattle.transaction.proofs.Reading.{piecewise}
+use Rattle.checker.proofs.credentials.credential_at.Statement.{statement}
+use Rattle.checker.proofs.credentials.credential_at.Tie as tie
+
+pub credential-at-spec : {M : Type 1} → statement M
+unfolding pieces constant
+credential-at-spec =
+    tie.close
+    (tie.spec
+    (λ c κs. search needs)  -- u32-at-requires
+    (λ c. search needs)  -- enum-known-found
+    (λ c. search needs)  -- enum-told
+    (λ c κs. search needs)  -- cut-requires
+    (λ c. search piecewise depth 12)  -- returns
+    (λ c. search piecewise depth 12)  -- returns-2
+    (λ c κs. search needs)  -- u32-at-requires-2
+    (λ c. search needs)  -- enum-known-count
+    (λ c. search needs)  -- enum-told-2
+    (λ c κs. search needs)  -- cut-requires-2
+    (λ c. search piecewise depth 12)  -- returns-3
+    (λ c. search piecewise depth 12)  -- returns-4
+    (λ c κs. search needs)  -- signatures-at-requires
+    (λ c. search needs)  -- enum-known-next
+    (λ c. search needs)  -- enum-known-refusal
+    (λ c. search piecewise depth 12)  -- returns-5
+    (λ c. search piecewise depth 12))  -- returns-6
