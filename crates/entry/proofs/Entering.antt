@@ -20,9 +20,9 @@ use Rattle.transaction.specs.declared.Layout.{Layout}
 use Rattle.transaction.specs.declared.Checked.{Checked}
 use Rattle.transaction.specs.declared.Checked.the-variants as C
 use Rattle.transaction.proofs.Verdicts.{refused-check, checked-accepted}
-use Rattle.table.specs.Walk.{rest, start}
+use Rattle.walk.specs.Walk.{rest, start}
 use Rattle.table.specs.Rows.{nth}
-use Rattle.table.specs.declared.Row.{Row}
+use Rattle.walk.specs.declared.Row.{Row}
 use Rattle.table.specs.declared.Nth.{Nth}
 use Rattle.table.specs.declared.Nth.the-variants as N
 use Rattle.table.proofs.Entries.{located, walked}

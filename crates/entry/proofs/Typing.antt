@@ -9,7 +9,7 @@ use Rattle.element.specs.declared.InputFields.{InputFields}
 use Rattle.element.specs.declared.OperationFields.{OperationFields}
 use Rattle.transaction.specs.declared.Entry.{Entry}
 use Rattle.transaction.specs.declared.Entry.the-variants as E
-use Rattle.table.specs.declared.Row.{Row}
+use Rattle.walk.specs.declared.Row.{Row}
 use Rattle.fields.specs.declared.OutputFound.{OutputFound}
 use Rattle.fields.specs.declared.OutputFound.the-variants as O
 use Rattle.fields.specs.declared.InputFound.{InputFound}

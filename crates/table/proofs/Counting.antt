@@ -9,16 +9,16 @@ use lib.Seq.{sets-eq, length-take-le}
 use lib.Dec.{leb}
 use borrow.Author.Tests.{le-leb, lt-leb}
 use Rattle.transaction.specs.declared.Layout.{Layout}
-use Rattle.table.specs.Walk.{rest, start, stepOf}
+use Rattle.walk.specs.Walk.{rest, start, stepOf}
 use Rattle.table.specs.Rows.{numbers, putRow, putRows, counted, nth}
-use Rattle.table.specs.declared.Cursor.{Cursor}
-use Rattle.table.specs.declared.Row.{Row}
+use Rattle.walk.specs.declared.Cursor.{Cursor}
+use Rattle.walk.specs.declared.Row.{Row}
 use Rattle.table.specs.declared.Count.{Count}
 use Rattle.table.specs.declared.Count.the-variants as C
 use Rattle.table.specs.declared.Nth.{Nth}
 use Rattle.table.specs.declared.Nth.the-variants as N
-use Rattle.table.specs.declared.Step.{Step}
-use Rattle.table.specs.declared.Step.the-variants as T
+use Rattle.walk.specs.declared.Step.{Step}
+use Rattle.walk.specs.declared.Step.the-variants as T
 use Rattle.table.proofs.Rest.{found-rest, moved-rest, done-rest}
 
 pub counted-all : (most n : ℕ) (rs : List Row) → n ≤ most → n ≡ length rs → C.Rows n ≡ counted most rs

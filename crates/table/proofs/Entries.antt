@@ -35,8 +35,8 @@ use Rattle.transaction.specs.Credentials.{Want, credentialCode, Piece, signatur
 use Rattle.transaction.proofs.Beside.{skipped, at-least-inv}
 use Rattle.transaction.proofs.Reading.{written-next}
 use Rattle.transaction.proofs.Verdicts.{layout-end}
-use Rattle.table.specs.Walk.{row, outputRows, inputRows, operationRows, stateOutputRows, stateRows, credentialRows, credentialsRest, ownRest, afterOutputs, rest, start}
-use Rattle.table.specs.declared.Row.{Row}
+use Rattle.walk.specs.Walk.{row, outputRows, inputRows, operationRows, stateOutputRows, stateRows, credentialRows, credentialsRest, ownRest, afterOutputs, rest, start}
+use Rattle.walk.specs.declared.Row.{Row}
 
 -- an entry's row
 abbrev pub located : EntryAt → Row

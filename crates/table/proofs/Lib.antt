@@ -1,4 +1,3 @@
-pub mod Walking
 pub mod Rest
 pub mod Counting
 pub mod Entries

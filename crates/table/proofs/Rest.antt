@@ -17,13 +17,13 @@ use Rattle.element.specs.Operations.{operation, fxOf, fxOutputs}
 use Rattle.transaction.specs.declared.Kind.{Kind}
 use Rattle.transaction.specs.declared.Kind.the-variants as K
 use Rattle.transaction.specs.declared.Layout.{Layout}
-use Rattle.table.specs.Walk.{row, cursor, stateCursor, outputRows, inputRows, operationRows, stateOutputRows, stateRows, credentialRows, credentialsRest, ownRest, afterInputs, afterOutputs, restIn, rest, outputStep, inputStep, operationStep, stateOutputStep, stateStep, credentialStep, toCredentials, ownStep, stepIn, stepOf}
-use Rattle.table.specs.declared.Stage.{Stage}
-use Rattle.table.specs.declared.Stage.the-variants as S
-use Rattle.table.specs.declared.Cursor.{Cursor}
-use Rattle.table.specs.declared.Row.{Row}
-use Rattle.table.specs.declared.Step.{Step}
-use Rattle.table.specs.declared.Step.the-variants as T
+use Rattle.walk.specs.Walk.{row, cursor, stateCursor, outputRows, inputRows, operationRows, stateOutputRows, stateRows, credentialRows, credentialsRest, ownRest, afterInputs, afterOutputs, restIn, rest, outputStep, inputStep, operationStep, stateOutputStep, stateStep, credentialStep, toCredentials, ownStep, stepIn, stepOf}
+use Rattle.walk.specs.declared.Stage.{Stage}
+use Rattle.walk.specs.declared.Stage.the-variants as S
+use Rattle.walk.specs.declared.Cursor.{Cursor}
+use Rattle.walk.specs.declared.Row.{Row}
+use Rattle.walk.specs.declared.Step.{Step}
+use Rattle.walk.specs.declared.Step.the-variants as T
 
 -- the rows that a step leads to
 abbrev pub after : Layout → List ℕ → Step → List Row

@@ -23,10 +23,10 @@ use Rattle.transaction.specs.declared.Checked.{Checked}
 use Rattle.transaction.specs.declared.Checked.the-variants as C
 use Rattle.transaction.proofs.Codec.{codec}
 use Rattle.transaction.proofs.Verdicts.{refused-check, checked-accepted}
-use Rattle.table.specs.Walk.{rest, start}
+use Rattle.walk.specs.Walk.{rest, start}
 use Rattle.table.specs.Rows.{numbers, putRow, putRows, counted}
 use Rattle.table.specs.Table.{filled, listed, tabled}
-use Rattle.table.specs.declared.Row.{Row}
+use Rattle.walk.specs.declared.Row.{Row}
 use Rattle.table.specs.declared.Count.{Count}
 use Rattle.table.specs.declared.Count.the-variants as N
 use Rattle.table.specs.declared.Tabled.{Tabled}

@@ -1,4 +1,3 @@
--- Entries as code walks them
-pub mod Walk
+-- The table of entries
 pub mod Rows
 pub mod Table

@@ -4,7 +4,7 @@ use mathlib.Core.List.{List, [], _∷_, _++_}
 use lib.ListN.{length, take, drop}
 use lib.Dec.{leb}
 use Rattle.wire.specs.Bytes.{pick}
-use Rattle.table.specs.declared.Row.{Row}
+use Rattle.walk.specs.declared.Row.{Row}
 use Rattle.table.specs.declared.Count.{Count}
 use Rattle.table.specs.declared.Count.the-variants as C
 use Rattle.table.specs.declared.Nth.{Nth}

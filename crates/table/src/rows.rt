@@ -2,27 +2,26 @@
 ghost use mathlib.Core.Path.{_≡_};
 ghost use Prim.Native.Nat.{_+_, _-_, _*_, _≤_};
 ghost use lib.ListN.{length};
-ghost use Rattle.table.specs.Walk.{start, rest};
+ghost use Rattle.walk.specs.Walk.{start, rest};
 ghost use Rattle.table.specs.Table.{filled, tabled};
 ghost use Rattle.table.specs.Rows.{putRow, putRows, counted, nth};
 use crate::Count;
 use crate::Nth;
-use crate::Row;
-use crate::Step;
 use crate::Tabled;
-use crate::walk;
 use transaction::Checked;
 use transaction::Layout;
+use walk::Row;
+use walk::Step;
 use wire::Refusal;
 
 // How many entries there are, if at most so many.
 pub fn count(s: &[u8], layout: Layout, most: usize) -> Count
     ensures { λ r. ⌜ r ≡ counted most (rest layout (now (s .entry)) (start layout)) ⌝ }
 {
-    let mut cursor = walk::first(layout);
+    let mut cursor = walk::steps::first(layout);
     let mut n: usize = 0;
     loop {
-        match walk::step(s, layout, cursor) {
+        match walk::steps::step(s, layout, cursor) {
             Step::Done => {
                 return Count::Rows(n);
             }
@@ -44,10 +43,10 @@ pub fn count(s: &[u8], layout: Layout, most: usize) -> Count
 pub fn find(s: &[u8], layout: Layout, n: u64) -> Nth
     ensures { λ r. ⌜ r ≡ nth n (rest layout (now (s .entry)) (start layout)) ⌝ }
 {
-    let mut cursor = walk::first(layout);
+    let mut cursor = walk::steps::first(layout);
     let mut left = n;
     loop {
-        match walk::step(s, layout, cursor) {
+        match walk::steps::step(s, layout, cursor) {
             Step::Done => {
                 return Nth::Missing;
             }
@@ -91,10 +90,10 @@ fn put_rows(s: &[u8], layout: Layout, table: &mut [u32])
     requires { ⌜ 3 * length (rest layout (now s) (start layout)) ≤ length (now table) ⌝ }
     ensures { λ _. ⌜ now (table .exit) ≡ putRows 0 (rest layout (now (s .entry)) (start layout)) (now (table .entry)) ⌝ }
 {
-    let mut cursor = walk::first(layout);
+    let mut cursor = walk::steps::first(layout);
     let mut i: usize = 0;
     loop {
-        match walk::step(s, layout, cursor) {
+        match walk::steps::step(s, layout, cursor) {
             Step::Done => {
                 return;
             }

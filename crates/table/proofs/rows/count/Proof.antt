@@ -5,7 +5,7 @@ use Prim.Native.Nat.{_+_, _≤_}
 use mathlib.Core.Path.{_≡_, refl, ap}
 use lib.ListN.{length}
 use native.Mathlib.Omega.{arith}
-use Rattle.table.specs.Walk.{start, rest}
+use Rattle.walk.specs.Walk.{start, rest}
 use Rattle.table.proofs.Rest.{ahead, found-rest, moved-rest, done-rest, found-ahead, moved-ahead}
 use Rattle.table.proofs.Counting.{counted-all, counted-over}
 use Rattle.table.proofs.rows.count.Statement.{statement}

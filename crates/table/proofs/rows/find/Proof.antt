@@ -2,7 +2,7 @@
 -- Assumes nothing.
 use borrow.Author.Needs.{needs}
 use mathlib.Core.Path.{_≡_, refl, ap}
-use Rattle.table.specs.Walk.{start, rest}
+use Rattle.walk.specs.Walk.{start, rest}
 use Rattle.table.specs.Rows.{nth}
 use Rattle.table.proofs.Rest.{ahead, found-ahead, moved-ahead}
 use Rattle.table.proofs.Counting.{nth-done, nth-moved, nth-found, nth-next}

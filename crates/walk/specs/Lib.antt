@@ -1,0 +1,2 @@
+-- Entries as code walks them
+pub mod Walk
