@@ -7,7 +7,7 @@
 --                    `on-..-refused`)
 --   rulesets         a chain up to a refusal, and one that went through to its end
 -- Assumes nothing.
-use Prim.Native.Nat.{ℕ, zero, suc, _+_, _^_, _≤_, _<_}
+use Prim.Native.Nat.{ℕ, zero, suc, _-_, _^_, _≤_, _<_}
 use mathlib.Core.Path.{_≡_, refl, sym, ap, _∙_}
 use mathlib.Core.Bool.{Bool, true, false, not}
 use mathlib.Core.List.{List, [], _∷_, _++_}
@@ -26,7 +26,7 @@ use Rattle.wire.specs.Format.{Format, Result, took, refused, onResult, read, St
 use Rattle.wire.specs.Numbers.{by, cutAt, unknownType, outOfOrder}
 use Rattle.wire.specs.Fields.{blob, number, length-number}
 use Rattle.wire.specs.Sequence.{guard, tag}
-use Rattle.wire.specs.Series.{items, listRun, left, notBelow, nondecreasing, series}
+use Rattle.wire.specs.Series.{items, listRun, left, above, notBelow, increasing, nondecreasing, seriesFrom, series}
 use Rattle.wire.specs.Order.{keyBelow}
 use Rattle.wire.specs.Answer.{ended, valued, wholeAt}
 use Rattle.wire.proofs.Bytes.{Slice, slice-bytes, found, below-digits, key-below}
@@ -88,10 +88,6 @@ follows-none t x h = rw h
 
 pub ruleset follows = (follows-any, follows-none)
 
--- the same, of bytes handed over
-pub follows-parts : (t : Bool) (p a q b : List ℕ) (y : Bool) → t ≡ true → y ≡ below p a → p ≡ q → a ≡ b → y ≡ pick t (below q b) true
-follows-parts t p a q b y h e f g = rw (h, ← f, ← g) e
-
 -- the first is above none
 first-below : (any : Bool) (p a : List ℕ) (t : Bool) → t ≡ pick any (below p a) true → 0 < length a → below (pick any p []) a ≡ t
 first-below true p a t e h = sym e
@@ -103,24 +99,6 @@ whole-is k s at n a w x h ha p q = W.whole-next k s at a x n ha p q ∙ sym (sta
 
 pub id-length : (k : ℕ) (s : List ℕ) (at : ℕ) (a : List ℕ) → a ≡ wholeAt k s at → length a ≡ k
 id-length k s at a h = ap length h ∙ W.whole-length k s at
-
--- parts, as addresses are: w is the writing of the part at its place
-module _ {R : Type 0} (k : ℕ) (s : List ℕ) (at n : ℕ) (any : Bool) (prev w : List ℕ) (x : Part) (t : Bool) (z X Y : R)
-    (h : Stands s at w n) (p : x ≡ ended (blob k) s at) (q : x ≡ P.Next n) (e : t ≡ pick any (below prev (wholeAt k s at)) true) where
-  part-test : ltb 0 k ≡ true → below (pick any prev []) w ≡ t
-  part-test j =
-      rw (← (whole-is k s at n (wholeAt k s at) w x h refl p q)) (first-below any prev (wholeAt k s at) t e (omega (arith, ltb-true 0 k j, W.whole-length k s at)))
-
-  pub if-part-follows : t ≡ true → ltb 0 k ≡ true → z ≡ X → z ≡ pick (below (pick any prev []) w) X Y
-  if-part-follows i j e = rw (part-test j, i) e
-
-  pub if-part-not : t ≡ false → ltb 0 k ≡ true → z ≡ Y → z ≡ pick (below (pick any prev []) w) X Y
-  if-part-not i j e = rw (part-test j, i) e
-
-module _ {A R : Type 0} (E : List ℕ → Format A) (step : List ℕ → A → List ℕ) (s : List ℕ) (n at : ℕ) (stop : Refusal → R) (go : List A → ℕ → R) where
-  pub part-again : (k p q : ℕ) (w : List ℕ) (x : Part) → Stands s p w q → x ≡ ended (blob k) s p → x ≡ P.Next q
-      → items E step (wholeAt k s p) n .run s at stop go ≡ items E step w n .run s at stop go
-  part-again k p q w x h i j = rw (whole-is k s p q (wholeAt k s p) w x h refl i j)
 
 -- numbers, as indices are
 module _ {R : Type 0} (any : Bool) (prev v : ℕ) (t : Bool) (z X Y : R) (e : t ≡ pick any (ltb prev v) true) (small : prev < 256 ^ 4) where
@@ -173,6 +151,62 @@ module _ {A : Type 0} (G : List ℕ → Format A) (k : ℕ) (viewed : A → List
       run-alike-read (G (take k prev)) s at stop _ _ (λ a m q.
       ap (λ (b : List ℕ). listRun G (λ b a. viewed a) n b s m stop (λ l j. go (a ∷ l) j)) (sym (front (take k prev) a (G (take k prev) .sound s at a m bs q .0)))
       ∙ items-viewed s bs n (G (take k prev) .write a) m stop (λ l j. go (a ∷ l) j))
+
+-- ---- addresses: one that stands at a place, and n more behind it in view of it. It is shut, so that `search` reads s, at and n off it
+
+unfoldable pub addressThen : ℕ → List ℕ → ℕ → Part
+addressThen n s at = blob 20 .run s at P.Refused (λ a q. ended (seriesFrom (above (blob 20)) a n) s q)
+
+module _ (s : List ℕ) (b : Slice s) where
+  -- none stands before the first
+  pub address-first : (c at : ℕ) → (c ≡ 0 → ⊥) → addressThen (c - 1) s at ≡ ended (increasing (blob 20) c) s at
+  unfolding addressThen guard blob
+  address-first c at h =
+      W.list-on (above (blob 20)) (left (above (blob 20))) s at P.Refused (λ l k. P.Next k) [] c (addressThen (c - 1) s at) (ended (increasing (blob 20) c) s at) refl (some c h)
+      (run-alike-read (blob 20) s at P.Refused _ _ (λ a m t. rw (empty-below a (omega (arith, blob 20 .sound s at a m (slice-bytes s b) t .0 .0)))))
+    where
+      some : (c : ℕ) → (c ≡ 0 → ⊥) → 0 < c
+      some zero h = absurd (h refl)
+      some (suc c) h = omega arith
+
+  pub no-address : (c at : ℕ) → c ≡ 0 → P.Next at ≡ ended (increasing (blob 20) c) s at
+  no-address c at h = W.list-end (above (blob 20)) (left (above (blob 20))) s at P.Refused (λ l k. P.Next k) [] c (P.Next at) (ended (increasing (blob 20) c) s at) refl (omega arith) refl
+
+  module _ (n prev at : ℕ) (x : Part) (p : x ≡ ended (blob 20) s prev) (q : x ≡ P.Next at) (h : 0 < n) (y : Part) (w : addressThen n s prev ≡ y) where
+    -- the next one, in view of that at prev
+    address-next : blob 20 .run s at P.Refused (λ a m. pick (below (wholeAt 20 s prev) a) (ended (seriesFrom (above (blob 20)) a (n - 1)) s m) (P.Refused (by outOfOrder at))) ≡ y
+    unfolding addressThen guard blob
+    address-next =
+        W.list-on (above (blob 20)) (left (above (blob 20))) s at P.Refused (λ l k. P.Next k) (wholeAt 20 s prev) n _ y
+        (ap (λ (a : List ℕ). ended (seriesFrom (above (blob 20)) a n) s at) (W.whole-next 20 s prev (wholeAt 20 s prev) x at refl p q) ∙ W.on-part 20 s prev _ P.Refused (λ a q. ended (seriesFrom (above (blob 20)) a n) s q) x at p q refl ∙ w) h refl
+
+    pub address-cut : (e f : Refusal) (u : Part) → u ≡ ended (blob 20) s at → u ≡ P.Refused e → f ≡ cutAt 20 s at → P.Refused f ≡ y
+    address-cut e f u i j g = W.on-cut 20 s at (P.Refused f) P.Refused _ u e i j f g refl ∙ address-next
+
+    module _ (m : ℕ) (u : Part) (i : u ≡ ended (blob 20) s at) (j : u ≡ P.Next m) (a c : List ℕ) (ea : a ≡ wholeAt 20 s prev) (ec : c ≡ wholeAt 20 s at) (t : Bool) (k : t ≡ below a c) where
+      compared : pick t (ended (seriesFrom (above (blob 20)) (part at m s) (n - 1)) s m) (P.Refused (by outOfOrder at)) ≡ y
+      compared =
+          rw (k, ea, ec, W.whole-next 20 s at (wholeAt 20 s at) u m refl i j) (W.on-part 20 s at _ P.Refused _ u m i j refl ∙ address-next)
+
+      pub address-again : t ≡ true → addressThen (n - 1) s at ≡ y
+      unfolding addressThen
+      address-again g = sym (W.on-part 20 s at _ P.Refused (λ a q. ended (seriesFrom (above (blob 20)) a (n - 1)) s q) u m i j refl) ∙ rw g at compared
+
+      pub address-not : t ≡ false → P.Refused (by outOfOrder at) ≡ y
+      address-not g = rw g at compared
+
+  -- the address before is not there, or was the last
+  pub address-gone : (n prev : ℕ) (x : Part) (e f : Refusal) → x ≡ ended (blob 20) s prev → x ≡ P.Refused e → f ≡ cutAt 20 s prev → (y : Part) → addressThen n s prev ≡ y → P.Refused f ≡ y
+  unfolding addressThen
+  address-gone n prev x e f p q g y w = W.on-cut 20 s prev (P.Refused f) P.Refused _ x e p q f g refl ∙ w
+
+  pub first-gone : (c at : ℕ) (x : Part) (e f : Refusal) → (c ≡ 0 → ⊥) → x ≡ ended (blob 20) s at → x ≡ P.Refused e → f ≡ cutAt 20 s at → P.Refused f ≡ ended (increasing (blob 20) c) s at
+  first-gone c at x e f h p q g = address-gone (c - 1) at x e f p q g (ended (increasing (blob 20) c) s at) (address-first c at h)
+
+  pub address-last : (n prev : ℕ) (x : Part) → x ≡ ended (blob 20) s prev → n ≤ 0 → (y : Part) → addressThen n s prev ≡ y → x ≡ y
+  unfolding addressThen items listRun
+  address-last zero prev x p h y w = p ∙ w
+  address-last (suc n) prev x p h y w = absurd (omega arith)
 
 -- ---- owners
 

@@ -46,9 +46,6 @@ abbrev pub inOrder : List ℕ → ℕ → ℕ → Part → Part
 inOrder s prev at (P.Refused e) = P.Refused e
 inOrder s prev at (P.Next n) = pick (below (part at n s) (part prev at s)) (P.Refused (by outOfOrder at)) (P.Next n)
 
-abbrev pub addressFollows : Bool → List ℕ → List ℕ → Bool
-addressFollows any prev address = pick any (below prev address) true
-
 abbrev pub keyFollows : Bool → List ℕ → ℕ → List ℕ → ℕ → Bool
 keyFollows any prev i id j = pick any (keyBelow prev i id j) true
 

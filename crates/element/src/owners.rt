@@ -2,39 +2,34 @@
 ghost use mathlib.Core.Path.{_≡_};
 ghost use Rattle.wire.specs.Fields.{blob};
 ghost use Rattle.wire.specs.Series.{increasing, unordered};
-ghost use Rattle.wire.specs.Answer.{ended, wholeAt};
+ghost use Rattle.wire.specs.Answer.{ended};
 ghost use Rattle.element.specs.Owners.{owners};
-ghost use Rattle.element.specs.Answer.{addressFollows};
 use wire::Number;
 use wire::Part;
 use wire::Refusal;
 
-// May the address at this place stand behind the one at prev, if there is any?
-fn address_follows(s: &[u8], any: bool, prev: usize, at: usize) -> bool
-    ensures { λ r. ⌜ r ≡ addressFollows any (wholeAt 20 (now (s .entry)) prev) (wholeAt 20 (now (s .entry)) at) ⌝ }
-{
-    if any {
-        return wire::address_below(wire::address_at(s, prev), wire::address_at(s, at));
-    }
-    true
-}
-
-// So many addresses from start, each strictly above the one before.
+// So many addresses from start, each strictly above the one before. That the one before is there is asked again in each turn: the compiler then
+// knows it of both addresses, and hands them over with no further test.
 pub fn addresses_from(s: &[u8], start: usize, count: u64) -> Part
     ensures { λ r. ⌜ r ≡ ended (increasing (blob 20) count) (now (s .entry)) start ⌝ }
 {
-    let mut left = count;
-    let mut any = false;
+    if count == 0 {
+        return Part::Next(start);
+    }
+    let Part::Next(_) = wire::part_at(s, start, 20) else {
+        return Part::Refused(wire::cut(s, start, 20));
+    };
+    let mut left = count - 1;
     let mut prev = start;
-    let mut at = start;
     while 0 < left {
-        let Part::Next(next) = wire::part_at(s, at, 20) else {
+        let Part::Next(at) = wire::part_at(s, prev, 20) else {
+            return Part::Refused(wire::cut(s, prev, 20));
+        };
+        let Part::Next(_) = wire::part_at(s, at, 20) else {
             return Part::Refused(wire::cut(s, at, 20));
         };
-        if address_follows(s, any, prev, at) {
-            any = true;
+        if wire::address_below(wire::address_at(s, prev), wire::address_at(s, at)) {
             prev = at;
-            at = next;
             left -= 1;
         } else {
             return Part::Refused(Refusal {
@@ -43,7 +38,7 @@ pub fn addresses_from(s: &[u8], start: usize, count: u64) -> Part
             });
         }
     }
-    Part::Next(at)
+    wire::part_at(s, prev, 20)
 }
 
 // Where the owners at this place end.

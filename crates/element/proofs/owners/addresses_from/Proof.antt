@@ -1,41 +1,52 @@
--- `element::owners::addresses_from` meets its contract. The invariant: the reading of what is left, from here, is the whole reading; what is kept of the address before is its place.
+-- `element::owners::addresses_from` meets its contract. The invariant: reading the address before, and what is left behind it in view of it, is the whole reading.
 -- Assumes nothing.
+use native.Mathlib.Omega.{arith}
 use borrow.Author.Needs.{needs}
-use mathlib.Core.Path.{_≡_, refl}
-use mathlib.Core.List.{[]}
-use Rattle.wire.specs.Bytes.{pick}
+use mathlib.Core.Path.{_≡_}
 use Rattle.wire.specs.Fields.{blob}
-use Rattle.wire.specs.Sequence.{guard}
-use Rattle.wire.specs.Series.{above, seriesFrom, increasing}
-use Rattle.wire.specs.Answer.{ended, wholeAt}
-use Rattle.wire.proofs.Reading.{turn, list-end}
-use Rattle.element.proofs.Reading.{if-part-follows, if-part-not, part-again}
+use Rattle.wire.specs.Series.{increasing}
+use Rattle.wire.specs.Answer.{ended}
+use Rattle.element.proofs.Reading.{addressThen, no-address, address-first, first-gone, address-gone, address-cut, address-again, address-not, address-last}
 use Rattle.element.proofs.owners.addresses_from.Statement.{statement}
 use Rattle.element.proofs.owners.addresses_from.Tie as tie
 
 abbrev Inv-loop : tie.InvT-loop
-Inv-loop s start count left₀ any₀ prev₀ at₀ left any prev at =
-    ended (seriesFrom (above (blob 20)) (pick any (wholeAt 20 s prev) []) left) s at ≡ ended (increasing (blob 20) count) s start
+Inv-loop s start count left₀ prev₀ left prev =
+    addressThen left s prev ≡ ended (increasing (blob 20) count) s start
 
 abbrev μ-loop : tie.MeasureT-loop
-μ-loop s start count left₀ any₀ prev₀ at₀ left any prev at = left
+μ-loop s start count left₀ prev₀ left prev = left
 
 pub addresses-from-spec : {M : Type 1} → statement M
-unfolding guard
 addresses-from-spec =
     tie.close
     (tie.spec
     Inv-loop
     μ-loop
-    (λ c. refl)  -- loop-holds
+    (λ c. search no-address)  -- returns
     (λ c κs. search needs)  -- part-at-requires
-    (λ c. search needs)  -- enum-known-next
     (λ c. search needs)  -- enum-told
+    (λ c. search needs)  -- enum-told-2
     (λ c κs. search needs)  -- cut-requires
-    (λ c. search turn depth 10)  -- returns
-    (λ c κs. search needs)  -- address-follows-requires
+    (λ c. search first-gone)  -- returns-2
     (λ c. search needs)  -- sub-left
+    (λ c. search address-first)  -- loop-holds
+    (λ c κs. search needs)  -- part-at-requires-2
+    (λ c. search needs)  -- enum-known-at
+    (λ c. search needs)  -- enum-told-3
+    (λ c κs. search needs)  -- cut-requires-2
+    (λ c. search address-gone)  -- returns-3
+    (λ c κs. search needs)  -- part-at-requires-3
+    (λ c. search needs)  -- enum-told-4
+    (λ c. search needs)  -- enum-told-5
+    (λ c κs. search needs)  -- cut-requires-3
+    (λ c. search address-cut)  -- returns-4
+    (λ c κs. search needs)  -- address-at-requires
+    (λ c κs. search needs)  -- address-at-requires-2
+    (λ c κs. search needs)  -- address-below-requires
+    (λ c. search needs)  -- sub-left-2
     (λ c. search needs)  -- loop-less
-    (λ c. search (turn, if-part-follows, part-again) depth 10)  -- loop-again
-    (λ c. search (turn, if-part-not) depth 10)  -- returns-2
-    (λ c. search list-end))  -- returns-3
+    (λ c. address-again _ (c .before .before .before .before .before .before .before .before .before .before .before .before .before .before .before .before .before .shared-slice-known .given) (c .before .before .before .before .before .before .before .before .before .before .before .before .loop .left) (c .before .before .before .before .before .before .before .before .before .before .before .before .loop .prev) _ _ (c .before .before .before .before .before .before .before .before .before .before .part-at2 .ensures) (c .before .before .before .before .before .before .before .before .at .given .1) (omega arith) _ (c .before .before .before .before .before .before .before .before .before .before .before .before .loop .inv) _ _ (c .before .before .before .before .before .before .part-at3 .ensures) (c .before .before .before .before .enum-told4 .given .1) _ _ (c .before .before .before .address-at .ensures) (c .before .before .address-at2 .ensures) _ (c .before .address-below .ensures) (c .if2 .taken))  -- loop-again
+    (λ c. address-not _ (c .before .before .before .before .before .before .before .before .before .before .before .before .before .before .before .before .before .shared-slice-known .given) (c .before .before .before .before .before .before .before .before .before .before .before .before .loop .left) (c .before .before .before .before .before .before .before .before .before .before .before .before .loop .prev) _ _ (c .before .before .before .before .before .before .before .before .before .before .part-at2 .ensures) (c .before .before .before .before .before .before .before .before .at .given .1) (omega arith) _ (c .before .before .before .before .before .before .before .before .before .before .before .before .loop .inv) _ _ (c .before .before .before .before .before .before .part-at3 .ensures) (c .before .before .before .before .enum-told4 .given .1) _ _ (c .before .before .before .address-at .ensures) (c .before .before .address-at2 .ensures) _ (c .before .address-below .ensures) (c .if2 .left))  -- returns-5
+    (λ c κs. search needs)  -- part-at-requires-4
+    (λ c. search address-last))  -- returns-6
