@@ -48,8 +48,8 @@ pub fn cut(s: &[u8], at: usize, width: usize) -> Refusal
     }
 }
 
-// Are there so many bytes from at on? None are there at any place. A field's width is a number that the compiler knows: of the fields behind one
-// another it tests only the first for the bytes being fewer than that.
+// Are there width bytes from at on? Where width is 0 there are, at any place. The width is compared with all bytes first: the compiler knows it,
+// and of fields behind one another makes that test once.
 fn are_there(s: &[u8], at: usize, width: usize) -> bool
     ensures { λ r. ⌜ r ≡ leb width (length (now (s .entry)) - at) ⌝ }
 {
