@@ -1,9 +1,9 @@
 -- How the readers of this crate meet their formats. Each law of the form z ≡ (the reading) goes one step into a reading, where it is known what
 -- the code found, as the laws of wire's proofs/Reading do; the proofs of the functions walk by `search` over the rulesets.
 --   answers          what the answer of a reader says of its format's reading: said once, for any answer
---   fields, order    numbers and parts that were read; what code compares, and what the format compares
+--   order            what code compares, and what the format compares
 --   lists            what is left of a list, by what code keeps of the element before
---   strings .. initial states    for each part of a transaction: how the reading of what holds it goes on from its answer (`on-..`,
+--   addresses .. initial states    for each part of a transaction: how the reading of what holds it goes on from its answer (`on-..`,
 --                    `on-..-refused`)
 --   rulesets         a chain up to a refusal, and one that went through to its end
 -- Assumes nothing.

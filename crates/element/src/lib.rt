@@ -1,5 +1,5 @@
-// The parts of a transaction, read left to right, each field taken apart by let .. else: strings, owners, outputs, inputs, operations and
-// initial states.
+// What stands inside a transaction, read left to right, each field taken apart by let .. else: owners, outputs, inputs, operations and initial
+// states. A reader answers where the element ends.
 pub mod inputs;
 pub mod operations;
 pub mod outputs;
