@@ -10,6 +10,7 @@ use Rattle.transaction.specs.Family.{check, entry}
 use Rattle.transaction.specs.Avm.{avm}
 use Rattle.transaction.specs.Answer.{memoMost}
 use Rattle.entry.specs.declared.EntryRead.{EntryRead}
+use Rattle.entry.specs.declared.EntryAnswer.{EntryAnswer}
 use Rattle.entry.specs.declared.EntryAnswer.the-variants as A
 
 abbrev pub refusedEntry : Refusal → EntryRead
@@ -29,3 +30,12 @@ entryAnswer bytes (some e) = foundEntry bytes e
 -- the check's own refusal comes first
 abbrev pub entryOf : List ℕ → ℕ → EntryRead
 entryOf s n = onResult (check (avm memoMost) s) refusedEntry (λ v end. entryAnswer end (entry (avm memoMost) v n))
+
+-- the number and the place that an answer reports: done is 0, with the bytes of the transaction
+abbrev pub entryNumber : EntryAnswer → ℕ
+entryNumber (A.Found fields start end bytes) = 0
+entryNumber (A.Refused e) = e .number
+
+abbrev pub entryPlace : EntryAnswer → ℕ
+entryPlace (A.Found fields start end bytes) = bytes
+entryPlace (A.Refused e) = e .place

@@ -1,5 +1,6 @@
 -- The answer with a lent table as one number, and the answer to a fill as two. Assumes nothing.
 use Prim.Native.Nat.{ℕ, _+_, _*_, _%_}
+use native.Mathlib.Nat.{zero-add}
 use mathlib.Core.Path.{_≡_, sym, ap, _∙_}
 use mathlib.Core.List.{List, [], _∷_}
 use Rattle.wire.specs.declared.Refusal.{Refusal}
@@ -13,10 +14,10 @@ use Rattle.probe.specs.Probed.{probed, packed, told, toldFill}
 -- x is what the check answered, and u what the table holds then
 module _ (s t u : List ℕ) (x : Tabled) (p : filled x u ≡ tabled s t) where
   pub listed-told : (n end : ℕ) → x ≡ T.Listed n end → probed (n % 1048576 * 1048576 + end % 1048576) u ≡ told (tabled s t)
-  listed-told n end q = sym (ap (λ y. told (filled y u)) q) ∙ ap told p
+  listed-told n end q = ap (λ (m : ℕ). probed m u) (sym (zero-add _)) ∙ sym (ap (λ y. told (filled y u)) q) ∙ ap told p
 
   pub refused-told : (e : Refusal) → x ≡ T.Refused e → probed (e .number % 1048576 * 1099511627776 + e .place % 1048576) u ≡ told (tabled s t)
-  refused-told e q = sym (ap (λ y. told (filled y u)) q) ∙ ap told p
+  refused-told e q = ap (λ (m : ℕ). probed (e .number % 1048576 * 1099511627776 + m) u) (sym (zero-add _)) ∙ sym (ap (λ y. told (filled y u)) q) ∙ ap told p
 
 pub ruleset telling = (listed-told, refused-told)
 

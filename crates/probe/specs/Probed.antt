@@ -1,9 +1,8 @@
 -- The answer of the check with a lent table as one number of 64 bits, with what the table holds then. Assumes nothing.
 use Prim.Native.Nat.{ℕ, _+_, _*_, _%_}
 use mathlib.Core.List.{List, [], _∷_}
-use Rattle.table.specs.Table.{Filled}
+use Rattle.table.specs.Table.{Filled, tabledNumber, tabledPlace, tabledRows}
 use Rattle.table.specs.declared.Tabled.{Tabled}
-use Rattle.table.specs.declared.Tabled.the-variants as T
 use Rattle.draft.specs.Calls.{answerNumber, answerPlace}
 use Rattle.draft.specs.declared.Answer.{Answer}
 
@@ -16,8 +15,7 @@ probed a t = record { answer = a; table = t }
 
 -- number × 2^40 + rows × 2^20 + place
 abbrev pub packed : Tabled → ℕ
-packed (T.Listed rows end) = rows % 1048576 * 1048576 + end % 1048576
-packed (T.Refused e) = e .number % 1048576 * 1099511627776 + e .place % 1048576
+packed a = tabledNumber a % 1048576 * 1099511627776 + (tabledRows a % 1048576 * 1048576 + tabledPlace a % 1048576)
 
 abbrev pub told : Filled → Probed
 told f = probed (packed (f .answer)) (f .table)

@@ -7,9 +7,12 @@ use Rattle.writer.specs.declared.Writer.{Writer}
 use Rattle.writer.specs.declared.Step.{Step}
 use Rattle.writer.specs.declared.Written.{Written}
 use Rattle.writer.specs.declared.Written.the-variants as W
-use Rattle.writer.specs.Steps.{Turn}
+use Rattle.writer.specs.Steps.{Turn, writtenNumber, writtenPlace}
 use Rattle.writer.specs.Code.{after}
-use Rattle.probe_writer.specs.Told.{numbersOf, toldAnswer, told, probed, toldTurn}
+use Rattle.probe_writer.specs.Told.{numbersOf, told, probed, toldTurn}
+
+abbrev toldAnswer : Writer → Written → List ℕ
+toldAnswer w a = numbersOf w (writtenNumber a) (writtenPlace a)
 
 pub done-told : (w : Writer) (a : Written) (n : ℕ) → a ≡ W.Done n → numbersOf w 0 n ≡ toldAnswer w a
 done-told w a n q = sym (ap (toldAnswer w) q)

@@ -4,9 +4,7 @@ use mathlib.Core.List.{List, [], _∷_}
 use lib.ListN.{getD}
 use Rattle.writer.specs.declared.Writer.{Writer}
 use Rattle.writer.specs.declared.Step.{Step}
-use Rattle.writer.specs.declared.Written.{Written}
-use Rattle.writer.specs.declared.Written.the-variants as W
-use Rattle.writer.specs.Steps.{Turn}
+use Rattle.writer.specs.Steps.{Turn, writtenNumber, writtenPlace}
 
 -- 0 type, 1 parts begun, 2 bytes written, 3 place of the open list's count, 4 its elements, 5 place of the last of them
 abbrev pub writerOf : List ℕ → Writer
@@ -17,12 +15,8 @@ abbrev pub numbersOf : Writer → ℕ → ℕ → List ℕ
 numbersOf w number place = w .kind ∷ w .phase ∷ w .at ∷ w .list ∷ w .count ∷ w .last ∷ number ∷ place ∷ []
 
 -- 6 number, 7 place
-abbrev pub toldAnswer : Writer → Written → List ℕ
-toldAnswer w (W.Done n) = numbersOf w 0 n
-toldAnswer w (W.Refused e) = numbersOf w (e .number) (e .place)
-
 abbrev pub told : Step → List ℕ
-told r = toldAnswer (r .next) (r .answer)
+told r = numbersOf (r .next) (writtenNumber (r .answer)) (writtenPlace (r .answer))
 
 -- the numbers and the buffer behind a step
 pub record Probed : Type 0 where

@@ -28,3 +28,16 @@ listed end es t = pick (leb (length (rows es)) (length t)) (filled (T.Listed (le
 -- room is judged after all rules
 abbrev pub tabled : List ℕ → List ℕ → Filled
 tabled s t = onResult (check (avm memoMost) s) (λ e. filled (T.Refused e) t) (λ v end. listed end (entries (avm memoMost) v) t)
+
+-- the number, the place and the row count that an answer reports: done is 0, with the bytes of the transaction; a refusal has no rows
+abbrev pub tabledNumber : Tabled → ℕ
+tabledNumber (T.Listed rows bytes) = 0
+tabledNumber (T.Refused e) = e .number
+
+abbrev pub tabledPlace : Tabled → ℕ
+tabledPlace (T.Listed rows bytes) = bytes
+tabledPlace (T.Refused e) = e .place
+
+abbrev pub tabledRows : Tabled → ℕ
+tabledRows (T.Listed rows bytes) = rows
+tabledRows (T.Refused e) = 0

@@ -156,3 +156,12 @@ credentialsBeside w s at =
 
 abbrev pub checked : List ℕ → Checked
 checked s = onResult (check (avm memoMost) s) C.Refused (λ v n. C.Accepted (layout (v .0)) n)
+
+-- the number and the place that an answer reports: accepted is 0, with the bytes of the transaction
+abbrev pub checkedNumber : Checked → ℕ
+checkedNumber (C.Accepted layout bytes) = 0
+checkedNumber (C.Refused e) = e .number
+
+abbrev pub checkedPlace : Checked → ℕ
+checkedPlace (C.Accepted layout bytes) = bytes
+checkedPlace (C.Refused e) = e .place

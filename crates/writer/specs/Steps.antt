@@ -35,6 +35,15 @@ pub record Turn : Type 0 where
 abbrev pub turn : Writer → Written → List ℕ → Turn
 turn w a s = record { step = record { next = w; answer = a }; buffer = s }
 
+-- the number and the place that an answer reports: done is 0, with the bytes written so far
+abbrev pub writtenNumber : Written → ℕ
+writtenNumber (W.Done n) = 0
+writtenNumber (W.Refused e) = e .number
+
+abbrev pub writtenPlace : Written → ℕ
+writtenPlace (W.Done n) = n
+writtenPlace (W.Refused e) = e .place
+
 -- ---- verdicts: what bars a step, or nothing
 
 -- a step that is refused changes neither state nor buffer
