@@ -4,24 +4,27 @@ use lib.Dec.{leb}
 use mathlib.Core.Path.{_≡_, refl, sym, ap, _∙_, subst}
 use mathlib.Core.Bool.{Bool, true, false}
 use mathlib.Core.Option.{Option, none, some}
-use mathlib.Core.List.{List, [], _∷_}
+use mathlib.Core.List.{List, [], _∷_, _++_}
 use native.Mathlib.Omega.{arith}
-use lib.ListN.{length}
-use Rattle.wire.specs.Format.{verdict}
+use lib.ListN.{length, drop}
+use Rattle.wire.specs.Bytes.{Bytes}
+use Rattle.wire.specs.Format.{Format, verdict}
 use Rattle.wire.specs.declared.Refusal.{Refusal}
 use Rattle.wire.proofs.Bytes.{Slice, slice-bytes, found}
 use Rattle.wire.specs.Numbers.{refusal}
-use Rattle.transaction.specs.Slots.{signatureWidth, Spaced}
-use Rattle.transaction.specs.Family.{unsigned, wants, check}
+use Rattle.transaction.specs.Slots.{signatureWidth, slotAt, Spaced, length-slotAt}
+use Rattle.transaction.specs.Credentials.{Want}
+use Rattle.transaction.specs.Family.{Unsigned, unsigned, wants, check}
 use Rattle.transaction.specs.Avm.{avm}
 use Rattle.transaction.specs.Answer.{memoMost, checked}
 use Rattle.transaction.specs.declared.Layout.{Layout}
 use Rattle.transaction.specs.declared.Checked.{Checked}
 use Rattle.transaction.specs.declared.Checked.the-variants as C
 use Rattle.transaction.proofs.Verdicts.{checked-number, checked-place, checked-accepted, checked-refused}
-use Rattle.transaction.proofs.Signed.{parts-of, spaced-slots}
-use Rattle.slot.specs.Joining.{same, firstClash}
-use Rattle.slot.proofs.Comparing.{first-some}
+use Rattle.transaction.proofs.Signed.{parts-of, same-unsigned, length-eq, spaced-slots}
+use Rattle.slot.specs.Joining.{same, join, firstClash}
+use Rattle.slot.proofs.Comparing.{first-some, same-eq, length-join}
+use Rattle.slot.proofs.Putting.{spaced-at, length-putAll}
 use Rattle.draft.specs.Reader.{Reader, reader, body}
 use Rattle.draft.specs.Calls.{answerNumber, answerPlace, refuse, merged, decideMerge, mergeCall}
 use Rattle.draft.specs.declared.Answer.{Answer}
@@ -45,22 +48,35 @@ pub ruleset packing = (accepted-packed, refused-packed)
 
 -- ---- merge
 
+-- no answer is done and refused
+refuses : {P : Type 0} (n : ℕ) (s : List ℕ) (number place : ℕ) (t : List ℕ) → _≡_ {A = Answer × List ℕ} (A.Done n, s) (refuse number place, t) → P
+refuses n s number place t q =
+    let y : A.Done n ≡ refuse number place = ap (λ (z : Answer × List ℕ). z .0) q in
+    let z : _≡_ {A = ℕ} 0 1 = cc in
+    absurd (omega arith)
+
 -- there are no more slots than bytes
 spaced-count : (lo : ℕ) (ps : List ℕ) (n : ℕ) → Spaced lo ps n → lo + length ps ≤ n
 unfolding signatureWidth
 spaced-count lo [] n h = omega arith
 spaced-count lo (p ∷ ps) n h = let k : p + signatureWidth + length ps ≤ n = spaced-count (p + signatureWidth) ps n (h .1) in omega arith
 
-module _ (d e out : List ℕ) (b : Slice d) where
-  abbrev R : Reader
-  R = reader (avm memoMost)
+abbrev U : Format (Unsigned (avm memoMost))
+U = unsigned (avm memoMost)
 
+abbrev W : Unsigned (avm memoMost) → List Want
+W = wants (avm memoMost)
+
+abbrev R : Reader
+R = reader (avm memoMost)
+
+module _ (d e out : List ℕ) (b : Bytes d) where
   -- the slot of a conflict is a small number
   slot-small : R .accepts d ≡ true → (k : ℕ) → firstClash 0 (R .slots d) d e ≡ some k → k ≤ 65536
   slot-small h k q =
-      let (u, l, p) = parts-of (unsigned (avm memoMost)) (wants (avm memoMost)) d (slice-bytes d b) h in
+      let (u, l, p) = parts-of U W d b h in
       let c = first-some 0 (R .slots d) d e k q in
-      omega (arith, p .short, spaced-count 0 (R .slots d) (length d) (spaced-slots (unsigned (avm memoMost)) (wants (avm memoMost)) d u l p), c .at, c .k-in)
+      omega (arith, p .short, spaced-count 0 (R .slots d) (length d) (spaced-slots U W d u l p), c .at, c .k-in)
 
   module _ (f : Refusal) (s : List ℕ) where
     small : (n p : ℕ) (t : List ℕ) → n ≤ 20 → p ≤ 65536 → _≡_ {A = Answer × List ℕ} (A.Refused f, s) (refuse n p, t) → (f .number ≤ 20) × (f .place ≤ 65536)
@@ -75,10 +91,7 @@ module _ (d e out : List ℕ) (b : Slice d) where
     decided-small true true false o r m h q = small 19 0 out (omega arith) (omega arith) q
     decided-small true true true (some k) r m h q = small 20 k out (omega arith) (h refl k refl) q
     decided-small true true true none false m h q = small 14 0 out (omega arith) (omega arith) q
-    decided-small true true true none true m h q =
-        let y : A.Refused f ≡ A.Done (length m) = ap (λ (z : Answer × List ℕ). z .0) q in
-        let z : _≡_ {A = ℕ} 0 1 = cc in
-        absurd (omega arith)
+    decided-small true true true none true m h q = refuses (length m) (m ++ drop (length m) out) (f .number) (f .place) s (sym q)
 
   -- a is what merge answered, and s what it left of out
   module _ (a : Answer) (s : List ℕ) (p : (a, s) ≡ mergeCall R d e out) where
@@ -88,12 +101,56 @@ module _ (d e out : List ℕ) (b : Slice d) where
         decided-small f s (R .accepts d) (R .accepts e) (same (body R d) (body R e)) (firstClash 0 (R .slots d) d e) (leb (length d) (length out)) (merged R d e) slot-small
         (ap (λ (x : Answer). (x, s)) (sym q) ∙ p)
 
-    pub merge-done : (n : ℕ) → a ≡ A.Done n → (n, s) ≡ packedCall (mergeCall R d e out)
-    merge-done n q =
-        let z : n ≡ packed (answerNumber (A.Done n), answerPlace (A.Done n)) = omega arith in
-        ap (λ (i : ℕ). (i, s)) z ∙ ap (λ (x : Answer). packedCall (x, s)) (sym q) ∙ ap packedCall p
+-- a is what merge answered, and s what it left of out
+module _ (d e out : List ℕ) (a : Answer) (s : List ℕ) (p : (a, s) ≡ mergeCall R d e out) where
+  pub merge-done : (n : ℕ) → a ≡ A.Done n → (n, s) ≡ packedCall (mergeCall R d e out)
+  merge-done n q =
+      let z : n ≡ packed (answerNumber (A.Done n), answerPlace (A.Done n)) = omega arith in
+      ap (λ (i : ℕ). (i, s)) z ∙ ap (λ (x : Answer). packedCall (x, s)) (sym q) ∙ ap packedCall p
 
-    pub merge-refused : (f : Refusal) → a ≡ A.Refused f → (f .number * 4294967296 + f .place, s) ≡ packedCall (mergeCall R d e out)
-    merge-refused f q = ap (λ (x : Answer). packedCall (x, s)) (sym q) ∙ ap packedCall p
+  pub merge-refused : (f : Refusal) → a ≡ A.Refused f → (f .number * 4294967296 + f .place, s) ≡ packedCall (mergeCall R d e out)
+  merge-refused f q = ap (λ (x : Answer). packedCall (x, s)) (sym q) ∙ ap packedCall p
 
 pub ruleset merged-packing = (merge-done, merge-refused)
+
+-- ---- a merge that is done has at most 65,536 bytes
+
+-- what holds where a merge of bytes m is done
+pub record Tests (u v w : Bool) (m : List ℕ) (n : ℕ) : Type 0 where
+  pub first : u ≡ true
+  pub second : v ≡ true
+  pub alike : w ≡ true
+  pub long : n ≡ length m
+
+decided-done : (n : ℕ) (s out : List ℕ) (u v w : Bool) (o : Option ℕ) (r : Bool) (m : List ℕ) → (A.Done n, s) ≡ decideMerge u v w o r m out → Tests u v w m n
+decided-done n s out false v w o r m q = refuses n s 17 0 out q
+decided-done n s out true false w o r m q = refuses n s 18 0 out q
+decided-done n s out true true false o r m q = refuses n s 19 0 out q
+decided-done n s out true true true (some k) r m q = refuses n s 20 k out q
+decided-done n s out true true true none false m q = refuses n s 14 0 out q
+decided-done n s out true true true none true m q =
+    let y : A.Done n ≡ A.Done (length m) = ap (λ (z : Answer × List ℕ). z .0) q in
+    let z : n ≡ length m = cc in
+    record { first = refl; second = refl; alike = refl; long = z }
+
+module _ (d e : List ℕ) (bd : Bytes d) (be : Bytes e) where
+  done-long : R .accepts d ≡ true → R .accepts e ≡ true → body R d ≡ body R e → length (merged R d e) ≤ 65536
+  unfolding merged body
+  done-long hd he h =
+      let (u, l, p) = parts-of U W d bd hd in
+      let (v, m, o) = parts-of U W e be he in
+      let q = same-unsigned U W d e u v l m p o h in
+      let spaced = spaced-slots U W d u l p in
+      omega (
+        arith,
+        p .short,
+        length-putAll (λ k. join (slotAt d k) (slotAt e k)) d 0 (R .slots d) spaced (λ k b.
+            let fits = spaced-at 0 (R .slots d) (length d) spaced k b .1 in
+            length-join (slotAt d _) (slotAt e _) (length-slotAt d _ fits) (length-slotAt e _ (omega (arith, length-eq U W d u l p, length-eq U W e u m q)))),
+      )
+
+  pub merge-fits : (out s : List ℕ) (n : ℕ) → (A.Done n, s) ≡ mergeCall R d e out → n ≤ 65536
+  unfolding mergeCall
+  merge-fits out s n q =
+      let t = decided-done n s out (R .accepts d) (R .accepts e) (same (body R d) (body R e)) _ (leb (length d) (length out)) (merged R d e) q in
+      omega (arith, t .long, done-long (t .first) (t .second) (same-eq (body R d) (body R e) (t .alike)))
