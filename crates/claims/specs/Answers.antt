@@ -1,44 +1,71 @@
--- Demand 1 of document 00, of the entries that read: whatever the bytes, the answer has a number of the table, and a refusal changes nothing that
--- was lent. That they end and stay inside the memory lent is what it means that the functions with these answers are proved. Assumes nothing.
-use Prim.Native.Nat.{ℕ, _*_, _≤_}
+-- Demand 1 of document 00, of the calls that read: whatever the bytes, the answer has a number of the call's list, a refusal changes nothing that
+-- was lent, and number and place are the check's own wherever they should be. That a call ends and stays inside the memory lent is what it means
+-- that the function with this answer is proved. Assumes nothing.
+use Prim.Native.Nat.{ℕ, _*_, _≤_, _<_}
 use mathlib.Core.Path.{_≡_}
-use mathlib.Core.List.{List}
-use lib.ListN.{drop}
+use mathlib.Core.List.{List, [], _∷_, _++_}
+use mathlib.Core.Option.{none, some}
+use lib.ListN.{length, drop}
 use Rattle.wire.specs.declared.Refusal.{Refusal}
-use Rattle.wire.specs.Format.{verdict}
-use Rattle.transaction.specs.Family as Family
+use Rattle.wire.specs.Numbers.{refusal}
+use Rattle.wire.specs.Format.{took, refused, verdict}
+use Rattle.wire.specs.Orders.{OneOf}
+use Rattle.transaction.specs.Entries.{EntryAt, rows}
+use Rattle.transaction.specs.Family.{Signed, check, entries, entry}
 use Rattle.transaction.specs.Avm.{avm}
-use Rattle.transaction.specs.Answer.{memoMost, checked}
-use Rattle.transaction.specs.declared.Checked.{Checked}
-use Rattle.transaction.specs.declared.Checked.the-variants as C
-use Rattle.table.specs.Table.{tabled}
-use Rattle.table.specs.declared.Tabled.{Tabled}
+use Rattle.transaction.specs.Answer.{memoMost, checked, checkedNumber, checkedPlace}
+use Rattle.table.specs.Table.{filled, tabled, tabledNumber, tabledRows}
 use Rattle.table.specs.declared.Tabled.the-variants as T
-use Rattle.entry.specs.Entry.{entryOf}
-use Rattle.entry.specs.declared.EntryAnswer.{EntryAnswer}
+use Rattle.entry.specs.Entry.{entryOf, entryNumber, foundEntry}
 use Rattle.entry.specs.declared.EntryAnswer.the-variants as E
 
--- ---- the number and the place of each answer: done is 0, with the bytes of the transaction
+-- ---- the numbers that each call can answer
 
-abbrev pub checkedNumber : Checked → ℕ × ℕ
-checkedNumber (C.Accepted w bytes) = (0, bytes)
-checkedNumber (C.Refused e) = (e .number, e .place)
+abbrev pub checkNumbers : List ℕ
+checkNumbers = 0 ∷ 1 ∷ 2 ∷ 3 ∷ 4 ∷ 5 ∷ 6 ∷ 7 ∷ 8 ∷ 9 ∷ 10 ∷ 11 ∷ 12 ∷ 13 ∷ []
 
-abbrev pub tabledNumber : Tabled → ℕ × ℕ
-tabledNumber (T.Listed rows bytes) = (0, bytes)
-tabledNumber (T.Refused e) = (e .number, e .place)
+-- no room in the lent table
+abbrev pub tableNumbers : List ℕ
+tableNumbers = 14 ∷ checkNumbers
 
-abbrev pub entryNumber : EntryAnswer → ℕ × ℕ
-entryNumber (E.Found f start end bytes) = (0, bytes)
-entryNumber (E.Refused e) = (e .number, e .place)
+-- no such entry
+abbrev pub entryNumbers : List ℕ
+entryNumbers = 15 ∷ checkNumbers
 
-pub record Answers : Type 0 where
-  -- the check, of a phone as of a server
-  pub check : (s : List ℕ) → checkedNumber (checked s) .0 ≤ 13
-  pub check-verdict : (s : List ℕ) → checkedNumber (checked s) ≡ verdict (Family.check (avm memoMost) s)
-  -- the check with a lent table: its number and place are the check's own, but where there is no room
-  pub table : (s t : List ℕ) → tabledNumber (tabled s t .answer) .0 ≤ 14
-  pub table-refused : (s t : List ℕ) (e : Refusal) → tabled s t .answer ≡ T.Refused e → tabled s t .table ≡ t
-  pub table-beyond : (s t : List ℕ) (n bytes : ℕ) → tabled s t .answer ≡ T.Listed n bytes → drop (3 * n) (tabled s t .table) ≡ drop (3 * n) t
-  -- entry n
-  pub entry : (s : List ℕ) (n : ℕ) → entryNumber (entryOf s n .answer) .0 ≤ 15
+-- ---- the check
+
+pub record CheckAnswers : Type 0 where
+  pub number : (s : List ℕ) → OneOf (checkedNumber (checked s)) checkNumbers
+  -- number and place are those of the definition
+  pub own : (s : List ℕ) → (checkedNumber (checked s), checkedPlace (checked s)) ≡ verdict (check (avm memoMost) s)
+
+-- ---- the check with a lent table t
+
+pub record TableAnswers : Type 0 where
+  pub number : (s t : List ℕ) → OneOf (tabledNumber (tabled s t .answer)) tableNumbers
+  -- bytes that are not accepted get the check's own refusal, whatever the room
+  pub refused-bytes : (s t : List ℕ) (e : Refusal) → check (avm memoMost) s ≡ refused e → tabled s t ≡ filled (T.Refused e) t
+  -- accepted bytes, whose entries have room: every row stands at the front, and each number beyond them is as before
+  pub listed : (s t : List ℕ) (v : Signed (avm memoMost)) (n : ℕ) → check (avm memoMost) s ≡ took v n
+      → let es : List EntryAt = entries (avm memoMost) v in 3 * length es ≤ length t → tabled s t ≡ filled (T.Listed (length es) n) (rows es ++ drop (3 * length es) t)
+  -- accepted bytes, whose entries have not: 14 at 0
+  pub no-room : (s t : List ℕ) (v : Signed (avm memoMost)) (n : ℕ) → check (avm memoMost) s ≡ took v n
+      → length t < 3 * length (entries (avm memoMost) v) → tabled s t ≡ filled (T.Refused (refusal 14 0)) t
+  -- a refusal has no rows and changes no number of the table
+  pub unchanged : (s t : List ℕ) → (tabledNumber (tabled s t .answer) ≡ 0 → ⊥) → (tabledRows (tabled s t .answer) ≡ 0) × (tabled s t .table ≡ t)
+  -- numbers beyond the rows stay
+  pub beyond : (s t : List ℕ) → let rows = tabledRows (tabled s t .answer) in drop (3 * rows) (tabled s t .table) ≡ drop (3 * rows) t
+  pub length-kept : (s t : List ℕ) → length (tabled s t .table) ≡ length t
+
+-- ---- entry n
+
+pub record EntryAnswers : Type 0 where
+  pub number : (s : List ℕ) (n : ℕ) → OneOf (entryNumber (entryOf s n .answer)) entryNumbers
+  -- bytes that are not accepted get the check's own refusal first
+  pub refused-bytes : (s : List ℕ) (n : ℕ) (e : Refusal) → check (avm memoMost) s ≡ refused e → entryOf s n .answer ≡ E.Refused e
+  -- then the fields of entry n of the reading, with the bytes of the transaction as place
+  pub found : (s : List ℕ) (n : ℕ) (v : Signed (avm memoMost)) (bytes : ℕ) (e : EntryAt) → check (avm memoMost) s ≡ took v bytes
+      → entry (avm memoMost) v n ≡ some e → entryOf s n ≡ foundEntry bytes e
+  -- or 15 at 0 where the reading has no such entry
+  pub missing : (s : List ℕ) (n : ℕ) (v : Signed (avm memoMost)) (bytes : ℕ) → check (avm memoMost) s ≡ took v bytes
+      → entry (avm memoMost) v n ≡ none → entryOf s n .answer ≡ E.Refused (refusal 15 0)
