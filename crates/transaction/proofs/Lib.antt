@@ -5,5 +5,6 @@ pub mod Beside
 pub mod Checking
 pub mod Signed
 pub mod Codec
+pub mod FirstBroken
 pub mod Verdicts
 pub mod Good

@@ -7,5 +7,6 @@ pub mod Plan
 pub mod Family
 pub mod Avm
 pub mod Codec
+pub mod FirstBroken
 pub mod Answer
 pub mod Transaction

@@ -1,0 +1,44 @@
+-- A refusal names the first broken rule and its place (demand 2), as one statement over every byte string. The bytes are taken left to right, so
+-- "first" is said by the shortest beginning that settles the answer: what is shorter is only cut short, and what follows does not matter.
+-- Assumes nothing.
+use mathlib.Core.Path.{_≡_}
+use mathlib.Core.Logic.{_↔_}
+use mathlib.Core.Bool.{true}
+use mathlib.Core.List.{List}
+use Prim.Native.Nat.{ℕ, _≤_, _<_}
+use lib.ListN.{length, take}
+use Rattle.wire.specs.Bytes.{Bytes}
+use Rattle.wire.specs.Format.{refused}
+use Rattle.wire.specs.Numbers.{cutShort, ruleNumber, tooLong, bytesAfterEnd, refusal}
+use Rattle.transaction.specs.Signed.{mostBytes}
+use Rattle.transaction.specs.Family.{Family, check, accepted}
+
+module _ (F : Family) where
+  -- s is refused by number n at place p
+  abbrev pub Refuses : List ℕ → ℕ → ℕ → Type 0
+  Refuses s n p = check F s ≡ refused (refusal n p)
+
+  -- s is refused by 2, wherever its last field starts
+  abbrev pub Cut : List ℕ → Type 0
+  Cut s = (p : ℕ) × Refuses s (ruleNumber cutShort) p
+
+  -- the first m bytes of s break the rule of number n at place p, and no fewer do
+  pub record Moment (s : List ℕ) (n p m : ℕ) : Type 0 where
+    pub inside : m ≤ length s
+    pub before : (k : ℕ) → k < m → Cut (take k s)
+    pub since : (k : ℕ) → m ≤ k → Refuses (take k s) n p
+    pub whatever-follows : (t : List ℕ) → length t ≤ mostBytes → take m t ≡ take m s → Refuses t n p
+
+  pub record FirstBroken : Type 0 where
+    -- "Rule 1 comes first": longer than 65,536 bytes, and then at place 0
+    pub too-long : (s : List ℕ) (p : ℕ) → Refuses s tooLong p ↔ ((mostBytes < length s) × (p ≡ 0))
+    -- "Bytes after the end: last", at the first of them: what stands before that place is accepted
+    pub after-end : (s : List ℕ) (n : ℕ) → Bytes s
+        → Refuses s bytesAfterEnd n ↔ ((length s ≤ mostBytes) × (n < length s) × (accepted F (take n s) ≡ true))
+    -- "A field cut short ends the reading there": nothing that is there breaks a rule, and no beginning is accepted
+    pub cut-short : (s : List ℕ) (p : ℕ) → Bytes s → Refuses s (ruleNumber cutShort) p → (k : ℕ) → Cut (take k s)
+    -- "Then fields are taken left to right; a rule is judged at the moment named below": every other refusal has its moment
+    pub broken : (s : List ℕ) (n p : ℕ) → Bytes s → (n ≡ tooLong → ⊥) → (n ≡ ruleNumber cutShort → ⊥) → (n ≡ bytesAfterEnd → ⊥)
+        → Refuses s n p → (m : ℕ) × Moment s n p m
+    -- "Accepted means that none of 1 to 13 holds": of accepted bytes, what is shorter is cut short and breaks no other rule
+    pub accepted-last : (s : List ℕ) → Bytes s → accepted F s ≡ true → (k : ℕ) → k < length s → Cut (take k s)
