@@ -7,20 +7,19 @@ use mathlib.Core.List.{List, [], _++_, append-nil}
 use Prim.Native.Nat.{ℕ, zero, suc, _≤_, _<_}
 use native.Mathlib.Omega.{arith}
 use native.Mathlib.Nat.{not-suc-le-zero, zero-add}
-use native.Mathlib.Decide.{decLe}
 use lib.ListN.{length, take, drop, length-take, take-append-drop}
 use lib.Seq.{take-length, take-take, length-take-le}
 use lib.Dec.{leb, eqb}
 use borrow.Author.Tests.{le-leb, lt-leb, leb-true, leb-false, eqb-true, eqb-false, eq-eqb, ne-eqb}
 use Rattle.wire.specs.Bytes.{Bytes, pick, bytes-take}
-use Rattle.wire.specs.Format.{Format, Result, took, refused, onResult, read, read-complete, kept, local, took-refused, refused-took, stands-inside, stands-part}
+use Rattle.wire.specs.Format.{Format, Result, took, refused, onResult, read, read-complete, kept, local, took-refused, stands-inside}
 use Rattle.wire.specs.Numbers.{refusal, cutShort, ruleNumber, tooLong, bytesAfterEnd, ruled-range, numberOf}
-use Rattle.wire.specs.Whole.{whole, whole-sound, whole-complete}
+use Rattle.wire.specs.Whole.{whole, whole-sound}
 use Rattle.wire.specs.declared.Refusal.{Refusal}
 use Rattle.transaction.specs.Signed.{mostBytes, taken}
 use Rattle.transaction.specs.Signed as Any
-use Rattle.transaction.specs.Family.{Family, signed, check}
-use Rattle.transaction.specs.FirstBroken.{Refuses, Cut, Moment, FirstBroken}
+use Rattle.transaction.specs.Family.{Family, signed}
+use Rattle.transaction.specs.FirstBroken.{Refuses, Moment, FirstBroken}
 use Rattle.transaction.proofs.Signed.{taken-inv}
 
 abbrev placeOf : Refusal → ℕ
@@ -43,63 +42,57 @@ module _ {A : Type 0} (G : Format A) where
 
       named : (e : Refusal) (t : Bool) → eqb (e .number) (ruleNumber cutShort) ≡ t → read G (take k s) 0 ≡ refused e
           → ReadCut (take k s) ⊎ (read G (take k s) 0 ≡ read G s 0)
-      named e true q r = inl (e .place, r ∙ ap (λ (n : ℕ). refused (refusal n (e .place))) (eqb-true (e .number) 2 q))
-      named e false q r = inr (r ∙ whole-of (G .stable (take k s) (drop k s) 0 e (bytes-take k s b) (eqb-false (e .number) 2 q) r))
+      named e true q r = inl (e .place, r ∙ ap (λ (n : ℕ). refused (refusal n (e .place))) (eqb-true (e .number) (ruleNumber cutShort) q))
+      named e false q r = inr (r ∙ whole-of (G .stable (take k s) (drop k s) 0 e (bytes-take k s b) (eqb-false (e .number) (ruleNumber cutShort) q) r))
 
       judge : (o : Result A) → read G (take k s) 0 ≡ o → ReadCut (take k s) ⊎ (read G (take k s) 0 ≡ read G s 0)
       judge (took v n) r = inr (r ∙ whole-of (kept G (take k s) (drop k s) 0 v n (bytes-take k s b) r))
-      judge (refused e) r = named e (eqb (e .number) 2) refl r
+      judge (refused e) r = named e (eqb (e .number) (ruleNumber cutShort)) refl r
 
-  -- what is taken of a beginning ends inside it
+  -- what is cut short is cut short at every earlier byte
+  cut-beginning : (s : List ℕ) (k : ℕ) → Bytes s → ReadCut s → ReadCut (take k s)
+  cut-beginning s k b (p, r) = ⊎-elim (λ c. c) (λ z. (p, z ∙ r)) (beginning s k b)
+
+  -- of at most j bytes, the shortest beginning that is read as the whole is
+  abbrev Shortest : List ℕ → ℕ → Type 0
+  Shortest s j = (m : ℕ) × (m ≤ j) × ((k : ℕ) → k < m → ReadCut (take k s)) × (read G (take m s) 0 ≡ read G s 0)
+
+  shortest-up-to : (s : List ℕ) → Bytes s → (j : ℕ) → read G (take j s) 0 ≡ read G s 0 → Shortest s j
+  shortest-up-to s b zero r = (zero, omega arith, λ k h. absurd (not-suc-le-zero h), r)
+  shortest-up-to s b (suc j) r =
+      ⊎-elim (λ c. (suc j, omega arith, earlier c, r)) (λ q. let (m, h, f, w) = shortest-up-to s b j q in (m, omega arith, f, w)) (beginning s j b)
+    where
+      earlier : ReadCut (take j s) → (k : ℕ) → k < suc j → ReadCut (take k s)
+      earlier c k h = subst ReadCut (take-take k j s (omega arith)) (cut-beginning (take j s) k (bytes-take j s b) c)
+
+  shortest : (s : List ℕ) → Bytes s → Shortest s (length s)
+  shortest s b = shortest-up-to s b (length s) (ap (λ (t : List ℕ). read G t 0) (take-length s))
+
   took-inside : (s : List ℕ) (v : A) (n : ℕ) → Bytes s → read G s 0 ≡ took v n → n ≤ length s
   took-inside s v n b r = stands-inside s 0 (G .write v) n (G .sound s 0 v n b r .1) (omega arith)
 
-  -- the first j beginnings are all cut short, or there is a first that is not
-  first-read : (s : List ℕ) → Bytes s → (j : ℕ)
-      → ((k : ℕ) → k < j → ReadCut (take k s))
-      ⊎ ((m : ℕ) × (m < j) × ((k : ℕ) → k < m → ReadCut (take k s)) × (read G (take m s) 0 ≡ read G s 0))
-  first-read s b zero = inl (λ k h. absurd (not-suc-le-zero h))
-  first-read s b (suc j) = next (first-read s b j) (beginning s j b)
-    where
-      up-to : ((k : ℕ) → k < j → ReadCut (take k s)) → ReadCut (take j s) → (k : ℕ) → k < suc j → ReadCut (take k s)
-      up-to f c k h = at (eqb k j) refl
-        where
-          at : (t : Bool) → eqb k j ≡ t → ReadCut (take k s)
-          at true q = subst (λ (i : ℕ). ReadCut (take i s)) (sym (eqb-true k j q)) c
-          at false q = f k (let ne = eqb-false k j q in omega arith)
-
-      next : ((k : ℕ) → k < j → ReadCut (take k s)) ⊎ ((m : ℕ) × (m < j) × ((k : ℕ) → k < m → ReadCut (take k s)) × (read G (take m s) 0 ≡ read G s 0))
-          → ReadCut (take j s) ⊎ (read G (take j s) 0 ≡ read G s 0)
-          → ((k : ℕ) → k < suc j → ReadCut (take k s))
-          ⊎ ((m : ℕ) × (m < suc j) × ((k : ℕ) → k < m → ReadCut (take k s)) × (read G (take m s) 0 ≡ read G s 0))
-      next (inr (m, h, f, r)) o = inr (m, omega arith, f, r)
-      next (inl f) (inl c) = inl (up-to f c)
-      next (inl f) (inr r) = inr (j, omega arith, f, r)
-
-  -- the shortest beginning that is read as the whole is
-  shortest : (s : List ℕ) → Bytes s → (m : ℕ) × (m ≤ length s) × ((k : ℕ) → k < m → ReadCut (take k s)) × (read G (take m s) 0 ≡ read G s 0)
-  shortest s b =
-      ⊎-elim (λ f. (length s, omega arith, f, ap (λ (t : List ℕ). read G t 0) (take-length s))) (λ (m, h, f, r). (m, omega arith, f, r))
-      (first-read s b (length s))
-
 module _ {A : Type 0} (G : Format A) (most : ℕ) where
-  abbrev judged : List ℕ → Result A
-  judged s = whole G most s refused took
+  -- the answer of the check, and what it makes of a reading: the whole is to be read
+  abbrev answer : List ℕ → Result A
+  answer s = whole G most s refused took
 
   abbrev toEnd : List ℕ → Result A → Result A
   toEnd s o = onResult o refused (λ v n. pick (eqb n (length s)) (took v n) (refused (refusal bytesAfterEnd n)))
 
-  judged-short : (s : List ℕ) → length s ≤ most → judged s ≡ toEnd s (read G s 0)
-  judged-short s h = rw (le-leb (length s) most h) (G .same s 0 refused _)
+  answer-short : (s : List ℕ) → length s ≤ most → answer s ≡ toEnd s (read G s 0)
+  answer-short s h = rw (le-leb (length s) most h) (G .same s 0 refused _)
 
-  judged-refused : (s : List ℕ) (e : Refusal) → length s ≤ most → read G s 0 ≡ refused e → judged s ≡ refused e
-  judged-refused s e h r = judged-short s h ∙ ap (toEnd s) r
+  answer-refused : (s : List ℕ) (e : Refusal) → length s ≤ most → read G s 0 ≡ refused e → answer s ≡ refused e
+  answer-refused s e h r = answer-short s h ∙ ap (toEnd s) r
 
-  judged-after : (s : List ℕ) (v : A) (n : ℕ) → length s ≤ most → n < length s → read G s 0 ≡ took v n → judged s ≡ refused (refusal bytesAfterEnd n)
-  judged-after s v n h l r = judged-short s h ∙ ap (toEnd s) r ∙ rw (ne-eqb n (length s) (λ e. omega arith))
+  answer-after : (s : List ℕ) (v : A) (n : ℕ) → length s ≤ most → n < length s → read G s 0 ≡ took v n → answer s ≡ refused (refusal bytesAfterEnd n)
+  answer-after s v n h l r = answer-short s h ∙ ap (toEnd s) r ∙ rw (ne-eqb n (length s) (λ e. omega arith))
 
-  judged-long : (s : List ℕ) → most < length s → judged s ≡ refused (refusal tooLong 0)
-  judged-long s h = rw (lt-leb (length s) most h)
+  answer-taken : (s : List ℕ) (v : A) → length s ≤ most → read G s 0 ≡ took v (length s) → answer s ≡ took v (length s)
+  answer-taken s v h r = answer-short s h ∙ ap (toEnd s) r ∙ rw (eq-eqb (length s) (length s) refl)
+
+  answer-long : (s : List ℕ) → most < length s → answer s ≡ refused (refusal tooLong 0)
+  answer-long s h = rw (lt-leb (length s) most h)
 
   -- why s is refused by e
   data Cause (s : List ℕ) (e : Refusal) : Type 0 where
@@ -107,7 +100,7 @@ module _ {A : Type 0} (G : Format A) (most : ℕ) where
     rule : length s ≤ most → read G s 0 ≡ refused e → Cause s e
     after : length s ≤ most → (v : A) (n : ℕ) → read G s 0 ≡ took v n → (n ≡ length s → ⊥) → refusal bytesAfterEnd n ≡ e → Cause s e
 
-  cause : (s : List ℕ) (e : Refusal) → judged s ≡ refused e → Cause s e
+  cause : (s : List ℕ) (e : Refusal) → answer s ≡ refused e → Cause s e
   cause s e q = fits (leb (length s) most) refl
     where
       ended : length s ≤ most → (v : A) (n : ℕ) → read G s 0 ≡ took v n → (t : Bool) → eqb n (length s) ≡ t
@@ -122,33 +115,30 @@ module _ {A : Type 0} (G : Format A) (most : ℕ) where
       inside h (refused d) r z = rule h (r ∙ z)
 
       fits : (t : Bool) → leb (length s) most ≡ t → Cause s e
-      fits true t = let h = leb-true (length s) most t in inside h (read G s 0) refl (sym (judged-short s h) ∙ q)
+      fits true t = let h = leb-true (length s) most t in inside h (read G s 0) refl (sym (answer-short s h) ∙ q)
       fits false t =
           let h : most < length s = leb-false (length s) most t in
-          let z : _≡_ {A = Result A} (refused (refusal tooLong 0)) (refused e) = sym (judged-long s h) ∙ q in
+          let z : _≡_ {A = Result A} (refused (refusal tooLong 0)) (refused e) = sym (answer-long s h) ∙ q in
           long h cc
 
-  judged-taken : (s : List ℕ) (v : A) → length s ≤ most → read G s 0 ≡ took v (length s) → judged s ≡ took v (length s)
-  judged-taken s v h r = judged-short s h ∙ ap (toEnd s) r ∙ rw (eq-eqb (length s) (length s) refl)
-
-  -- what is judged good is read up to its end
-  taken-read : (s : List ℕ) → Bytes s → taken (judged s) ≡ true → (v : A) × (length s ≤ most) × (read G s 0 ≡ took v (length s))
+  -- what is taken is read up to its end
+  taken-read : (s : List ℕ) → Bytes s → taken (answer s) ≡ true → (v : A) × (length s ≤ most) × (read G s 0 ≡ took v (length s))
   taken-read s b a =
-      let (v, n, e) = taken-inv (judged s) a in
+      let (v, n, e) = taken-inv (answer s) a in
       let (g, w, m, h) = whole-sound G most s v n b e in
       (v, h, read-complete G s 0 v [] g (sym (ap (λ (t : List ℕ). t ++ []) w ∙ append-nil s)) ∙ ap (took v) (zero-add (length (G .write v)) ∙ ap length w))
 
   -- refused by 2 at some place
-  abbrev JudgedCut : List ℕ → Type 0
-  JudgedCut s = (p : ℕ) × (judged s ≡ refused (refusal (ruleNumber cutShort) p))
+  abbrev AnswerCut : List ℕ → Type 0
+  AnswerCut s = (p : ℕ) × (answer s ≡ refused (refusal (ruleNumber cutShort) p))
 
-  beginning-cut : (s : List ℕ) (k : ℕ) → length s ≤ most → ReadCut G (take k s) → JudgedCut (take k s)
-  beginning-cut s k h (p, r) = (p, judged-refused (take k s) (refusal (ruleNumber cutShort) p) (omega (arith, length-beginning k s)) r)
+  beginning-cut : (s : List ℕ) (k : ℕ) → length s ≤ most → ReadCut G (take k s) → AnswerCut (take k s)
+  beginning-cut s k h (p, r) = (p, answer-refused (take k s) (refusal (ruleNumber cutShort) p) (omega (arith, length-beginning k s)) r)
 
   -- ---- each sentence
 
-  long-exactly : (s : List ℕ) (p : ℕ) → (judged s ≡ refused (refusal tooLong p)) ↔ ((most < length s) × (p ≡ 0))
-  long-exactly s p = (λ q. from (cause s (refusal tooLong p) q), λ (h, z). judged-long s h ∙ ap (λ (i : ℕ). refused (refusal tooLong i)) (sym z))
+  long-exactly : (s : List ℕ) (p : ℕ) → (answer s ≡ refused (refusal tooLong p)) ↔ ((most < length s) × (p ≡ 0))
+  long-exactly s p = (λ q. from (cause s (refusal tooLong p) q), λ (h, z). answer-long s h ∙ ap (λ (i : ℕ). refused (refusal tooLong i)) (sym z))
     where
       from : Cause s (refusal tooLong p) → (most < length s) × (p ≡ 0)
       from (long h e) = (h, sym (ap placeOf e))
@@ -156,17 +146,17 @@ module _ {A : Type 0} (G : Format A) (most : ℕ) where
       from (after h v n r ne e) = absurd (let z = ap numberOf e in omega arith)
 
   after-exactly : (s : List ℕ) (n : ℕ) → Bytes s
-      → (judged s ≡ refused (refusal bytesAfterEnd n)) ↔ ((length s ≤ most) × (n < length s) × (taken (judged (take n s)) ≡ true))
+      → (answer s ≡ refused (refusal bytesAfterEnd n)) ↔ ((length s ≤ most) × (n < length s) × (taken (answer (take n s)) ≡ true))
   after-exactly s n b = (λ q. from (cause s (refusal bytesAfterEnd n) q), λ (h, l, a). to h l a)
     where
-      at-end : (v : A) → length s ≤ most → n < length s → read G s 0 ≡ took v n → taken (judged (take n s)) ≡ true
+      at-end : (v : A) → length s ≤ most → n < length s → read G s 0 ≡ took v n → taken (answer (take n s)) ≡ true
       at-end v h l r =
           let w : length (take n s) ≡ n = length-take-le n s (omega arith) in
           ap taken
-          (judged-taken (take n s) v (omega arith)
+          (answer-taken (take n s) v (omega arith)
           (local G s (take n s) v n b r (take-take n n s (omega arith)) ∙ ap (took v) (sym w)))
 
-      from : Cause s (refusal bytesAfterEnd n) → (length s ≤ most) × (n < length s) × (taken (judged (take n s)) ≡ true)
+      from : Cause s (refusal bytesAfterEnd n) → (length s ≤ most) × (n < length s) × (taken (answer (take n s)) ≡ true)
       from (long h e) = absurd (let z = ap numberOf e in omega arith)
       from (rule h r) = let (z, a) = ruled-range bytesAfterEnd (G .ruled s 0 (refusal bytesAfterEnd n) r) in absurd (omega arith)
       from (after h v m r ne e) =
@@ -175,23 +165,23 @@ module _ {A : Type 0} (G : Format A) (most : ℕ) where
           let l : n < length s = omega arith in
           (h, l, at-end v h l (r ∙ ap (took v) z))
 
-      to : length s ≤ most → n < length s → taken (judged (take n s)) ≡ true → judged s ≡ refused (refusal bytesAfterEnd n)
+      to : length s ≤ most → n < length s → taken (answer (take n s)) ≡ true → answer s ≡ refused (refusal bytesAfterEnd n)
       to h l a =
           let (v, i, r) = taken-read (take n s) (bytes-take n s b) a in
-          judged-after s v n h l
+          answer-after s v n h l
           (ap (λ (t : List ℕ). read G t 0) (sym (take-append-drop n s))
           ∙ kept G (take n s) (drop n s) 0 v (length (take n s)) (bytes-take n s b) r
           ∙ ap (took v) (length-take-le n s (omega arith)))
 
-  cut-throughout : (s : List ℕ) (p : ℕ) → Bytes s → judged s ≡ refused (refusal (ruleNumber cutShort) p) → (k : ℕ) → JudgedCut (take k s)
+  cut-throughout : (s : List ℕ) (p : ℕ) → Bytes s → answer s ≡ refused (refusal (ruleNumber cutShort) p) → (k : ℕ) → AnswerCut (take k s)
   cut-throughout s p b q k = from (cause s (refusal (ruleNumber cutShort) p) q)
     where
-      from : Cause s (refusal (ruleNumber cutShort) p) → JudgedCut (take k s)
+      from : Cause s (refusal (ruleNumber cutShort) p) → AnswerCut (take k s)
       from (long h e) = absurd (let z = ap numberOf e in omega arith)
       from (after h v n r ne e) = absurd (let z = ap numberOf e in omega arith)
-      from (rule h r) = ⊎-elim (beginning-cut s k h) (λ z. beginning-cut s k h (p, z ∙ r)) (beginning G s k b)
+      from (rule h r) = beginning-cut s k h (cut-beginning G s k b (p, r))
 
-  taken-last : (s : List ℕ) → Bytes s → taken (judged s) ≡ true → (k : ℕ) → k < length s → JudgedCut (take k s)
+  taken-last : (s : List ℕ) → Bytes s → taken (answer s) ≡ true → (k : ℕ) → k < length s → AnswerCut (take k s)
   taken-last s b a k l =
       let (v, h, r) = taken-read s b a in
       ⊎-elim (beginning-cut s k h)
@@ -200,14 +190,14 @@ module _ {A : Type 0} (G : Format A) (most : ℕ) where
 
   -- what the first m bytes are refused by, all bytes that start with them are
   settled : (s : List ℕ) (e : Refusal) (m : ℕ) → Bytes s → (e .number ≡ ruleNumber cutShort → ⊥) → read G (take m s) 0 ≡ refused e
-      → (t : List ℕ) → length t ≤ most → take m t ≡ take m s → judged t ≡ refused e
+      → (t : List ℕ) → length t ≤ most → take m t ≡ take m s → answer t ≡ refused e
   settled s e m b ne r t h q =
-      judged-refused t e h
+      answer-refused t e h
       (ap (λ (u : List ℕ). read G u 0) (sym (take-append-drop m t) ∙ ap (λ (u : List ℕ). u ++ drop m t) q)
       ∙ G .stable (take m s) (drop m t) 0 e (bytes-take m s b) ne r)
 
   -- a refusal of a rule that the bytes break while they are read is that of the reading
-  rule-read : (s : List ℕ) (e : Refusal) → (e .number ≡ tooLong → ⊥) → (e .number ≡ bytesAfterEnd → ⊥) → judged s ≡ refused e
+  rule-read : (s : List ℕ) (e : Refusal) → (e .number ≡ tooLong → ⊥) → (e .number ≡ bytesAfterEnd → ⊥) → answer s ≡ refused e
       → (length s ≤ most) × (read G s 0 ≡ refused e)
   rule-read s e n₁ n₁₃ q = from (cause s e q)
     where
@@ -223,13 +213,15 @@ module _ (F : Family) where
   moment s n p b n₁ n₂ n₁₃ q =
       let (h, r) = rule-read (signed F) mostBytes s (refusal n p) n₁ n₁₃ q in
       let (m, i, f, w) = shortest (signed F) s b in
-      let all = settled (signed F) mostBytes s (refusal n p) m b n₂ (w ∙ r) in
-      (m, record {
-        inside = i;
-        before = λ k l. beginning-cut (signed F) mostBytes s k h (f k l);
-        since = λ k l. all (take k s) (omega (arith, length-beginning k s)) (take-take m k s l);
-        whatever-follows = all;
-      })
+      let all = settled (signed F) mostBytes s (refusal n p) m b n₂ (w ∙ r) in (
+        m,
+        record {
+          inside = i;
+          before = λ k l. beginning-cut (signed F) mostBytes s k h (f k l);
+          since = λ k l. all (take k s) (omega (arith, length-beginning k s)) (take-take m k s l);
+          whatever-follows = all;
+        },
+      )
 
   pub first-broken : FirstBroken F
   unfolding Any.check
@@ -239,5 +231,5 @@ module _ (F : Family) where
         after-end = after-exactly (signed F) mostBytes;
         cut-short = cut-throughout (signed F) mostBytes;
         broken = moment;
-        accepted-last = taken-last (signed F) mostBytes;
+        accepted = taken-last (signed F) mostBytes;
       }

@@ -18,15 +18,18 @@ module _ (F : Family) where
   abbrev pub Refuses : List ℕ → ℕ → ℕ → Type 0
   Refuses s n p = check F s ≡ refused (refusal n p)
 
-  -- s is refused by 2, wherever its last field starts
+  -- s is refused by 2, at some place
   abbrev pub Cut : List ℕ → Type 0
   Cut s = (p : ℕ) × Refuses s (ruleNumber cutShort) p
 
-  -- the first m bytes of s break the rule of number n at place p, and no fewer do
+  -- the first m bytes of s are the fewest that break the rule of number n, at place p
   pub record Moment (s : List ℕ) (n p m : ℕ) : Type 0 where
     pub inside : m ≤ length s
+    -- fewer bytes break no rule: they are cut short
     pub before : (k : ℕ) → k < m → Cut (take k s)
+    -- as many or more are refused by n at p
     pub since : (k : ℕ) → m ≤ k → Refuses (take k s) n p
+    -- and so are all bytes that begin with these m, if they are not too long
     pub whatever-follows : (t : List ℕ) → length t ≤ mostBytes → take m t ≡ take m s → Refuses t n p
 
   pub record FirstBroken : Type 0 where
@@ -41,4 +44,4 @@ module _ (F : Family) where
     pub broken : (s : List ℕ) (n p : ℕ) → Bytes s → (n ≡ tooLong → ⊥) → (n ≡ ruleNumber cutShort → ⊥) → (n ≡ bytesAfterEnd → ⊥)
         → Refuses s n p → (m : ℕ) × Moment s n p m
     -- "Accepted means that none of 1 to 13 holds": of accepted bytes, what is shorter is cut short and breaks no other rule
-    pub accepted-last : (s : List ℕ) → Bytes s → accepted F s ≡ true → (k : ℕ) → k < length s → Cut (take k s)
+    pub accepted : (s : List ℕ) → Bytes s → accepted F s ≡ true → (k : ℕ) → k < length s → Cut (take k s)
