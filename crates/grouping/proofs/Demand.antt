@@ -11,7 +11,7 @@ use Rattle.slot.specs.Joining.{Filled}
 use Rattle.slot.proofs.Comparing.{dec-same}
 use Rattle.draft.specs.Reader.{Reader, slotCount, slot}
 use Rattle.grouping.specs.Groupings.{at, Drafts, Grouping, Uses}
-use Rattle.grouping.specs.Demand.{Conflict, heldAt, mergeOf, IsMerge, Promise, Demand3}
+use Rattle.grouping.specs.Demand.{Conflict, heldAt, mergeOf, IsMerge, MergeOfList, Promise, Demand3}
 use Rattle.grouping.proofs.Laws.{Laws, Like, like-read, on, slot-on}
 use Rattle.grouping.proofs.Running.{Joined, Ended, gives, stops, ended, first-draft, like-at}
 use Rattle.grouping.proofs.Listing.{held-by, held-filled, is-mergeOf, on-slot, in-first, is-merge}
@@ -31,7 +31,7 @@ module _ (R : Reader) (L : Laws R) (ds : List (List ℕ)) (D : Drafts R ds) wher
     unfolding slotCount
     in-merge k b = subst (λ (ps : List ℕ). k < length ps) (sym (like-merge .slots)) b
 
-    pub only-merge : m ≡ mergeOf R ds
+    only-merge : m ≡ mergeOf R ds
     only-merge =
         is-mergeOf R L ds D m like-merge
         (λ k b i bi f. sym (slot-like k) ∙ M .holds k (in-merge k b) i bi (λ z. f (sym (on-slot R L ds D i k bi) ∙ z)) ∙ on-slot R L ds D i k bi)
@@ -47,10 +47,18 @@ module _ (R : Reader) (L : Laws R) (ds : List (List ℕ)) (D : Drafts R ds) wher
             all i bi (yes z) = z
             all i bi (no n) = absurd (held-filled (getD (R .slots (at ds 0)) k 0) ds i bi n e)
 
-    pub merge-free : Conflict R ds → ⊥
+    merge-free : Conflict R ds → ⊥
     merge-free c =
         let b : c .k < slotCount R m = in-merge (c .k) (in-first R L ds D (at ds (c .i)) (like-at R L ds D (c .i) (c .i-in) .slots) (c .k) (c .k-in)) in
         c .clash .differ (sym (M .holds (c .k) b (c .i) (c .i-in) (c .clash .first)) ∙ M .holds (c .k) b (c .j) (c .j-in) (c .clash .second))
+
+  merge-of-list : MergeOfList R ds
+  merge-of-list =
+      record {
+        exists = (λ m c. merge-free (m .0) (m .1) c, λ q. (mergeOf R ds, is-merge R L ds D q));
+        merge = is-merge R L ds D;
+        one = only-merge;
+      }
 
   -- ---- a grouping that uses each draft
 
@@ -80,9 +88,6 @@ module _ (R : Reader) (L : Laws R) (ds : List (List ℕ)) (D : Drafts R ds) wher
           no-other = λ n m. inl (sym (m .answers) ∙ cs (m .asked) (m .made) .number);
           each-call = λ c w. inl (cs c w);
           gives = λ q. e ∙ ap {B = Option (List ℕ)} some (result-is x j);
-          merge = is-merge R L ds D;
-          exists = (λ m c. merge-free (m .0) (m .1) c, λ q. (mergeOf R ds, is-merge R L ds D q));
-          one = only-merge;
           no-result = λ c. absurd (nc c);
           ends = inl (e ∙ ap {B = Option (List ℕ)} some (result-is x j));
         }
@@ -92,9 +97,6 @@ module _ (R : Reader) (L : Laws R) (ds : List (List ℕ)) (D : Drafts R ds) wher
           no-other = λ n q. ⊎-elim (λ d. inl (sym (q .answers) ∙ d .number)) (λ d. inr (sym (q .answers) ∙ d .number)) (cs (q .asked) (q .made));
           each-call = cs;
           gives = λ q. absurd (q c);
-          merge = is-merge R L ds D;
-          exists = (λ m c. merge-free (m .0) (m .1) c, λ q. absurd (q c));
-          one = only-merge;
           no-result = λ q. e;
           ends = inr m;
         }
@@ -102,6 +104,7 @@ module _ (R : Reader) (L : Laws R) (ds : List (List ℕ)) (D : Drafts R ds) wher
 pub demand3 : (R : Reader) → Laws R → Demand3 R
 demand3 R L =
     record {
+      merges = merge-of-list R L;
       groupings = λ ds D g f uses. promise R L ds D g uses (ended R L ds D g f);
       pairs = λ d e out hd he. pair R L d e out hd he;
     }

@@ -103,8 +103,11 @@ module _ (R : Reader) (T : Demand3 R) where
     of-g : Promise R ds g
     of-g = T .groupings ds D g fg ug
 
+    drafts-es : Drafts R es
+    drafts-es = drafts-within R ds es w v D
+
     of-h : Promise R es h
-    of-h = T .groupings es (drafts-within R ds es w v D) h fh uh
+    of-h = T .groupings es drafts-es h fh uh
 
     groupings-alike : Alike R ds g es h
     groupings-alike = go (of-g .ends) (of-h .ends)
@@ -114,8 +117,8 @@ module _ (R : Reader) (T : Demand3 R) where
 
         go : (result R ds g ≡ some (mergeOf R ds)) ⊎ Meets R ds g 20 → (result R es h ≡ some (mergeOf R es)) ⊎ Meets R es h 20 → Alike R ds g es h
         go (inl e) (inl f) =
-            let M : IsMerge R es (mergeOf R ds) = merge-within R ds es w v (mergeOf R ds) (of-g .merge (free e)) in
-            inl (mergeOf R ds, e, f ∙ ap {B = Option (List ℕ)} some (sym (of-h .one (mergeOf R ds) M)))
+            let M : IsMerge R es (mergeOf R ds) = merge-within R ds es w v (mergeOf R ds) (T .merges ds D .merge (free e)) in
+            inl (mergeOf R ds, e, f ∙ ap {B = Option (List ℕ)} some (sym (T .merges es drafts-es .one (mergeOf R ds) M)))
         go (inl e) (inr m) = absurd (free e (conflict-within R es ds v (of-h .conflict .0 m)))
         go (inr m) q = inr (m, of-h .conflict .1 (conflict-within R ds es w (of-g .conflict .0 m)))
 

@@ -4,21 +4,18 @@ use mathlib.Core.Path.{_≡_}
 use mathlib.Core.Logic.{_⊎_}
 use mathlib.Core.List.{List, [], _∷_}
 use Prim.Native.Nat.{ℕ}
+use Rattle.wire.specs.Orders.{OneOf}
 use Rattle.draft.specs.declared.Answer.{Answer}
 use Rattle.draft.specs.Reader.{Reader}
 use Rattle.draft.specs.Calls.{answerNumber, answerPlace, mergeCall, fillCall}
 
-abbrev pub OneOf : List ℕ → ℕ → Type 0
-OneOf [] n = ⊥
-OneOf (m ∷ ms) n = (n ≡ m) ⊎ OneOf ms n
-
 -- of one call: the lent bytes before it, and its answer with the bytes afterwards
 pub record Owes (numbers before : List ℕ) (a : Answer × List ℕ) : Type 0 where
-  pub number : OneOf numbers (answerNumber (a .0))
+  pub number : OneOf (answerNumber (a .0)) numbers
   -- a refusal leaves every byte as it was
   pub refused : (answerNumber (a .0) ≡ 0 → ⊥) → a .1 ≡ before
   -- and reports place 0, but a conflict: that reports a slot
-  pub place : OneOf (0 ∷ 20 ∷ []) (answerNumber (a .0)) ⊎ (answerPlace (a .0) ≡ 0)
+  pub place : OneOf (answerNumber (a .0)) (0 ∷ 20 ∷ []) ⊎ (answerPlace (a .0) ≡ 0)
 
 pub record CallsOwe (R : Reader) : Type 0 where
   pub merge : (d e out : List ℕ) → Owes (0 ∷ 14 ∷ 17 ∷ 18 ∷ 19 ∷ 20 ∷ []) out (mergeCall R d e out)

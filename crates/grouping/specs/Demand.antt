@@ -61,7 +61,16 @@ pub record IsMerge (R : Reader) (ds : List (List ℕ)) (m : List ℕ) : Type 0 w
   -- "and is empty only if all are"; and if all are
   pub empty : (k : ℕ) → k < slotCount R m → (slot R m k ≡ blank) ↔ ((i : ℕ) → i < length ds → slot R (at ds i) k ≡ blank)
 
--- ---- one list, and one grouping over it
+-- the merge of one or more drafts of one unsigned transaction, over the list alone
+pub record MergeOfList (R : Reader) (ds : List (List ℕ)) : Type 0 where
+  -- "exists exactly when no slot holds two different signatures among them"
+  pub exists : ((m : List ℕ) × IsMerge R ds m) ↔ (Conflict R ds → ⊥)
+  -- and is then the bytes that `mergeOf` has
+  pub merge : (Conflict R ds → ⊥) → IsMerge R ds (mergeOf R ds)
+  -- nothing else is
+  pub one : (m : List ℕ) → IsMerge R ds m → m ≡ mergeOf R ds
+
+-- ---- one grouping over a list
 
 -- "answers 0 with a draft's length"; its buffer behind the result is as before
 pub record Done (R : Reader) (ds : List (List ℕ)) (c : Call) : Type 0 where
@@ -85,10 +94,6 @@ pub record Promise (R : Reader) (ds : List (List ℕ)) (g : Grouping) : Type 0 w
   pub each-call : (c : Call) → Made R ds g c → Done R ds c ⊎ Refused R c
   -- "every such order and grouping gives the same bytes, the merge of the list"
   pub gives : (Conflict R ds → ⊥) → result R ds g ≡ some (mergeOf R ds)
-  pub merge : (Conflict R ds → ⊥) → IsMerge R ds (mergeOf R ds)
-  -- the merge exists exactly when there is no conflict, and there is one only
-  pub exists : ((m : List ℕ) × IsMerge R ds m) ↔ (Conflict R ds → ⊥)
-  pub one : (m : List ℕ) → IsMerge R ds m → m ≡ mergeOf R ds
   -- "a call that is refused ends the grouping .. and there is no result"
   pub no-result : Conflict R ds → result R ds g ≡ none
   -- and it is always one of the two
@@ -106,5 +111,6 @@ pub record Pair (R : Reader) (d e out : List ℕ) : Type 0 where
 -- ---- the demand
 
 pub record Demand3 (R : Reader) : Type 0 where
+  pub merges : (ds : List (List ℕ)) → Drafts R ds → MergeOfList R ds
   pub groupings : (ds : List (List ℕ)) → Drafts R ds → (g : Grouping) → Fits ds g → ((i : ℕ) → i < length ds → Uses g i) → Promise R ds g
   pub pairs : (d e out : List ℕ) → Draft R d → Draft R e → Pair R d e out

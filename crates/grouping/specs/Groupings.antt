@@ -34,7 +34,9 @@ pub data Sides : Type 0 where
   -- each side, whatever becomes of the other
   bothAnyway : Sides
 
--- one draft of the list, with no call; or one merge call over the results of two groupings, with what its output buffer held before
+-- one draft of the list, with no call; or one merge call over the results of two groupings, with what its output buffer held before.
+-- A draft or result is a list here, and a call reads it as it was: an output buffer shares no byte with its own call's drafts, nor with a draft or
+-- result that is still to be read, and until they are read nobody else writes them. That it has room for a draft is `Fits`
 pub data Grouping : Type 0 where
   draft : ℕ → Grouping
   call : Sides → List ℕ → Grouping → Grouping → Grouping
