@@ -9,5 +9,6 @@ pub mod Reading
 pub mod Ordering
 pub mod Filling
 pub mod Refilling
+pub mod Slotting
 pub mod Answering
 pub mod Theorems

@@ -6,12 +6,14 @@ use Rattle.draft.specs.Reader.{Reader, reader}
 use Rattle.grouping.specs.Demand.{Demand3}
 use Rattle.grouping.specs.Order.{Orders}
 use Rattle.grouping.specs.Filling.{Filling, ReadingFilled}
+use Rattle.grouping.specs.Slots.{SlotsOfReading}
 use Rattle.grouping.specs.Answers.{CallsOwe}
 use Rattle.grouping.proofs.Demand.{demand3}
 use Rattle.grouping.proofs.Reading.{laws}
 use Rattle.grouping.proofs.Ordering as Ordering
 use Rattle.grouping.proofs.Filling as Filling
 use Rattle.grouping.proofs.Refilling as Refilling
+use Rattle.grouping.proofs.Slotting as Slotting
 use Rattle.grouping.proofs.Answering as Answering
 
 module _ (F : Family) where
@@ -26,6 +28,9 @@ module _ (F : Family) where
 
   pub reading-filled : ReadingFilled F
   reading-filled = Refilling.reading-filled F
+
+  pub slots-of-reading : SlotsOfReading F
+  slots-of-reading = Slotting.slots-of-reading F
 
   pub calls-owe : CallsOwe (reader F)
   calls-owe = Answering.calls-owe (reader F)
@@ -46,6 +51,9 @@ avm-filling = filling (avm memoMost)
 
 pub avm-reading-filled : ReadingFilled (avm memoMost)
 avm-reading-filled = reading-filled (avm memoMost)
+
+pub avm-slots-of-reading : SlotsOfReading (avm memoMost)
+avm-slots-of-reading = slots-of-reading (avm memoMost)
 
 pub avm-calls-owe : CallsOwe Avm
 avm-calls-owe = calls-owe (avm memoMost)
