@@ -2,3 +2,4 @@
 pub mod Answering
 pub mod Measuring
 pub mod Filling
+pub mod Instances

@@ -74,7 +74,7 @@ abbrev published : List ℕ
 published = front ++ outputList ++ inputList ++ memoBytes ++ credentialList
 
 -- s with the bytes from `at` on replaced by ys
-abbrev edited : ℕ → List ℕ → List ℕ → List ℕ
+abbrev pub edited : ℕ → List ℕ → List ℕ → List ℕ
 edited at ys s = take at s ++ ys ++ drop (at + length ys) s
 
 -- indices in order; and case A: type 0 in place of 1 too
@@ -85,7 +85,7 @@ abbrev pub A : List ℕ
 A = edited 5 (0 ∷ []) ordered
 
 -- what an empty slot has
-abbrev empty : List ℕ
+abbrev pub empty : List ℕ
 empty = replicate 65 0
 
 -- ---- the transferable NFT operation of the same page: asset id, one spent output, type 13, indices 3, 7, group 12345, payload 43 11 00, and owners

@@ -1,10 +1,10 @@
 -- The slots of a transaction are its reading's signatures. Of any family. Assumes nothing.
 use mathlib.Core.Path.{_≡_, ap, subst⁻¹}
 use mathlib.Core.List.{List, []}
-use Prim.Native.Nat.{ℕ, _+_, _<_}
+use Prim.Native.Nat.{ℕ, _+_}
 use native.Mathlib.Nat.{le-refl}
 use native.Mathlib.Omega.{arith}
-use lib.ListN.{length, getD}
+use lib.ListN.{length}
 use Rattle.transaction.specs.Slots.{Spaced, length-slotAt}
 use Rattle.transaction.specs.Credentials.{each, layout, places, size}
 use Rattle.transaction.specs.Signed.{endOf, Parts}
