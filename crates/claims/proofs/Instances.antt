@@ -10,24 +10,22 @@ use lib.Dec.{ltb}
 use lib.ListN.{take, drop, getD}
 use borrow.Author.Tests.{ltb-true}
 use Rattle.wire.specs.Bytes.{Bytes, value, digits, below}
-use Rattle.wire.specs.Fields.{number, blobRun, constant}
-use Rattle.wire.specs.Sequence.{guard, tag}
-use Rattle.wire.specs.Series.{items, listRun, listWrite, counted}
+use Rattle.wire.specs.Fields.{number, blobRun}
+use Rattle.wire.specs.Series.{items, listRun, listWrite}
 use Rattle.string.specs.Strings.{string}
 use Rattle.element.specs.Owners.{owners}
-use Rattle.element.specs.Outputs.{amount, transferBody, output, transferableOutput}
-use Rattle.element.specs.Inputs.{key, indices, spend, inputAfter}
+use Rattle.element.specs.Outputs.{transferBody, transferableOutput}
+use Rattle.element.specs.Inputs.{key, spend, inputAfter}
 use Rattle.transaction.specs.Slots.{signatureWidth, blank, slotAt, put, putAll}
 use Rattle.transaction.specs.Credentials.{credentials, layout, places}
 use Rattle.transaction.specs.Plan.{atLeast, form, wanted, asked}
 use Rattle.transaction.specs.Signed as Any
 use Rattle.transaction.specs.Family.{head, unsigned, wants}
-use Rattle.slot.specs.Joining.{same, clashes, join, firstClash}
+use Rattle.slot.specs.Joining.{same}
 use Rattle.slot.proofs.Comparing.{and-true}
 use Rattle.draft.specs.Reader.{Draft, body, slotCount, slot}
-use Rattle.draft.specs.Calls.{merged, mergeCall}
 use Rattle.grouping.specs.Groupings.{Drafts, Uses, result}
-use Rattle.grouping.specs.Demand.{Conflict, heldAt, mergeOf}
+use Rattle.grouping.specs.Demand.{Conflict, mergeOf}
 use Rattle.grouping.proofs.Ordering.{drafts-one, drafts-more}
 use Rattle.grouping.proofs.Theorems.{avm-demand-3}
 use Rattle.claims.specs.Cases.{A, edited, empty}
@@ -57,7 +55,8 @@ record Computed : Type 0 where
   zeros : blank ≡ empty
 
 computed : Computed
-unfolding Any.check unsigned head wants credentials signatureWidth owners amount transferBody output transferableOutput key indices spend inputAfter guard string constant tag counted number blobRun items listRun listWrite value digits below form wanted asked atLeast blank slotAt put putAll layout places same clashes join firstClash body slotCount slot merged mergeCall heldAt mergeOf result
+unfolding Any.check unsigned head wants credentials signatureWidth owners transferBody transferableOutput key spend inputAfter string number blobRun
+    items listRun listWrite value digits below form wanted asked atLeast blank slotAt put putAll layout places same body slotCount slot mergeOf result
 computed =
     record {
       accepted = (refl, refl, refl);
