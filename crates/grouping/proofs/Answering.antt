@@ -3,7 +3,7 @@ use mathlib.Core.Path.{refl}
 use mathlib.Core.Logic.{inl, inr}
 use mathlib.Core.Bool.{Bool, true, false}
 use mathlib.Core.Option.{Option, none, some}
-use mathlib.Core.List.{List, [], _∷_}
+use mathlib.Core.List.{List}
 use Prim.Native.Nat.{ℕ}
 use lib.Dec.{leb, ltb, eqb}
 use lib.ListN.{length, getD}
@@ -11,9 +11,9 @@ use Rattle.transaction.specs.Slots.{signatureWidth, put}
 use Rattle.slot.specs.Joining.{same, clashes, join, firstClash}
 use Rattle.draft.specs.Reader.{Reader, body, slotCount, slot}
 use Rattle.draft.specs.Calls.{merged, decideMerge, mergeCall, decideFill, fillCall}
-use Rattle.grouping.specs.Answers.{Owes, CallsOwe}
+use Rattle.grouping.specs.Answers.{mergeNumbers, fillNumbers, Owes, CallsOwe}
 
-merge-cases : (a b c : Bool) (o : Option ℕ) (r : Bool) (m out : List ℕ) → Owes (0 ∷ 14 ∷ 17 ∷ 18 ∷ 19 ∷ 20 ∷ []) out (decideMerge a b c o r m out)
+merge-cases : (a b c : Bool) (o : Option ℕ) (r : Bool) (m out : List ℕ) → Owes mergeNumbers out (decideMerge a b c o r m out)
 merge-cases false b c o r m out = record { number = inr (inr (inl refl)); refused = λ h. refl; place = inr refl }
 merge-cases true false c o r m out = record { number = inr (inr (inr (inl refl))); refused = λ h. refl; place = inr refl }
 merge-cases true true false o r m out = record { number = inr (inr (inr (inr (inl refl)))); refused = λ h. refl; place = inr refl }
@@ -21,7 +21,7 @@ merge-cases true true true (some k) r m out = record { number = inr (inr (inr (i
 merge-cases true true true none false m out = record { number = inr (inl refl); refused = λ h. refl; place = inr refl }
 merge-cases true true true none true m out = record { number = inl refl; refused = λ h. absurd (h refl); place = inl (inl refl) }
 
-fill-cases : (a b l c : Bool) (k : ℕ) (m d : List ℕ) → Owes (0 ∷ 15 ∷ 17 ∷ 20 ∷ 21 ∷ []) d (decideFill a b l c k m d)
+fill-cases : (a b l c : Bool) (k : ℕ) (m d : List ℕ) → Owes fillNumbers d (decideFill a b l c k m d)
 fill-cases false b l c k m d = record { number = inr (inr (inl refl)); refused = λ h. refl; place = inr refl }
 fill-cases true false l c k m d = record { number = inr (inl refl); refused = λ h. refl; place = inr refl }
 fill-cases true true false c k m d = record { number = inr (inr (inr (inr (inl refl)))); refused = λ h. refl; place = inr refl }

@@ -15,7 +15,7 @@ use Rattle.slot.proofs.Comparing.{join-filled, join-one, join-second}
 use Rattle.draft.specs.declared.Answer.{Answer}
 use Rattle.draft.specs.declared.Answer.the-variants as A
 use Rattle.draft.specs.Reader.{Reader, Draft, slotCount, slot}
-use Rattle.draft.specs.Calls.{answerNumber, answerPlace, merged, mergeCall, refuse}
+use Rattle.draft.specs.Calls.{answerNumber, answerPlace, merged, refuse}
 use Rattle.grouping.specs.Groupings.{at, Drafts, Sides, firstBefore, secondBefore, bothAnyway, Grouping, draft, call, Uses, Fits, Call, answered, resultOf, above, result, Above, Made, Meets}
 use Rattle.grouping.specs.Demand.{Conflict, FirstClash, Done, Refused}
 use Rattle.grouping.proofs.Laws.{Laws, Like, like-read, on}
@@ -148,7 +148,7 @@ module _ (R : Reader) (L : Laws R) (ds : List (List ℕ)) (D : Drafts R ds) wher
     me : Call
     me = record { first = x; second = y; out = out }
 
-    result-me : result R ds (call o out g h) ≡ resultOf (mergeCall R x y out)
+    result-me : result R ds (call o out g h) ≡ above R (some x) (some y) out
     unfolding result
     result-me = ap₂ (λ (s t : Option (List ℕ)). above R s t out) ex ey
 

@@ -9,6 +9,13 @@ use Rattle.draft.specs.declared.Answer.{Answer}
 use Rattle.draft.specs.Reader.{Reader}
 use Rattle.draft.specs.Calls.{answerNumber, answerPlace, mergeCall, fillCall}
 
+-- the numbers of the table that a call may answer
+abbrev pub mergeNumbers : List ℕ
+mergeNumbers = 0 ∷ 14 ∷ 17 ∷ 18 ∷ 19 ∷ 20 ∷ []
+
+abbrev pub fillNumbers : List ℕ
+fillNumbers = 0 ∷ 15 ∷ 17 ∷ 20 ∷ 21 ∷ []
+
 -- of one call: the lent bytes before it, and its answer with the bytes afterwards
 pub record Owes (numbers before : List ℕ) (a : Answer × List ℕ) : Type 0 where
   pub number : OneOf (answerNumber (a .0)) numbers
@@ -18,5 +25,5 @@ pub record Owes (numbers before : List ℕ) (a : Answer × List ℕ) : Type 0 wh
   pub place : OneOf (answerNumber (a .0)) (0 ∷ 20 ∷ []) ⊎ (answerPlace (a .0) ≡ 0)
 
 pub record CallsOwe (R : Reader) : Type 0 where
-  pub merge : (d e out : List ℕ) → Owes (0 ∷ 14 ∷ 17 ∷ 18 ∷ 19 ∷ 20 ∷ []) out (mergeCall R d e out)
-  pub fill : (d : List ℕ) (k : ℕ) (s : List ℕ) → Owes (0 ∷ 15 ∷ 17 ∷ 20 ∷ 21 ∷ []) d (fillCall R d k s)
+  pub merge : (d e out : List ℕ) → Owes mergeNumbers out (mergeCall R d e out)
+  pub fill : (d : List ℕ) (k : ℕ) (s : List ℕ) → Owes fillNumbers d (fillCall R d k s)
