@@ -152,6 +152,11 @@ module _ (R : Reader) (L : Laws R) (ds : List (List ℕ)) (D : Drafts R ds) wher
     unfolding result
     result-me = ap₂ (λ (s t : Option (List ℕ)). above R s t out) ex ey
 
+    result-joined : answered R me ≡ (A.Done (length (merged R x y)), merged R x y ++ drop (length (merged R x y)) out)
+        → above R (some x) (some y) out ≡ some (merged R x y)
+    unfolding me
+    result-joined e = ap resultOf e ∙ ap {B = Option (List ℕ)} some (take-append-seam (merged R x y) (drop (length (merged R x y)) out))
+
     done-me : length (at ds 0) ≤ length out → answered R me ≡ (A.Done (length (merged R x y)), merged R x y ++ drop (length (merged R x y)) out) → Done R ds me
     unfolding me
     done-me room e =
@@ -179,8 +184,7 @@ module _ (R : Reader) (L : Laws R) (ds : List (List ℕ)) (D : Drafts R ds) wher
         → Ends R (at ds 0) x y out → Ended R ds (call o out g h)
     unfolding me
     node room cx cy (joins nc e) =
-        let m : List ℕ = merged R x y in
-        gives m (result-me ∙ ap resultOf e ∙ ap {B = Option (List ℕ)} some (take-append-seam m (drop (length m) out))) (joined nc)
+        gives (merged R x y) (result-me ∙ result-joined e) (joined nc)
         (λ c w. ⊎-elim (cx c) (⊎-elim (cy c) (λ a. subst⁻¹ (Done R ds) (above-is R ds g h out x y c ex ey a) (done-me room e))) (parts R ds o out g h c w))
     node room cx cy (clash k f b c e) =
         stops (result-me ∙ ap resultOf e) (collide k b c)
