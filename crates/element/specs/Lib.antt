@@ -3,5 +3,6 @@ pub mod Owners
 pub mod Outputs
 pub mod Inputs
 pub mod Operations
+pub mod Layout
 pub mod Good
 pub mod Answer

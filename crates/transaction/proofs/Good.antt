@@ -28,11 +28,11 @@ use Rattle.transaction.specs.Plan.{Elements, atLeast, listOf, Value, for
 use Rattle.transaction.specs.Family.{Head, head, unsigned, wants, Signed, signed}
 use Rattle.transaction.specs.Signed as Any
 use Rattle.transaction.specs.Avm.{asksNothing, outputs, inputs, operations, states, kindCode, kindOf, kindOf-code, ownPlan, avm}
-use Rattle.transaction.specs.Transaction.{Own, plain, createAsset, operate, importFrom, exportTo, Transaction, inputWant, operationWant, ownWants, credentialsOf, GoodOutputs, GoodInputs, GoodOperations, GoodStates, GoodOwn, GoodTransaction, ownOf, reading, kindOwn, ownValue, valueOf, AcceptedExactly}
+use Rattle.transaction.specs.Transaction.{Own, plain, createAsset, operate, importFrom, exportTo, Transaction, inputWant, operationWant, ownWants, credentialsOf, GoodOutputs, GoodInputs, GoodOperations, GoodStates, GoodOwn, GoodTransaction}
+use Rattle.transaction.specs.Accepted.{ownOf, reading, kindOwn, ownValue, valueOf}
 use Rattle.transaction.specs.declared.Kind.{Kind}
 use Rattle.transaction.specs.declared.Kind.the-variants as K
 use Rattle.transaction.proofs.CredentialLaws.{credentialCode-fits}
-use Rattle.transaction.proofs.Codec.{codec}
 
 -- ---- a transaction and a value of the format are the same thing
 
@@ -347,16 +347,3 @@ transaction-good most ((h, (outs, (ins, (memo, own)))), signatures) = (
         all-append Narrow (map inputWant ins) (ownWants (ownOf (h .kind) own))
         (all-map inputWant GoodInput Narrow (λ i k. k .indices .count) ins (g .base .inputs .each))
         (own-narrow (ownOf (h .kind) own) (g .own))
-
--- ---- what is accepted
-
-pub accepted-good : (most : ℕ) → AcceptedExactly most
-accepted-good most s b =
-    let on = codec (avm most) .accepted-exactly s b in (
-      λ h.
-          let (v, w) = on .0 h in
-          (reading most v, record { good = transaction-good most v .0 (w .good); written = rw (value-reading most v) (w .written); short = w .short }),
-      λ (t, w).
-          let v = valueOf most t in
-          on .1 (v, record { good = transaction-good most v .1 (rw (reading-value most t) (w .good)); written = w .written; short = w .short }),
-    )

@@ -8,3 +8,5 @@ pub mod Codec
 pub mod FirstBroken
 pub mod Verdicts
 pub mod Good
+pub mod Writing
+pub mod Accepted

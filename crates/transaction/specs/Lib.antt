@@ -10,3 +10,5 @@ pub mod Codec
 pub mod FirstBroken
 pub mod Answer
 pub mod Transaction
+pub mod Layout
+pub mod Accepted

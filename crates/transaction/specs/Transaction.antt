@@ -1,12 +1,9 @@
 -- A signed transaction as a reader of document 01 knows it, and which transactions there are, in plain words: its "Layout" and its "Rules and
 -- their moments". proofs/Good shows that these are exactly the values of the signed format. Assumes nothing.
 use mathlib.Core.Path.{_≡_}
-use mathlib.Core.Logic.{_↔_}
-use mathlib.Core.Bool.{true}
 use Prim.Native.Nat.{ℕ, _^_, _≤_, _<_}
 use mathlib.Core.List.{List, [], _++_, map}
 use lib.ListN.{length}
-use Rattle.wire.specs.Bytes.{Bytes}
 use Rattle.wire.specs.Fields.{Sized}
 use Rattle.wire.specs.Orders.{All, Increasing, Nondecreasing, Ascending}
 use Rattle.element.specs.Outputs.{TransferableOutput, transferableOutput}
@@ -14,12 +11,6 @@ use Rattle.element.specs.Inputs.{Input}
 use Rattle.element.specs.Operations.{Operation, InitialState, fxCode}
 use Rattle.element.specs.Good.{GoodString, GoodText, GoodTransferableOutput, GoodInput, inputKey, GoodOperation, GoodInitialState}
 use Rattle.transaction.specs.Credentials.{Want, secpCredential, nftCredential, total}
-use Rattle.transaction.specs.Plan.{Value}
-use Rattle.transaction.specs.Signed.{mostBytes}
-use Rattle.transaction.specs.Family.{Signed, signed, accepted}
-use Rattle.transaction.specs.Avm.{outputs, inputs, operations, states, ownPlan, avm}
-use Rattle.transaction.specs.declared.Kind.{Kind}
-use Rattle.transaction.specs.declared.Kind.the-variants as K
 
 -- ---- the transaction
 
@@ -130,58 +121,3 @@ pub record GoodTransaction (most : ℕ) (t : Transaction) : Type 0 where
   pub credentials : length (credentialsOf t) < 2 ^ 32
   pub count : length (t .signatures) ≡ total (credentialsOf t)
   pub signatures : All (Sized 65) (t .signatures)
-
--- ---- the transaction that a value of the signed format is, and the value that a transaction is; each undoes the other (proofs/Good)
-
-unfoldable pub ownOf : (k : Kind) → Value (ownPlan k) → Own
-ownOf K.Base v = plain
-ownOf K.CreateAsset (name, (symbol, (denomination, (list, v)))) = createAsset name symbol denomination list
-ownOf K.Operation (list, v) = operate list
-ownOf K.Import (chain, (list, v)) = importFrom chain list
-ownOf K.Export (chain, (list, v)) = exportTo chain list
-
-unfoldable pub reading : (most : ℕ) → Signed (avm most) → Transaction
-unfolding ownOf
-reading most ((h, (outs, (ins, (memo, own)))), signatures) =
-    record {
-      base = record { network = h .network; chain = h .chain; outputs = outs; inputs = ins; memo = memo };
-      own = ownOf (h .kind) own;
-      signatures = signatures;
-    }
-
-abbrev pub kindOwn : Own → Kind
-kindOwn plain = K.Base
-kindOwn (createAsset name symbol denomination states) = K.CreateAsset
-kindOwn (operate operations) = K.Operation
-kindOwn (importFrom chain inputs) = K.Import
-kindOwn (exportTo chain outputs) = K.Export
-
-unfoldable pub ownValue : (o : Own) → Value (ownPlan (kindOwn o))
-ownValue plain = tt
-ownValue (createAsset name symbol denomination list) = (name, (symbol, (denomination, (list, tt))))
-ownValue (operate list) = (list, tt)
-ownValue (importFrom chain list) = (chain, (list, tt))
-ownValue (exportTo chain list) = (chain, (list, tt))
-
-unfoldable pub valueOf : (most : ℕ) → Transaction → Signed (avm most)
-unfolding ownValue
-valueOf most t =
-    let b = t .base in (
-      (
-        record { kind = kindOwn (t .own); network = b .network; chain = b .chain },
-        (b .outputs, (b .inputs, (b .memo, ownValue (t .own)))),
-      ),
-      t .signatures,
-    )
-
--- ---- what is accepted
-
--- s is the writing of the good transaction t, and not too long
-pub record GoodWriting (most : ℕ) (s : List ℕ) (t : Transaction) : Type 0 where
-  pub good : GoodTransaction most t
-  pub written : signed (avm most) .write (valueOf most t) ≡ s
-  pub short : length s ≤ mostBytes
-
--- bytes are accepted exactly when they are the writing of a good transaction of at most 65,536 bytes (`accepted-good`, of proofs/Good)
-abbrev pub AcceptedExactly : ℕ → Type 0
-AcceptedExactly most = (s : List ℕ) → Bytes s → (accepted (avm most) s ≡ true) ↔ ((t : Transaction) × GoodWriting most s t)

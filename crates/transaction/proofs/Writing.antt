@@ -1,0 +1,122 @@
+-- The signed format writes the bytes of specs/Layout. Each law holds of every value, good or not. Assumes nothing.
+use mathlib.Core.Path.{_≡_, refl, ap, _∙_}
+use Prim.Native.Nat.{ℕ, zero, suc}
+use mathlib.Core.List.{List, [], _∷_, _++_, append-nil, append-assoc}
+use lib.ListN.{length, take, drop}
+use Rattle.wire.specs.Fields.{number, blob, constant}
+use Rattle.wire.specs.Sequence.{guard, tag}
+use Rattle.wire.specs.Series.{items}
+use Rattle.element.specs.Layout.{u16, u32, joined, listBytes, transferableOutputBytes, inputBytes, operationBytes, initialStateBytes}
+use Rattle.element.proofs.Writing.{joined-write, string-bytes, text-bytes, denomination-bytes, transferableOutput-bytes, input-bytes, operation-bytes}
+use Rattle.element.proofs.Writing.{initialState-bytes}
+use Rattle.transaction.specs.Credentials.{CredentialType, secpCredential, nftCredential, credentialCode, Want, Piece, signatures, each, pieces}
+use Rattle.transaction.specs.Credentials.{credentials}
+use Rattle.element.specs.Outputs.{TransferableOutput}
+use Rattle.element.specs.Inputs.{Input}
+use Rattle.transaction.specs.Entries.{EntryAt, importedEntry, exportedEntry, outputEntry, inputEntry}
+use Rattle.transaction.specs.Plan.{Elements, atLeast, listOf, form}
+use Rattle.transaction.specs.Family.{Head, head, unsigned, wants, signed}
+use Rattle.transaction.specs.Signed as Any
+use Rattle.transaction.specs.Avm.{outputs, inputs, operations, states, kindCode, ownPlan, avm}
+use Rattle.transaction.specs.Transaction.{Own, plain, createAsset, operate, importFrom, exportTo, Transaction, credentialsOf}
+use Rattle.transaction.specs.Layout.{typeNumber, ownBytes, baseBytes, credentialNumber, credentialBytes, bytesOf}
+use Rattle.transaction.specs.Accepted.{kindOwn, ownValue, valueOf}
+use Rattle.transaction.specs.declared.Kind.{Kind}
+use Rattle.transaction.proofs.Good.{reading-value, wants-credentials}
+
+-- ---- lists
+
+list-bytes : (E : Elements) (f : E .Element → List ℕ) → ((prev : List ℕ) (a : E .Element) → E .element prev .write a ≡ f a)
+    → (l : List (E .Element)) → listOf E .write l ≡ listBytes f l
+unfolding atLeast items number
+list-bytes E f same l = ap (λ (z : List ℕ). u32 (length l) ++ z) (joined-write (E .element) f same [] l)
+
+-- ---- the credentials
+
+none-bytes : (ps : List Piece) (n : ℕ) → pieces (signatures n ps) .write [] ≡ pieces ps .write []
+unfolding pieces signatures
+none-bytes ps zero = refl
+none-bytes ps (suc n) = none-bytes ps n
+
+signatures-bytes : (ps : List Piece) (n : ℕ) (l : List (List ℕ))
+    → pieces (signatures n ps) .write l ≡ joined (λ signature. signature) (take n l) ++ pieces ps .write (drop n l)
+unfolding pieces signatures joined
+signatures-bytes ps zero l = refl
+signatures-bytes ps (suc n) [] = none-bytes ps (suc n)
+signatures-bytes ps (suc n) (b ∷ l) = simp (signatures-bytes ps n l, append-assoc)
+
+credential-number : (k : CredentialType) → credentialCode k ≡ credentialNumber k
+credential-number secpCredential = refl
+credential-number nftCredential = refl
+
+each-bytes : (ws : List Want) (l : List (List ℕ)) → pieces (each ws) .write l ≡ credentialBytes ws l
+unfolding pieces each credentialBytes number
+each-bytes [] l = refl
+each-bytes (w ∷ ws) l = simp (signatures-bytes (each ws) (w .signatures) l, each-bytes ws (drop (w .signatures) l), credential-number (w .type), append-assoc)
+
+credentials-bytes : (ws : List Want) (l : List (List ℕ)) → credentials ws .write l ≡ u32 (length ws) ++ credentialBytes ws l
+unfolding credentials pieces number
+credentials-bytes ws l = simp (each-bytes ws l)
+
+-- ---- what a type has of its own
+
+type-number : (o : Own) → kindCode (kindOwn o) ≡ typeNumber o
+type-number plain = refl
+type-number (createAsset name symbol denomination list) = refl
+type-number (operate list) = refl
+type-number (importFrom chain list) = refl
+type-number (exportTo chain list) = refl
+
+module _ (least : ℕ) (entry : ℕ → ℕ → TransferableOutput → List EntryAt) where
+  outputs-bytes : (l : List TransferableOutput) → listOf (outputs least entry) .write l ≡ listBytes transferableOutputBytes l
+  unfolding guard
+  outputs-bytes l = list-bytes (outputs least entry) transferableOutputBytes (λ prev. transferableOutput-bytes) l
+
+module _ (least : ℕ) (entry : ℕ → ℕ → Input → List EntryAt) where
+  inputs-bytes : (l : List Input) → listOf (inputs least entry) .write l ≡ listBytes inputBytes l
+  inputs-bytes l = list-bytes (inputs least entry) inputBytes input-bytes l
+
+own-bytes : (o : Own) → form (ownPlan (kindOwn o)) .write (ownValue o) ≡ ownBytes o
+unfolding form ownValue ownBytes blob
+own-bytes plain = refl
+own-bytes (createAsset name symbol denomination list) =
+    simp (
+      text-bytes 128 name,
+      text-bytes 4 symbol,
+      denomination-bytes denomination,
+      list-bytes states initialStateBytes initialState-bytes list,
+      append-nil,
+      append-assoc,
+    )
+own-bytes (operate list) = simp (list-bytes operations operationBytes (λ prev. operation-bytes) list, append-nil)
+own-bytes (importFrom chain list) = simp (inputs-bytes 1 importedEntry list, append-nil)
+own-bytes (exportTo chain list) = simp (outputs-bytes 1 exportedEntry list, append-nil)
+
+-- ---- the whole
+
+wants-value : (most : ℕ) (t : Transaction) → wants (avm most) (valueOf most t .0) ≡ credentialsOf t
+wants-value most t = wants-credentials most (valueOf most t) ∙ ap credentialsOf (reading-value most t)
+
+head-bytes : (most : ℕ) (h : Head Kind) → head (avm most) .write h ≡ u16 0 ++ u32 (kindCode (h .kind)) ++ u32 (h .network) ++ h .chain
+unfolding head tag constant guard number blob
+head-bytes most h = simp append-assoc
+
+unsigned-bytes : (most : ℕ) (t : Transaction)
+    → unsigned (avm most) .write (valueOf most t .0) ≡ u16 0 ++ u32 (typeNumber (t .own)) ++ baseBytes (t .base) ++ ownBytes (t .own)
+unfolding unsigned form valueOf baseBytes
+unsigned-bytes most t =
+    let b = t .base in
+    simp (
+      head-bytes most (record { kind = kindOwn (t .own); network = b .network; chain = b .chain }),
+      type-number (t .own),
+      outputs-bytes 0 outputEntry (b .outputs),
+      inputs-bytes 0 inputEntry (b .inputs),
+      string-bytes most (b .memo),
+      own-bytes (t .own),
+      append-assoc,
+    )
+
+pub transaction-bytes : (most : ℕ) (t : Transaction) → signed (avm most) .write (valueOf most t) ≡ bytesOf t
+unfolding Any.signed bytesOf valueOf
+transaction-bytes most t =
+    simp (unsigned-bytes most t, wants-value most t, credentials-bytes (credentialsOf t) (valueOf most t .1), append-assoc)

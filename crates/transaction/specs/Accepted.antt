@@ -1,0 +1,82 @@
+-- What is accepted, and what every accepted transaction is read as: the first half of demand 2, of AVM transactions and in bytes. Assumes nothing.
+use mathlib.Core.Path.{_≡_}
+use mathlib.Core.Logic.{_↔_}
+use mathlib.Core.Bool.{true}
+use Prim.Native.Nat.{ℕ, _≤_}
+use mathlib.Core.List.{List}
+use lib.ListN.{length}
+use Rattle.wire.specs.Bytes.{Bytes}
+use Rattle.wire.specs.Format.{took}
+use Rattle.transaction.specs.Plan.{Value}
+use Rattle.transaction.specs.Family.{Signed, check, accepted}
+use Rattle.transaction.specs.Avm.{ownPlan, avm}
+use Rattle.transaction.specs.Transaction.{Own, plain, createAsset, operate, importFrom, exportTo, Transaction, GoodTransaction}
+use Rattle.transaction.specs.Layout.{bytesOf}
+use Rattle.transaction.specs.declared.Kind.{Kind}
+use Rattle.transaction.specs.declared.Kind.the-variants as K
+
+-- ---- the transaction that a value of the signed format is, and the value that a transaction is
+
+unfoldable pub ownOf : (k : Kind) → Value (ownPlan k) → Own
+ownOf K.Base v = plain
+ownOf K.CreateAsset (name, (symbol, (denomination, (list, v)))) = createAsset name symbol denomination list
+ownOf K.Operation (list, v) = operate list
+ownOf K.Import (chain, (list, v)) = importFrom chain list
+ownOf K.Export (chain, (list, v)) = exportTo chain list
+
+unfoldable pub reading : (most : ℕ) → Signed (avm most) → Transaction
+unfolding ownOf
+reading most ((h, (outs, (ins, (memo, own)))), signatures) =
+    record {
+      base = record { network = h .network; chain = h .chain; outputs = outs; inputs = ins; memo = memo };
+      own = ownOf (h .kind) own;
+      signatures = signatures;
+    }
+
+abbrev pub kindOwn : Own → Kind
+kindOwn plain = K.Base
+kindOwn (createAsset name symbol denomination states) = K.CreateAsset
+kindOwn (operate operations) = K.Operation
+kindOwn (importFrom chain inputs) = K.Import
+kindOwn (exportTo chain outputs) = K.Export
+
+unfoldable pub ownValue : (o : Own) → Value (ownPlan (kindOwn o))
+ownValue plain = tt
+ownValue (createAsset name symbol denomination list) = (name, (symbol, (denomination, (list, tt))))
+ownValue (operate list) = (list, tt)
+ownValue (importFrom chain list) = (chain, (list, tt))
+ownValue (exportTo chain list) = (chain, (list, tt))
+
+unfoldable pub valueOf : (most : ℕ) → Transaction → Signed (avm most)
+unfolding ownValue
+valueOf most t =
+    let b = t .base in (
+      (
+        record { kind = kindOwn (t .own); network = b .network; chain = b .chain },
+        (b .outputs, (b .inputs, (b .memo, ownValue (t .own)))),
+      ),
+      t .signatures,
+    )
+
+-- ---- what is accepted
+
+-- s is the good transaction t, byte by byte, and has at most 65,536 bytes
+pub record Encodes (most : ℕ) (s : List ℕ) (t : Transaction) : Type 0 where
+  pub good : GoodTransaction most t
+  pub written : bytesOf t ≡ s
+  pub short : length s ≤ 65536
+
+-- for memos of at most `most` bytes, 256 in the base; proved for every `most` as `transactions`, of proofs/Accepted
+pub record Transactions (most : ℕ) : Type 0 where
+  -- bytes are accepted exactly when they are a good transaction of at most 65,536 bytes
+  pub accepted-exactly : (s : List ℕ) → Bytes s → (accepted (avm most) s ≡ true) ↔ ((t : Transaction) × Encodes most s t)
+  -- every accepted transaction has one reading
+  pub one-reading : (s : List ℕ) (t u : Transaction) → Encodes most s t → Encodes most s u → t ≡ u
+  -- what is read writes the same bytes, and the place reported is their number
+  pub write-after-read : (s : List ℕ) (v : Signed (avm most)) (n : ℕ) → Bytes s → check (avm most) s ≡ took v n
+      → Encodes most s (reading most v) × (n ≡ length s)
+  -- what is written is read
+  pub read-after-write : (s : List ℕ) (t : Transaction) → Encodes most s t → check (avm most) s ≡ took (valueOf most t) (length s)
+  -- a transaction and a value of the format are the same thing
+  pub reading-value : (t : Transaction) → reading most (valueOf most t) ≡ t
+  pub value-reading : (v : Signed (avm most)) → valueOf most (reading most v) ≡ v

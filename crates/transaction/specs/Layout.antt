@@ -1,0 +1,52 @@
+-- The bytes of a signed transaction, written one after another as document 01's "Layout" lists them; no format and no rule comes in.
+-- proofs/Writing shows that the signed format writes exactly these bytes. Assumes nothing.
+use Prim.Native.Nat.{ℕ}
+use mathlib.Core.List.{List, [], _∷_, _++_}
+use lib.ListN.{length, take, drop}
+use Rattle.element.specs.Layout.{u8, u16, u32, joined, listBytes, stringBytes, textBytes, transferableOutputBytes, inputBytes, operationBytes}
+use Rattle.element.specs.Layout.{initialStateBytes}
+use Rattle.transaction.specs.Credentials.{CredentialType, secpCredential, nftCredential, Want}
+use Rattle.transaction.specs.Transaction.{Base, Own, plain, createAsset, operate, importFrom, exportTo, Transaction, credentialsOf}
+
+-- ---- the unsigned part
+
+abbrev pub typeNumber : Own → ℕ
+typeNumber plain = 0
+typeNumber (createAsset name symbol denomination states) = 1
+typeNumber (operate operations) = 2
+typeNumber (importFrom chain inputs) = 3
+typeNumber (exportTo chain outputs) = 4
+
+-- what a type has behind the memo
+unfoldable pub ownBytes : Own → List ℕ
+ownBytes plain = []
+ownBytes (createAsset name symbol denomination states) = textBytes name ++ textBytes symbol ++ u8 denomination ++ listBytes initialStateBytes states
+ownBytes (operate operations) = listBytes operationBytes operations
+ownBytes (importFrom chain inputs) = chain ++ listBytes inputBytes inputs
+ownBytes (exportTo chain outputs) = chain ++ listBytes transferableOutputBytes outputs
+
+-- network, chain id, outputs, inputs, memo
+unfoldable pub baseBytes : Base → List ℕ
+baseBytes b =
+    u32 (b .network) ++ b .chain ++ listBytes transferableOutputBytes (b .outputs) ++ listBytes inputBytes (b .inputs) ++ stringBytes (b .memo)
+
+-- ---- the credentials
+
+-- for an input or an imported input, and for an operation
+abbrev pub credentialNumber : CredentialType → ℕ
+credentialNumber secpCredential = 9
+credentialNumber nftCredential = 14
+
+-- each has its type, the number of its signatures, and these: the first so many of the signatures that are left
+unfoldable pub credentialBytes : List Want → List (List ℕ) → List ℕ
+credentialBytes [] signatures = []
+credentialBytes (w ∷ ws) signatures =
+    u32 (credentialNumber (w .type)) ++ u32 (w .signatures) ++ joined (λ signature. signature) (take (w .signatures) signatures)
+    ++ credentialBytes ws (drop (w .signatures) signatures)
+
+-- ---- the whole: codec 0, type, base part, own part, credentials
+
+unfoldable pub bytesOf : Transaction → List ℕ
+bytesOf t =
+    u16 0 ++ u32 (typeNumber (t .own)) ++ baseBytes (t .base) ++ ownBytes (t .own)
+    ++ u32 (length (credentialsOf t)) ++ credentialBytes (credentialsOf t) (t .signatures)
