@@ -29,12 +29,12 @@ use Rattle.transaction.specs.declared.Checked.the-variants as C
 use Rattle.transaction.proofs.Beside.{credentials-beside}
 
 pub from-check : (s : List ℕ) (z : Checked)
-    → z ≡ pick (leb (length s) 65536)
+    → z ≡ pick (leb (length s) Any.mostBytes)
     (unsigned (avm memoMost) .run s 0 C.Refused (λ u m. credentials (wants (avm memoMost) u) .run s m C.Refused (λ l n. pick (eqb n (length s)) (C.Accepted (layout u) n) (C.Refused (refusal bytesAfterEnd n)))))
     (C.Refused (refusal tooLong 0))
     → z ≡ checked s
 unfolding Any.check Any.signed
-from-check s z e = e ∙ whole-same (signed (avm memoMost)) 65536 s C.Refused (λ v n. C.Accepted (layout (v .0)) n)
+from-check s z e = e ∙ whole-same (signed (avm memoMost)) Any.mostBytes s C.Refused (λ v n. C.Accepted (layout (v .0)) n)
 
 module _ {R : Type 0} (s : List ℕ) (z : R) (stop : Refusal → R) (go : Unsigned (avm memoMost) → ℕ → R) (x : UnsignedRead) (p : x ≡ unsignedAt s) where
   pub on-unsigned : (w : Layout) (n : ℕ) → x ≡ U.Whole w n → ((u : Unsigned (avm memoMost)) → w ≡ layout u → read (unsigned (avm memoMost)) s 0 ≡ took u n → z ≡ go u n)

@@ -200,7 +200,7 @@ unfolding signatures
 fitting-signatures zero ps h = h
 fitting-signatures (suc n) ps h = fitting-signatures n ps h
 
-fitting-each : (ws : List Want) → size (each ws) ≤ 65536 → Fitting (each ws)
+fitting-each : (ws : List Want) → size (each ws) < 256 ^ 4 → Fitting (each ws)
 unfolding each size signatureWidth
 fitting-each [] k = tt
 fitting-each (w ∷ ws) k =
@@ -208,7 +208,7 @@ fitting-each (w ∷ ws) k =
     (credentialCode-fits (w .type), (omega arith, fitting-signatures (w .signatures) (each ws) (fitting-each ws (omega arith))))
 
 -- counts have 32 bits wherever the list is not too long
-pub fitting-layout : (ws : List Want) → size (layout ws) ≤ 65536 → Fitting (layout ws)
+pub fitting-layout : (ws : List Want) → size (layout ws) < 256 ^ 4 → Fitting (layout ws)
 unfolding layout size
 fitting-layout ws k = (omega (arith, size-each ws), fitting-each ws (omega arith))
 

@@ -43,13 +43,13 @@ pub checked-number : (s : List ℕ) (e : Refusal) → C.Refused e ≡ checked s 
 checked-number s e q = codec (avm memoMost) .refused-by s e (refused-check s e q)
 
 -- the place is inside the bytes or at their end, and rule 1, of bytes too many, is placed at 0
-pub checked-place : (s : List ℕ) (e : Refusal) → Bytes s → C.Refused e ≡ checked s → e .place ≤ 65536
+pub checked-place : (s : List ℕ) (e : Refusal) → Bytes s → C.Refused e ≡ checked s → e .place ≤ Any.mostBytes
 unfolding Any.check
-checked-place s e bs q = fits (leb (length s) 65536) refl (refused-check s e q)
+checked-place s e bs q = fits (leb (length s) Any.mostBytes) refl (refused-check s e q)
   where
-    fits : (b : Bool) → leb (length s) 65536 ≡ b → check (avm memoMost) s ≡ refused e → e .place ≤ 65536
-    fits true p r = omega (arith, leb-true (length s) 65536 p, codec (avm memoMost) .refused-at s e bs r)
-    fits false p r = refused-placed {A = Signed (avm memoMost)} 65536 (refusal tooLong 0) e (omega arith) (rw p at r)
+    fits : (b : Bool) → leb (length s) Any.mostBytes ≡ b → check (avm memoMost) s ≡ refused e → e .place ≤ Any.mostBytes
+    fits true p r = omega (arith, leb-true (length s) Any.mostBytes p, codec (avm memoMost) .refused-at s e bs r)
+    fits false p r = refused-placed {A = Signed (avm memoMost)} Any.mostBytes (refusal tooLong 0) e (omega arith) (rw p at r)
 
 -- the verdict of a check that refuses
 pub checked-refused : (s : List ℕ) (e : Refusal) → C.Refused e ≡ checked s → verdict (check (avm memoMost) s) ≡ (e .number, e .place)
