@@ -4,7 +4,7 @@ use mathlib.Core.Logic.{_↔_, Iff·rfl, Iff·trans, Iff·and, _⊎_, inl, inr}
 use Prim.Native.Nat.{ℕ, suc, _^_, _≤_, _<_}
 use native.Mathlib.Omega.{arith}
 use mathlib.Core.Bool.{Bool, true, false, _&&_}
-use mathlib.Core.List.{List, [], _∷_, _++_, map}
+use mathlib.Core.List.{List, [], _∷_, _++_, map, map-congr-left}
 use lib.ListN.{length, take, length-append}
 use lib.Dec.{leb}
 use borrow.Author.Tests.{ltb-true, lt-ltb, leb-true, le-leb, eqb-true, eq-eqb}
@@ -21,7 +21,9 @@ use Rattle.element.specs.Owners.{Owners, owners}
 use Rattle.element.specs.Outputs.{amount, transferBody, OutputType, secpMint, secpTransfer, nftMint, nftTransfer, outputCode, OutputBody, outputBody, outputType, outputType-code, Output, output, TransferableOutput, transferableOutput}
 use Rattle.element.specs.Inputs.{key, indices, Input, spend, inputAfter, input}
 use Rattle.element.specs.Operations.{OperationType, mintNft, transferNft, operationCode, operationType, operationType-code, OperationOwners, operationOwners, terms, action, Operation, operation, Fx, secpFx, nftFx, fxCode, fxOf, fxOf-code, fxOutputs, fxId, stateOutputs, InitialState, initialStateAfter, initialState}
-use Rattle.element.specs.Good.{GoodString, Printable, GoodText, GoodOwners, GoodAmount, GoodOutputBody, GoodOutput, GoodTransferableOutput, GoodIndices, GoodKey, keyBytes, GoodInput, inputKey, GoodRecipients, GoodOperationOwners, GoodTerms, GoodOperation, GoodInitialState}
+use Rattle.element.specs.Good.{GoodString, Printable, GoodText, GoodOwners, GoodAmount, GoodOutputBody, GoodOutput, GoodTransferableOutput, GoodIndices, GoodKey, GoodInput, inputKey, GoodRecipients, GoodOperationOwners, GoodTerms, GoodOperation, GoodInitialState}
+use Rattle.element.specs.Layout.{outputBytes, keyBytes}
+use Rattle.element.proofs.Writing.{output-bytes}
 
 -- ---- strings
 
@@ -295,13 +297,14 @@ initialState-good prev v = (
     types = fxOutputs (v .fx)
 
     Sorted : List Output → Type 0
-    Sorted l = All (GoodOutput types) l × Nondecreasing (map (output types .write) l)
+    Sorted l = All (GoodOutput types) l × Nondecreasing (map outputBytes l)
 
     chain : (l : List Output) → Chain (notBelow (output types)) (left (notBelow (output types))) [] l ↔ Sorted l
     chain l =
         Iff·trans
         (notBelow-good (output types) (GoodOutput types) (output-good types) l)
-        (Iff·and Iff·rfl (adjacent-map (output types .write) (λ a b. below b a ≡ false) l))
+        (Iff·and Iff·rfl (rw (map-congr-left {f = output types .write} {g = outputBytes} {l = l} (λ o m. output-bytes types o)) at
+        (adjacent-map (output types .write) (λ a b. below b a ≡ false) l)))
 
     list : counted (number 4) (notBelow (output types)) .Good (v .outputs) ↔ ((length (v .outputs) < 256 ^ 4) × Sorted (v .outputs))
     list = counted-good (notBelow (output types)) Sorted chain (number 4) (v .outputs)

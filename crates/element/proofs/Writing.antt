@@ -15,7 +15,7 @@ use Rattle.element.specs.Inputs.{Input, key, indices, spend, inputAfter,
 use Rattle.element.specs.Operations.{OperationType, mintNft, transferNft, OperationOwners, terms, action, Operation, operation, Fx, secpFx, nftFx}
 use Rattle.element.specs.Operations.{fxOutputs, fxId, stateOutputs, InitialState, initialStateAfter, initialState}
 use Rattle.element.specs.Layout.{u8, u32, joined, listBytes, stringBytes, textBytes, ownersBytes, outputBytes, transferableOutputBytes, inputBytes}
-use Rattle.element.specs.Layout.{pairBytes, termsBytes, actionBytes, operationBytes, fxNumber, initialStateBytes}
+use Rattle.element.specs.Layout.{keyBytes, termsBytes, actionBytes, operationBytes, fxNumber, initialStateBytes}
 
 -- ---- lists: what an element is read in view of does not change its bytes
 
@@ -89,13 +89,13 @@ unfolding action actionBytes tag number
 action-bytes v (mintNft, l) = simp (terms-bytes v, list-write (λ prev. owners) ownersBytes (λ prev. owners-bytes) l, append-assoc)
 action-bytes v (transferNft, o) = simp (terms-bytes v, owners-bytes o, append-assoc)
 
-pair-bytes : (prev : List ℕ) (k : List ℕ × ℕ) → above key prev .write k ≡ pairBytes k
+pair-bytes : (prev : List ℕ) (k : List ℕ × ℕ) → above key prev .write k ≡ keyBytes (k .0) (k .1)
 unfolding guard key blob number
 pair-bytes prev k = refl
 
 pub operation-bytes : (v : Operation) → operation .write v ≡ operationBytes v
 unfolding operation operationBytes blob
-operation-bytes v = simp (list-write (above key) pairBytes pair-bytes (v .outputs), action-bytes (v .terms) (v .owners), append-assoc)
+operation-bytes v = simp (list-write (above key) (λ (id, index). keyBytes id index) pair-bytes (v .outputs), action-bytes (v .terms) (v .owners), append-assoc)
 
 -- ---- initial states
 

@@ -1,15 +1,16 @@
 -- Which values the parts of a transaction have, in plain words: the widths of document 01's "Layout" and its "Rules and their moments".
 -- proofs/Good shows that these are exactly the values of the formats. Assumes nothing.
 use Prim.Native.Nat.{ℕ, _^_, _≤_, _<_}
-use mathlib.Core.List.{List, [], _∷_, _++_, map}
+use mathlib.Core.List.{List, [], _∷_, map}
 use lib.ListN.{length}
-use Rattle.wire.specs.Bytes.{Bytes, digits}
+use Rattle.wire.specs.Bytes.{Bytes}
 use Rattle.wire.specs.Fields.{Sized}
 use Rattle.wire.specs.Orders.{All, OneOf, Increasing, Nondecreasing, Ascending}
 use Rattle.element.specs.Owners.{Owners}
-use Rattle.element.specs.Outputs.{OutputType, secpMint, secpTransfer, nftMint, nftTransfer, OutputBody, Output, output, TransferableOutput}
+use Rattle.element.specs.Outputs.{OutputType, secpMint, secpTransfer, nftMint, nftTransfer, OutputBody, Output, TransferableOutput}
 use Rattle.element.specs.Inputs.{Input}
 use Rattle.element.specs.Operations.{OperationType, mintNft, transferNft, OperationOwners, Operation, fxOutputs, InitialState}
+use Rattle.element.specs.Layout.{outputBytes, keyBytes}
 
 -- ---- strings
 
@@ -90,11 +91,8 @@ pub record GoodKey (id : List ℕ) (index : ℕ) : Type 0 where
   pub id-good : Sized 32 id
   pub index-width : index < 2 ^ 32
 
--- as bytes: by these, keys are in order by the id, and by the index where the ids are equal (`key-order`, of proofs/Good)
-abbrev pub keyBytes : List ℕ → ℕ → List ℕ
-keyBytes id index = id ++ digits 4 index
-
--- that inputs strictly increase by (id, index) is said of their list
+-- that inputs strictly increase by (id, index) is said of their list: by these bytes, keys are in order by the id, and by the index where the
+-- ids are equal (`key-order`, of proofs/Good)
 pub record GoodInput (i : Input) : Type 0 where
   pub key : GoodKey (i .txid) (i .index)
   pub asset : Sized 32 (i .asset)
@@ -135,4 +133,4 @@ pub record GoodOperation (v : Operation) : Type 0 where
 pub record GoodInitialState (v : InitialState) : Type 0 where
   pub count : length (v .outputs) < 2 ^ 32
   pub outputs : All (GoodOutput (fxOutputs (v .fx))) (v .outputs)
-  pub order : Nondecreasing (map (output (fxOutputs (v .fx)) .write) (v .outputs))
+  pub order : Nondecreasing (map outputBytes (v .outputs))

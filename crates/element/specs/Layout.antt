@@ -59,16 +59,17 @@ outputBytes (nftTransfer, (group, (payload, owners))) = u32 11 ++ u32 group ++ s
 unfoldable pub transferableOutputBytes : TransferableOutput → List ℕ
 transferableOutputBytes o = o .asset ++ outputBytes (o .output)
 
--- ---- inputs: transaction id, output index, asset id, type 5, amount, address indices
+-- ---- inputs
 
+-- a transaction id and an output index
+abbrev pub keyBytes : List ℕ → ℕ → List ℕ
+keyBytes id index = id ++ u32 index
+
+-- transaction id, output index, asset id, type 5, amount, address indices
 unfoldable pub inputBytes : Input → List ℕ
 inputBytes i = i .txid ++ u32 (i .index) ++ i .asset ++ u32 5 ++ u64 (i .amount) ++ listBytes u32 (i .indices)
 
 -- ---- operations
-
--- a transaction id and an output index
-abbrev pub pairBytes : List ℕ × ℕ → List ℕ
-pairBytes (id, index) = id ++ u32 index
 
 -- address indices, group, payload
 unfoldable pub termsBytes : List ℕ × (ℕ × List ℕ) → List ℕ
@@ -81,7 +82,7 @@ actionBytes terms (transferNft, owners) = u32 13 ++ termsBytes terms ++ ownersBy
 
 -- asset id, the outputs consumed, and the action
 unfoldable pub operationBytes : Operation → List ℕ
-operationBytes v = v .asset ++ listBytes pairBytes (v .outputs) ++ actionBytes (v .terms) (v .owners)
+operationBytes v = v .asset ++ listBytes (λ (id, index). keyBytes id index) (v .outputs) ++ actionBytes (v .terms) (v .owners)
 
 -- ---- initial states
 

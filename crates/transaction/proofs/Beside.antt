@@ -66,19 +66,6 @@ length-indices : (prev : List ℕ) (v : Input) → input prev .Good v → length
 unfolding inputAfter spend indices items indexBytes
 length-indices prev v g = W.wide-chain (number 4) 4 (λ a h. length-number 4 a) [] (v .indices) (g .1 .1 .1 .1 .1 .1)
 
--- its key and asset id are 68 bytes; then type, amount, the count and the indices
-pub length-input : (prev : List ℕ) (v : Input) → input prev .Good v → length (input prev .write v) ≡ 68 + (16 + 4 * length (v .indices))
-length-input prev v g =
-    omega (
-      arith,
-      ap length (input-split prev v),
-      length-append (front v) (number 4 .write (length (v .indices)) ++ indexBytes v),
-      length-append (number 4 .write (length (v .indices))) (indexBytes v),
-      length-front prev v g,
-      length-number 4 (length (v .indices)),
-      length-indices prev v g,
-    )
-
 count-good : (prev : List ℕ) (v : Input) → input prev .Good v → number 4 .Good (length (v .indices))
 unfolding inputAfter spend indices
 count-good prev v g = g .1 .1 .1 .1 .0

@@ -5,7 +5,7 @@ use Prim.Native.Nat.{ℕ, zero, suc, _+_, _^_, _≤_, _<_}
 use native.Mathlib.Nat.{zero-add}
 use native.Mathlib.Omega.{arith}
 use mathlib.Core.Bool.{true, false}
-use mathlib.Core.List.{List, [], _∷_, _++_, map, append-nil}
+use mathlib.Core.List.{List, [], _∷_, _++_, map, map-congr-left, append-nil}
 use lib.ListN.{length}
 use lib.Dec.{leb}
 use borrow.Author.Tests.{leb-true, le-leb}
@@ -19,7 +19,9 @@ use Rattle.wire.proofs.Orders.{constant-good, tag-good, digits-order, notBelow-
 use Rattle.element.specs.Outputs.{TransferableOutput, transferableOutput}
 use Rattle.element.specs.Inputs.{Input, input}
 use Rattle.element.specs.Operations.{Operation, operation, fxCode, InitialState, initialState}
+use Rattle.element.specs.Layout.{transferableOutputBytes}
 use Rattle.element.specs.Good.{GoodTransferableOutput, GoodInput, inputKey, GoodOperation, GoodInitialState}
+use Rattle.element.proofs.Writing.{transferableOutput-bytes}
 use Rattle.element.proofs.Good.{string-good, text-good, denomination-good, transferableOutput-good, key-width, input-good, input-front, operation-good, fxCode-fits, initialState-good, initialState-front}
 use Rattle.transaction.specs.Slots.{signatureWidth}
 use Rattle.transaction.specs.Credentials.{credentialCode, Want, Piece, signatures, each, pieces, credentials, total}
@@ -130,13 +132,14 @@ module _ (least : ℕ) (entry : ℕ → ℕ → TransferableOutput → List Entr
       )
     where
       Sorted : List TransferableOutput → Type 0
-      Sorted l = All GoodTransferableOutput l × Nondecreasing (map (transferableOutput .write) l)
+      Sorted l = All GoodTransferableOutput l × Nondecreasing (map transferableOutputBytes l)
 
       chain : (l : List TransferableOutput) → Chain (notBelow transferableOutput) (left (notBelow transferableOutput)) [] l ↔ Sorted l
       chain l =
           Iff·trans
           (notBelow-good transferableOutput GoodTransferableOutput transferableOutput-good l)
-          (Iff·and Iff·rfl (adjacent-map (transferableOutput .write) (λ a b. below b a ≡ false) l))
+          (Iff·and Iff·rfl (rw (map-congr-left {f = transferableOutput .write} {g = transferableOutputBytes} {l = l} (λ o m. transferableOutput-bytes o)) at
+          (adjacent-map (transferableOutput .write) (λ a b. below b a ≡ false) l)))
 
 module _ (least : ℕ) (entry : ℕ → ℕ → Input → List EntryAt) where
   pub inputs-good : (l : List Input) → unfold inputs in (listOf (inputs least entry) .Good l ↔ ((least ≤ length l) × GoodInputs l))

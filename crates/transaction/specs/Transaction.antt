@@ -6,9 +6,10 @@ use mathlib.Core.List.{List, [], _++_, map}
 use lib.ListN.{length}
 use Rattle.wire.specs.Fields.{Sized}
 use Rattle.wire.specs.Orders.{All, Increasing, Nondecreasing, Ascending}
-use Rattle.element.specs.Outputs.{TransferableOutput, transferableOutput}
+use Rattle.element.specs.Outputs.{TransferableOutput}
 use Rattle.element.specs.Inputs.{Input}
-use Rattle.element.specs.Operations.{Operation, InitialState, fxCode}
+use Rattle.element.specs.Operations.{Operation, InitialState}
+use Rattle.element.specs.Layout.{transferableOutputBytes, fxNumber}
 use Rattle.element.specs.Good.{GoodString, GoodText, GoodTransferableOutput, GoodInput, inputKey, GoodOperation, GoodInitialState}
 use Rattle.transaction.specs.Credentials.{Want, secpCredential, nftCredential, total}
 
@@ -60,7 +61,7 @@ credentialsOf t = map inputWant (t .base .inputs) ++ ownWants (t .own)
 pub record GoodOutputs (l : List TransferableOutput) : Type 0 where
   pub count : length l < 2 ^ 32
   pub each : All GoodTransferableOutput l
-  pub order : Nondecreasing (map (transferableOutput .write) l)
+  pub order : Nondecreasing (map transferableOutputBytes l)
 
 -- strictly increasing by (id, index)
 pub record GoodInputs (l : List Input) : Type 0 where
@@ -79,7 +80,7 @@ pub record GoodStates (l : List InitialState) : Type 0 where
   pub some : 1 ≤ length l
   pub count : length l < 2 ^ 32
   pub each : All GoodInitialState l
-  pub order : Ascending (map (λ v. fxCode (v .fx)) l)
+  pub order : Ascending (map (λ v. fxNumber (v .fx)) l)
 
 -- the memo is of at most `most` bytes, 256 in the base, and its length is a number of 32 bits
 pub record GoodBase (most : ℕ) (b : Base) : Type 0 where
