@@ -1,5 +1,5 @@
--- The bytes of the parts of a transaction, written one after another as document 01's "Layout" lists them; no format and no rule comes in.
--- proofs/Writing shows that the formats write exactly these bytes. Assumes nothing.
+-- The bytes of a transaction's parts, field after field in the order of document 01's "Layout". Nothing here depends on a format: proofs/Writing
+-- shows that the formats write exactly these bytes. Assumes nothing.
 use Prim.Native.Nat.{ℕ}
 use mathlib.Core.List.{List, [], _∷_, _++_}
 use lib.ListN.{length}

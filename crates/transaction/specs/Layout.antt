@@ -1,5 +1,5 @@
--- The bytes of a signed transaction, written one after another as document 01's "Layout" lists them; no format and no rule comes in.
--- proofs/Writing shows that the signed format writes exactly these bytes. Assumes nothing.
+-- The bytes of a signed transaction, field after field in the order of document 01's "Layout". Nothing here depends on a format: proofs/Writing
+-- shows that the signed format writes exactly these bytes. Assumes nothing.
 use Prim.Native.Nat.{ℕ}
 use mathlib.Core.List.{List, [], _∷_, _++_}
 use lib.ListN.{length, take, drop}
@@ -32,12 +32,12 @@ baseBytes b =
 
 -- ---- the credentials
 
--- for an input or an imported input, and for an operation
+-- type 9 for an input or an imported input, 14 for an operation
 abbrev pub credentialNumber : CredentialType → ℕ
 credentialNumber secpCredential = 9
 credentialNumber nftCredential = 14
 
--- each has its type, the number of its signatures, and these: the first so many of the signatures that are left
+-- each has its type, the number of its signatures, and that many signatures from the front of the list
 unfoldable pub credentialBytes : List Want → List (List ℕ) → List ℕ
 credentialBytes [] signatures = []
 credentialBytes (w ∷ ws) signatures =
