@@ -14,7 +14,7 @@ use wire::Refusal;
 const MEMO_MOST: u64 = 256;
 
 // The type of that number, which is 4 at most.
-pub fn kind_of(number: u64) -> Kind
+fn kind_of(number: u64) -> Kind
     ensures { λ r. ⌜ r ≡ kindOf number ⌝ }
 {
     if number == 0 {
@@ -33,7 +33,7 @@ pub fn kind_of(number: u64) -> Kind
 }
 
 // Codec, type, network, chain id.
-pub fn head_at(s: &[u8], at: usize) -> HeadRead
+fn head_at(s: &[u8], at: usize) -> HeadRead
     ensures { λ r. ⌜ r ≡ headAt (now (s .entry)) at ⌝ }
 {
     let Number::Value(codec, t) = wire::u16_at(s, at) else {
@@ -64,7 +64,7 @@ pub fn head_at(s: &[u8], at: usize) -> HeadRead
 }
 
 // Transferable outputs, at least so many.
-pub fn outputs_at(s: &[u8], at: usize, least: u64) -> ListRead
+fn outputs_at(s: &[u8], at: usize, least: u64) -> ListRead
     ensures { λ r. ⌜ r ≡ outputsAt least (now (s .entry)) at ⌝ }
 {
     let Number::Value(count, first) = wire::u32_at(s, at) else {
@@ -83,7 +83,7 @@ pub fn outputs_at(s: &[u8], at: usize, least: u64) -> ListRead
 }
 
 // Inputs, at least so many.
-pub fn inputs_at(s: &[u8], at: usize, least: u64) -> ListRead
+fn inputs_at(s: &[u8], at: usize, least: u64) -> ListRead
     ensures { λ r. ⌜ r ≡ inputsAt least (now (s .entry)) at ⌝ }
 {
     let Number::Value(count, first) = wire::u32_at(s, at) else {
@@ -102,7 +102,7 @@ pub fn inputs_at(s: &[u8], at: usize, least: u64) -> ListRead
 }
 
 // Operations, at least one.
-pub fn operations_at(s: &[u8], at: usize) -> ListRead
+fn operations_at(s: &[u8], at: usize) -> ListRead
     ensures { λ r. ⌜ r ≡ operationsAt (now (s .entry)) at ⌝ }
 {
     let Number::Value(count, first) = wire::u32_at(s, at) else {
@@ -121,7 +121,7 @@ pub fn operations_at(s: &[u8], at: usize) -> ListRead
 }
 
 // Initial states, at least one.
-pub fn states_at(s: &[u8], at: usize) -> ListRead
+fn states_at(s: &[u8], at: usize) -> ListRead
     ensures { λ r. ⌜ r ≡ statesAt (now (s .entry)) at ⌝ }
 {
     let Number::Value(count, first) = wire::u32_at(s, at) else {
@@ -184,7 +184,7 @@ fn export_at(s: &[u8], at: usize) -> ListRead
 }
 
 // What a type has behind the memo.
-pub fn own_at(s: &[u8], at: usize, kind: Kind) -> ListRead
+fn own_at(s: &[u8], at: usize, kind: Kind) -> ListRead
     ensures { λ r. ⌜ r ≡ ownAt kind (now (s .entry)) at ⌝ }
 {
     match kind {
@@ -216,7 +216,7 @@ fn base_inputs_at(s: &[u8], at: usize) -> ListRead
 }
 
 // Outputs, inputs, memo and the own part.
-pub fn body_at(s: &[u8], at: usize, kind: Kind) -> UnsignedRead
+fn body_at(s: &[u8], at: usize, kind: Kind) -> UnsignedRead
     ensures { λ r. ⌜ r ≡ bodyAt kind (now (s .entry)) at ⌝ }
 {
     match base_outputs_at(s, at) {

@@ -11,7 +11,7 @@ use wire::Part;
 use wire::Refusal;
 
 // So many signatures of 65 bytes.
-pub fn signatures_at(s: &[u8], start: usize, count: u64) -> Part
+fn signatures_at(s: &[u8], start: usize, count: u64) -> Part
     ensures { λ r. ⌜ r ≡ ended (pieces (signatures count [])) (now (s .entry)) start ⌝ }
 {
     let mut left = count;
@@ -27,7 +27,7 @@ pub fn signatures_at(s: &[u8], start: usize, count: u64) -> Part
 }
 
 // A credential of the type and of as many signatures as are wanted.
-pub fn credential_at(s: &[u8], at: usize, kind: u64, wanted: u64) -> Part
+fn credential_at(s: &[u8], at: usize, kind: u64, wanted: u64) -> Part
     ensures { λ r. ⌜ r ≡ ended (pieces (credentialPieces kind wanted [])) (now (s .entry)) at ⌝ }
 {
     let Number::Value(found, n) = wire::u32_at(s, at) else {
@@ -55,7 +55,7 @@ pub fn credential_at(s: &[u8], at: usize, kind: u64, wanted: u64) -> Part
 }
 
 // So many credentials from start, beside as many inputs from first.
-pub fn beside_inputs(s: &[u8], count: u64, first: usize, start: usize) -> Part
+fn beside_inputs(s: &[u8], count: u64, first: usize, start: usize) -> Part
     ensures { λ r. ⌜ r ≡ besideInputs count (now (s .entry)) first start ⌝ }
 {
     let mut left = count;
@@ -86,7 +86,7 @@ pub fn beside_inputs(s: &[u8], count: u64, first: usize, start: usize) -> Part
 }
 
 // So many credentials from start, beside as many operations from first.
-pub fn beside_operations(s: &[u8], count: u64, first: usize, start: usize) -> Part
+fn beside_operations(s: &[u8], count: u64, first: usize, start: usize) -> Part
     ensures { λ r. ⌜ r ≡ besideOperations count (now (s .entry)) first start ⌝ }
 {
     let mut left = count;
@@ -123,7 +123,7 @@ fn beside_base_inputs(s: &[u8], count: u64, first: usize, start: usize) -> Part
 }
 
 // Those that the own part wants.
-pub fn beside_own(s: &[u8], kind: Kind, count: u64, first: usize, at: usize) -> Part
+fn beside_own(s: &[u8], kind: Kind, count: u64, first: usize, at: usize) -> Part
     ensures { λ r. ⌜ r ≡ besideOwn kind count (now (s .entry)) first at ⌝ }
 {
     match kind {

@@ -57,7 +57,7 @@ pub fn indices_from(s: &[u8], start: usize, count: u64) -> Part
 }
 
 // What follows an input's key: asset id, type 5, amount, address indices.
-pub fn spend_at(s: &[u8], at: usize) -> Part
+fn spend_at(s: &[u8], at: usize) -> Part
     ensures { λ r. ⌜ r ≡ ended spend (now (s .entry)) at ⌝ }
 {
     let Part::Next(k) = wire::part_at(s, at, 32) else {

@@ -13,7 +13,7 @@ use wire::Part;
 use wire::Refusal;
 
 // So many (id, index) pairs from start, each above the one before.
-pub fn pairs_from(s: &[u8], start: usize, count: u64) -> Part
+fn pairs_from(s: &[u8], start: usize, count: u64) -> Part
     ensures { λ r. ⌜ r ≡ ended (increasing key count) (now (s .entry)) start ⌝ }
 {
     let mut left = count;
@@ -46,7 +46,7 @@ pub fn pairs_from(s: &[u8], start: usize, count: u64) -> Part
 }
 
 // Address indices, group, payload: how many indices there are, and where the payload ends.
-pub fn asked_by_terms(s: &[u8], at: usize) -> Number
+fn asked_by_terms(s: &[u8], at: usize) -> Number
     ensures { λ r. ⌜ r ≡ askedByTerms (now (s .entry)) at ⌝ }
 {
     let Number::Value(asked, first) = wire::u32_at(s, at) else {

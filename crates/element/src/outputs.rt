@@ -11,7 +11,7 @@ use wire::Part;
 use wire::Refusal;
 
 // Type 7 behind its type: amount, owners.
-pub fn transfer_body_at(s: &[u8], at: usize) -> Part
+fn transfer_body_at(s: &[u8], at: usize) -> Part
     ensures { λ r. ⌜ r ≡ ended transferBody (now (s .entry)) at ⌝ }
 {
     let Number::Value(amount, o) = wire::u64_at(s, at) else {

@@ -2,9 +2,9 @@
 ghost use mathlib.Core.Path.{_≡_};
 ghost use Rattle.transaction.specs.Avm.{avm};
 ghost use Rattle.transaction.specs.Answer.{memoMost};
-ghost use Rattle.writer.specs.Fields.{addOutput, addInput, addOperation, addState, putMemo, putName, putSymbol, putDenomination, putChain};
-ghost use Rattle.writer.specs.Steps.{start, close, finish};
-ghost use Rattle.probe_writer.specs.Told.{writerOf, told, probed, toldTurn};
+ghost use Rattle.writer.specs.Fields.{addOutput, addInput, addOperation, addInitialState, putMemo, putName, putSymbol, putDenomination, putChain};
+ghost use Rattle.writer.specs.Steps.{fresh, start, close, finish};
+ghost use Rattle.probe_writer.specs.Told.{writerOf, numbersOf, told, probed, toldTurn};
 use writer::Step;
 use writer::Writer;
 use writer::Written;
@@ -52,6 +52,16 @@ fn numbers_of(step: Step) -> [u64; 8]
 }
 
 #[no_mangle]
+pub extern "C" fn cellfacet_probe_fresh(numbers: &mut [u64; 8])
+    ensures { λ _. ⌜ now (numbers .exit) ≡ numbersOf fresh 0 0 ⌝ }
+{
+    *numbers = numbers_of(Step {
+        next: Writer::fresh(),
+        answer: Written::Done(0),
+    });
+}
+
+#[no_mangle]
 pub extern "C" fn cellfacet_probe_start(
     numbers: &mut [u64; 8],
     buf: &mut [u8],
@@ -79,7 +89,7 @@ pub extern "C" fn cellfacet_probe_output(
     ensures { λ _. ⌜ probed (now (numbers .exit)) (now (buf .exit)) ≡ toldTurn (addOutput (writerOf (now (numbers .entry))) (now (buf .entry)) (now (asset .entry)) amount locktime threshold (now (addresses .entry))) ⌝ }
 {
     let writer = writer_of(numbers);
-    let step = writer.output(buf, *asset, amount, locktime, threshold, addresses);
+    let step = writer.add_output(buf, *asset, amount, locktime, threshold, addresses);
     *numbers = numbers_of(step);
 }
 
@@ -96,7 +106,7 @@ pub extern "C" fn cellfacet_probe_input(
     ensures { λ _. ⌜ probed (now (numbers .exit)) (now (buf .exit)) ≡ toldTurn (addInput (writerOf (now (numbers .entry))) (now (buf .entry)) (now (txid .entry)) index (now (asset .entry)) amount (now (indices .entry))) ⌝ }
 {
     let writer = writer_of(numbers);
-    let step = writer.input(buf, *txid, index, *asset, amount, indices);
+    let step = writer.add_input(buf, *txid, index, *asset, amount, indices);
     *numbers = numbers_of(step);
 }
 
@@ -105,16 +115,16 @@ pub extern "C" fn cellfacet_probe_operation(numbers: &mut [u64; 8], buf: &mut [u
     ensures { λ _. ⌜ probed (now (numbers .exit)) (now (buf .exit)) ≡ toldTurn (addOperation (writerOf (now (numbers .entry))) (now (buf .entry)) (now (bytes .entry))) ⌝ }
 {
     let writer = writer_of(numbers);
-    let step = writer.operation(buf, bytes);
+    let step = writer.add_operation(buf, bytes);
     *numbers = numbers_of(step);
 }
 
 #[no_mangle]
 pub extern "C" fn cellfacet_probe_state(numbers: &mut [u64; 8], buf: &mut [u8], bytes: &[u8])
-    ensures { λ _. ⌜ probed (now (numbers .exit)) (now (buf .exit)) ≡ toldTurn (addState (writerOf (now (numbers .entry))) (now (buf .entry)) (now (bytes .entry))) ⌝ }
+    ensures { λ _. ⌜ probed (now (numbers .exit)) (now (buf .exit)) ≡ toldTurn (addInitialState (writerOf (now (numbers .entry))) (now (buf .entry)) (now (bytes .entry))) ⌝ }
 {
     let writer = writer_of(numbers);
-    let step = writer.state(buf, bytes);
+    let step = writer.add_initial_state(buf, bytes);
     *numbers = numbers_of(step);
 }
 

@@ -25,7 +25,7 @@ use Rattle.writer.specs.declared.Writer.{Writer}
 use Rattle.writer.specs.declared.Written.the-variants as W
 use Rattle.writer.specs.Steps as Steps
 use Rattle.writer.specs.Steps.{Turn}
-use Rattle.writer.specs.Fields.{addOutput, addInput, addOperation, addState, putMemo, putName, putSymbol, putDenomination, putChain}
+use Rattle.writer.specs.Fields.{addOutput, addInput, addOperation, addInitialState, putMemo, putName, putSymbol, putDenomination, putChain}
 
 pub data Call : Type 0 where
   start : ℕ → ℕ → List ℕ → Call
@@ -68,7 +68,7 @@ call (start kind network id) w s = Steps.start (avm memoMost) w s kind network i
 call (output asset amount locktime threshold addresses) w s = addOutput w s asset amount locktime threshold addresses
 call (input txid index asset amount indices) w s = addInput w s txid index asset amount indices
 call (operation b) w s = addOperation w s b
-call (state b) w s = addState w s b
+call (state b) w s = addInitialState w s b
 call (memo b) w s = putMemo w s b
 call (name b) w s = putName w s b
 call (symbol b) w s = putSymbol w s b

@@ -15,7 +15,7 @@ use walk::Step;
 use wire::Refusal;
 
 // How many entries there are, if at most so many.
-pub fn count(s: &[u8], layout: Layout, most: usize) -> Count
+fn count(s: &[u8], layout: Layout, most: usize) -> Count
     ensures { λ r. ⌜ r ≡ counted most (rest layout (now (s .entry)) (start layout)) ⌝ }
 {
     let mut cursor = walk::steps::first(layout);

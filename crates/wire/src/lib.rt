@@ -233,7 +233,7 @@ pub fn parts_below(s: &[u8], a: usize, b: usize, c: usize) -> bool
     is_below(&s[b..c], &s[a..b])
 }
 
-pub fn id_order(a: [u8; 32], b: [u8; 32]) -> Order
+fn id_order(a: [u8; 32], b: [u8; 32]) -> Order
     ensures { λ r. ⌜ r ≡ order a b ⌝ }
 {
     order_of(&a, &b)

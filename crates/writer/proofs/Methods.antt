@@ -43,7 +43,7 @@ use Rattle.blank.specs.Closing.{closing, closable}
 use Rattle.writer.specs.declared.Writer.{Writer}
 use Rattle.writer.specs.declared.Step.{Step}
 use Rattle.writer.specs.Steps.{answered, guarded, guardedIn, prev, opening, opened, closeAt, start, put, close, finish, finishAt}
-use Rattle.writer.specs.Fields.{addOutput, addInput, addOperation, addState, putMemo, putName, putSymbol, putDenomination, putChain}
+use Rattle.writer.specs.Fields.{addOutput, addInput, addOperation, addInitialState, putMemo, putName, putSymbol, putDenomination, putChain}
 use Rattle.writer.specs.Code.{after, refusedStep, fieldStep, startStep, dueAt, namedField, namedElement, storedStep}
 use Rattle.writer.proofs.Fitting.{guarded-on, opening-is}
 use Rattle.writer.proofs.Naming.{field-is, put-element-named, element-bytes, refused-bytes}
@@ -245,7 +245,7 @@ module _ (w : Writer) (s : List ℕ) (txid : List ℕ) (index : ℕ) (asset : Li
 -- ---- initial states
 
 pub state-is : (w : Writer) (s last b : List ℕ) → last ≡ prev w s → (x : Verdict) → x ≡ judged (initialState last) (given b) J.Fine → (r : Step) (u : List ℕ)
-    → after r u ≡ namedElement w s S.State x (b ++ []) → after r u ≡ addState w s b
+    → after r u ≡ namedElement w s S.State x (b ++ []) → after r u ≡ addInitialState w s b
 state-is w s last b hl x hx r u h =
     h ∙ ap (namedElement w s S.State x) (append-nil b)
     ∙ ap (λ (v : Verdict). namedElement w s S.State v b) (hx ∙ ap (λ (z : List ℕ). judged (initialState z) (given b) J.Fine) hl)

@@ -19,8 +19,8 @@ addInput w s txid index asset amount indices = put (avm memoMost) w s S.Input (i
 abbrev pub addOperation : Writer → List ℕ → List ℕ → Turn
 addOperation w s b = put (avm memoMost) w s S.Operation (given b)
 
-abbrev pub addState : Writer → List ℕ → List ℕ → Turn
-addState w s b = put (avm memoMost) w s S.State (given b)
+abbrev pub addInitialState : Writer → List ℕ → List ℕ → Turn
+addInitialState w s b = put (avm memoMost) w s S.State (given b)
 
 abbrev pub putMemo : Writer → List ℕ → List ℕ → Turn
 putMemo w s b = put (avm memoMost) w s S.Memo (given (memo memoMost .write b))

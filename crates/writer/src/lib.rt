@@ -1,12 +1,12 @@
 // A writer of transactions: a state that each step hands back, over a lent buffer.
 ghost use mathlib.Core.Path.{_≡_};
-ghost use Rattle.writer.specs.Fields.{addOutput, addInput, addOperation, addState, putMemo, putName, putSymbol, putDenomination, putChain};
+ghost use Rattle.writer.specs.Fields.{addOutput, addInput, addOperation, addInitialState, putMemo, putName, putSymbol, putDenomination, putChain};
 ghost use Rattle.transaction.specs.Avm.{avm};
 ghost use Rattle.transaction.specs.Answer.{memoMost};
-ghost use Rattle.writer.specs.Steps.{start, close, finish};
+ghost use Rattle.writer.specs.Steps.{fresh, start, close, finish};
 ghost use Rattle.writer.specs.Code.{after};
 
-pub mod steps;
+mod steps;
 
 use due::Due;
 use due::plans;
@@ -41,6 +41,20 @@ pub struct Step {
 }
 
 impl Writer {
+    // A writer that has written nothing: the state that `start` needs.
+    pub fn fresh() -> Writer
+        ensures { λ r. ⌜ r ≡ fresh ⌝ }
+    {
+        Writer {
+            kind: 0,
+            phase: 0,
+            at: 0,
+            list: 0,
+            count: 0,
+            last: 0,
+        }
+    }
+
     // Starts a transaction: codec, type, network and chain id, and the outputs' count.
     pub fn start(self, buf: &mut [u8], kind: u32, network: u32, chain: [u8; 32]) -> Step
         ensures { λ r. ⌜ after r (now (buf .exit)) ≡ start (avm memoMost) self (now (buf .entry)) kind network chain ⌝ }
@@ -134,7 +148,7 @@ impl Writer {
     }
 
     // A transferable output; its addresses stand one behind the other.
-    pub fn output(
+    pub fn add_output(
         self,
         buf: &mut [u8],
         asset: [u8; 32],
@@ -162,7 +176,7 @@ impl Writer {
     }
 
     // A transferable input, base or imported.
-    pub fn input(
+    pub fn add_input(
         self,
         buf: &mut [u8],
         txid: [u8; 32],
@@ -181,7 +195,7 @@ impl Writer {
     }
 
     // An operation as its own bytes.
-    pub fn operation(self, buf: &mut [u8], bytes: &[u8]) -> Step
+    pub fn add_operation(self, buf: &mut [u8], bytes: &[u8]) -> Step
         ensures { λ r. ⌜ after r (now (buf .exit)) ≡ addOperation self (now (buf .entry)) (now (bytes .entry)) ⌝ }
     {
         let rules = elements::operation_rules(bytes);
@@ -198,8 +212,8 @@ impl Writer {
     }
 
     // An initial state as its own bytes.
-    pub fn state(self, buf: &mut [u8], bytes: &[u8]) -> Step
-        ensures { λ r. ⌜ after r (now (buf .exit)) ≡ addState self (now (buf .entry)) (now (bytes .entry)) ⌝ }
+    pub fn add_initial_state(self, buf: &mut [u8], bytes: &[u8]) -> Step
+        ensures { λ r. ⌜ after r (now (buf .exit)) ≡ addInitialState self (now (buf .entry)) (now (bytes .entry)) ⌝ }
     {
         let last = steps::last_of(self, &buf[..]);
         let rules = elements::state_rules(last, bytes);

@@ -35,7 +35,7 @@ pub fn stored(w: Writer) -> Step
 }
 
 // Do the count and the last element of the open list lie inside the bytes written?
-pub fn is_sane(w: Writer) -> bool
+fn is_sane(w: Writer) -> bool
     ensures { λ r. ⌜ r ≡ sane w ⌝ }
 {
     if w.at < 4 {

@@ -10,8 +10,9 @@ type OfBytes = unsafe extern "C" fn(&mut Numbers, *mut u8, usize, *const u8, usi
 mod c {
     use super::{Id, Numbers};
 
-    // Behind the numbers each function takes the buffer, as pointer and length.
+    // Behind the numbers each step takes the buffer, as pointer and length.
     extern "C" {
+        pub fn cellfacet_probe_fresh(numbers: &mut Numbers);
         pub fn cellfacet_probe_start(
             numbers: &mut Numbers,
             buffer: *mut u8,
@@ -94,10 +95,19 @@ mod c {
     }
 }
 
-/// The proved writer's state, as it crosses. The default is a writer on which only `start` is
-/// due.
-#[derive(Clone, Debug, Default, PartialEq, Eq)]
+/// The proved writer's state, as it crosses. The default is a fresh writer, on which only `start`
+/// is due.
+#[derive(Clone, Debug, PartialEq, Eq)]
 pub struct Writer(Numbers);
+
+impl Default for Writer {
+    fn default() -> Self {
+        let mut numbers = [u64::MAX; 8];
+        // SAFETY: the numbers are borrowed mutably; the function asks for nothing else.
+        unsafe { c::cellfacet_probe_fresh(&mut numbers) };
+        Writer(numbers)
+    }
+}
 
 impl Writer {
     /// A state of any numbers.

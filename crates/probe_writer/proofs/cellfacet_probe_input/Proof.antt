@@ -10,7 +10,7 @@ cellfacet-probe-input-spec =
     tie.close
     (tie.spec
     (λ c κs. search needs)  -- writer-of-requires
-    (λ c κs. search needs)  -- input-requires
+    (λ c κs. search needs)  -- add-input-requires
     (λ c κs. search needs)  -- numbers-of-requires
     (λ c. search needs)  -- same-length
-    (λ c. step-told (λ w. addInput w (c .before .before .before .before .before .before .before .before .before .before .before .args .buf .now) (c .before .before .before .before .before .before .before .before .before .before .before .args .txid .now) (c .before .before .before .before .before .before .before .before .before .before .before .args .index) (c .before .before .before .before .before .before .before .before .before .before .before .args .asset .now) (c .before .before .before .before .before .before .before .before .before .before .before .args .amount) (c .before .before .before .before .before .before .before .before .before .before .before .args .indices .now)) _ _ _ _ _ (c .before .before .before .before .before .before .before .writer-of .ensures) (c .before .before .before .input .ensures) (c .numbers-of .ensures)))  -- returns
+    (λ c. step-told (λ w. addInput w (c .before .before .before .before .before .before .before .before .before .before .before .args .buf .now) (c .before .before .before .before .before .before .before .before .before .before .before .args .txid .now) (c .before .before .before .before .before .before .before .before .before .before .before .args .index) (c .before .before .before .before .before .before .before .before .before .before .before .args .asset .now) (c .before .before .before .before .before .before .before .before .before .before .before .args .amount) (c .before .before .before .before .before .before .before .before .before .before .before .args .indices .now)) _ _ _ _ _ (c .before .before .before .before .before .before .before .writer-of .ensures) (c .before .before .before .add-input .ensures) (c .numbers-of .ensures)))  -- returns

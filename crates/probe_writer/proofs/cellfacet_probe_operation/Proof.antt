@@ -10,7 +10,7 @@ cellfacet-probe-operation-spec =
     tie.close
     (tie.spec
     (λ c κs. search needs)  -- writer-of-requires
-    (λ c κs. search needs)  -- operation-requires
+    (λ c κs. search needs)  -- add-operation-requires
     (λ c κs. search needs)  -- numbers-of-requires
     (λ c. search needs)  -- same-length
-    (λ c. step-told (λ w. addOperation w (c .before .before .before .before .before .before .before .before .before .args .buf .now) (c .before .before .before .before .before .before .before .before .before .args .bytes .now)) _ _ _ _ _ (c .before .before .before .before .before .writer-of .ensures) (c .before .before .before .operation .ensures) (c .numbers-of .ensures)))  -- returns
+    (λ c. step-told (λ w. addOperation w (c .before .before .before .before .before .before .before .before .before .args .buf .now) (c .before .before .before .before .before .before .before .before .before .args .bytes .now)) _ _ _ _ _ (c .before .before .before .before .before .writer-of .ensures) (c .before .before .before .add-operation .ensures) (c .numbers-of .ensures)))  -- returns

@@ -10,7 +10,7 @@ cellfacet-probe-output-spec =
     tie.close
     (tie.spec
     (λ c κs. search needs)  -- writer-of-requires
-    (λ c κs. search needs)  -- output-requires
+    (λ c κs. search needs)  -- add-output-requires
     (λ c κs. search needs)  -- numbers-of-requires
     (λ c. search needs)  -- same-length
-    (λ c. step-told (λ w. addOutput w (c .before .before .before .before .before .before .before .before .before .before .args .buf .now) (c .before .before .before .before .before .before .before .before .before .before .args .asset .now) (c .before .before .before .before .before .before .before .before .before .before .args .amount) (c .before .before .before .before .before .before .before .before .before .before .args .locktime) (c .before .before .before .before .before .before .before .before .before .before .args .threshold) (c .before .before .before .before .before .before .before .before .before .before .args .addresses .now)) _ _ _ _ _ (c .before .before .before .before .before .before .writer-of .ensures) (c .before .before .before .output .ensures) (c .numbers-of .ensures)))  -- returns
+    (λ c. step-told (λ w. addOutput w (c .before .before .before .before .before .before .before .before .before .before .args .buf .now) (c .before .before .before .before .before .before .before .before .before .before .args .asset .now) (c .before .before .before .before .before .before .before .before .before .before .args .amount) (c .before .before .before .before .before .before .before .before .before .before .args .locktime) (c .before .before .before .before .before .before .before .before .before .before .args .threshold) (c .before .before .before .before .before .before .before .before .before .before .args .addresses .now)) _ _ _ _ _ (c .before .before .before .before .before .before .writer-of .ensures) (c .before .before .before .add-output .ensures) (c .numbers-of .ensures)))  -- returns

@@ -1,6 +1,6 @@
 -- `probe_writer::cellfacet_probe_state` meets its contract. Assumes nothing.
 use borrow.Author.Needs.{needs}
-use Rattle.writer.specs.Fields.{addState}
+use Rattle.writer.specs.Fields.{addInitialState}
 use Rattle.probe_writer.proofs.Telling.{step-told}
 use Rattle.probe_writer.proofs.cellfacet_probe_state.Statement.{statement}
 use Rattle.probe_writer.proofs.cellfacet_probe_state.Tie as tie
@@ -10,7 +10,7 @@ cellfacet-probe-state-spec =
     tie.close
     (tie.spec
     (λ c κs. search needs)  -- writer-of-requires
-    (λ c κs. search needs)  -- state-requires
+    (λ c κs. search needs)  -- add-initial-state-requires
     (λ c κs. search needs)  -- numbers-of-requires
     (λ c. search needs)  -- same-length
-    (λ c. step-told (λ w. addState w (c .before .before .before .before .before .before .before .before .before .args .buf .now) (c .before .before .before .before .before .before .before .before .before .args .bytes .now)) _ _ _ _ _ (c .before .before .before .before .before .writer-of .ensures) (c .before .before .before .state .ensures) (c .numbers-of .ensures)))  -- returns
+    (λ c. step-told (λ w. addInitialState w (c .before .before .before .before .before .before .before .before .before .args .buf .now) (c .before .before .before .before .before .before .before .before .before .args .bytes .now)) _ _ _ _ _ (c .before .before .before .before .before .writer-of .ensures) (c .before .before .before .add-initial-state .ensures) (c .numbers-of .ensures)))  -- returns

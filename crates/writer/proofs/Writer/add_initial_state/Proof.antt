@@ -1,13 +1,13 @@
--- `writer::Writer::state` meets its contract. Assumes nothing.
+-- `writer::Writer::add_initial_state` meets its contract. Assumes nothing.
 use borrow.Author.Needs.{needs}
 use Rattle.judge.specs.Elements.{numbersBytes}
 use Rattle.writer.proofs.Methods.{state-is}
-use Rattle.writer.proofs.Writer.state.Statement.{statement}
-use Rattle.writer.proofs.Writer.state.Tie as tie
+use Rattle.writer.proofs.Writer.add_initial_state.Statement.{statement}
+use Rattle.writer.proofs.Writer.add_initial_state.Tie as tie
 
-pub state-spec : {M : Type 1} → statement M
+pub add-initial-state-spec : {M : Type 1} → statement M
 unfolding numbersBytes
-state-spec =
+add-initial-state-spec =
     tie.close
     (tie.spec
     (λ c κs. search needs)  -- last-of-requires

@@ -1,13 +1,13 @@
--- `writer::Writer::output` meets its contract. Assumes nothing.
+-- `writer::Writer::add_output` meets its contract. Assumes nothing.
 use borrow.Author.Needs.{needs}
 use Rattle.judge.specs.Elements.{numbersBytes}
 use Rattle.writer.proofs.Methods.{output-is}
-use Rattle.writer.proofs.Writer.output.Statement.{statement}
-use Rattle.writer.proofs.Writer.output.Tie as tie
+use Rattle.writer.proofs.Writer.add_output.Statement.{statement}
+use Rattle.writer.proofs.Writer.add_output.Tie as tie
 
-pub output-spec : {M : Type 1} → statement M
+pub add-output-spec : {M : Type 1} → statement M
 unfolding numbersBytes
-output-spec =
+add-output-spec =
     tie.close
     (tie.spec
     (λ c κs. search needs)  -- last-of-requires

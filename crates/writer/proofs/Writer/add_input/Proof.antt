@@ -1,11 +1,11 @@
--- `writer::Writer::input` meets its contract. Assumes nothing.
+-- `writer::Writer::add_input` meets its contract. Assumes nothing.
 use borrow.Author.Needs.{needs}
 use Rattle.writer.proofs.Methods.{input-is}
-use Rattle.writer.proofs.Writer.input.Statement.{statement}
-use Rattle.writer.proofs.Writer.input.Tie as tie
+use Rattle.writer.proofs.Writer.add_input.Statement.{statement}
+use Rattle.writer.proofs.Writer.add_input.Tie as tie
 
-pub input-spec : {M : Type 1} → statement M
-input-spec =
+pub add-input-spec : {M : Type 1} → statement M
+add-input-spec =
     tie.close
     (tie.spec
     (λ c κs. search needs)  -- last-of-requires

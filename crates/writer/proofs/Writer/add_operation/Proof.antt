@@ -1,14 +1,14 @@
--- `writer::Writer::operation` meets its contract. Assumes nothing.
+-- `writer::Writer::add_operation` meets its contract. Assumes nothing.
 use mathlib.Core.List.{[]}
 use borrow.Author.Needs.{needs}
 use Rattle.judge.specs.Elements.{numbersBytes}
 use Rattle.writer.proofs.Methods.{operation-is}
-use Rattle.writer.proofs.Writer.operation.Statement.{statement}
-use Rattle.writer.proofs.Writer.operation.Tie as tie
+use Rattle.writer.proofs.Writer.add_operation.Statement.{statement}
+use Rattle.writer.proofs.Writer.add_operation.Tie as tie
 
-pub operation-spec : {M : Type 1} → statement M
+pub add-operation-spec : {M : Type 1} → statement M
 unfolding numbersBytes
-operation-spec =
+add-operation-spec =
     tie.close
     (tie.spec
     (λ c κs. search needs)  -- operation-rules-requires
