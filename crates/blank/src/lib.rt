@@ -13,8 +13,6 @@ use wire::Number;
 use wire::Part;
 use wire::Refusal;
 
-const MOST_BYTES: usize = 65536;
-
 // How many indices the input at q has, and the place behind it.
 fn asked_by_input(s: &[u8], q: usize) -> Number
     ensures { λ r. ⌜ r ≡ askedByInput (now (s .entry)) q ⌝ }
@@ -198,10 +196,10 @@ fn put_closing(buf: &mut [u8], at: usize, layout: Layout)
 fn most_in(length: usize) -> usize
     ensures { λ r. ⌜ r ≡ mostIn length ⌝ }
 {
-    if length < MOST_BYTES {
+    if length < transaction::MOST_BYTES {
         return length;
     }
-    MOST_BYTES
+    transaction::MOST_BYTES
 }
 
 // Writes all credentials of a layout, where there is room for them. Answers the place behind them.

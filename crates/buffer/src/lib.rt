@@ -10,8 +10,6 @@ use judge::Verdict;
 use wire::Part;
 use wire::Refusal;
 
-const MOST_BYTES: usize = 65536;
-
 // Puts a number into the four bytes at a place, where these are there.
 pub fn put_u32(buf: &mut [u8], at: usize, value: u64)
     ensures { λ _. ⌜ now (buf .exit) ≡ withNumber (now (buf .entry)) at value ⌝ }
@@ -67,10 +65,10 @@ fn room_for(at: usize, n: usize, limit: usize) -> Verdict
     if limit - at < n {
         return Verdict::Refuse(wire::numbers::NO_ROOM);
     }
-    if MOST_BYTES < at {
+    if transaction::MOST_BYTES < at {
         return Verdict::Refuse(wire::numbers::NO_ROOM);
     }
-    if MOST_BYTES - at < n {
+    if transaction::MOST_BYTES - at < n {
         return Verdict::Refuse(wire::numbers::NO_ROOM);
     }
     Verdict::Fine
@@ -80,13 +78,13 @@ fn room_for(at: usize, n: usize, limit: usize) -> Verdict
 fn room_of(at: usize, first: &[u8], second: &[u8], numbers: &[u32], limit: usize) -> Verdict
     ensures { λ r. ⌜ r ≡ roomIn (at + length ((now (first .entry) ++ now (second .entry)) ++ numbersBytes (now (numbers .entry)))) limit ⌝ }
 {
-    if MOST_BYTES < first.len() {
+    if transaction::MOST_BYTES < first.len() {
         return Verdict::Refuse(wire::numbers::NO_ROOM);
     }
-    if MOST_BYTES < second.len() {
+    if transaction::MOST_BYTES < second.len() {
         return Verdict::Refuse(wire::numbers::NO_ROOM);
     }
-    if MOST_BYTES < numbers.len() {
+    if transaction::MOST_BYTES < numbers.len() {
         return Verdict::Refuse(wire::numbers::NO_ROOM);
     }
     room_for(at, first.len() + second.len() + 4 * numbers.len(), limit)

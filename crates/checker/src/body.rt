@@ -11,8 +11,6 @@ use wire::Number;
 use wire::Part;
 use wire::Refusal;
 
-const MEMO_MOST: u64 = 256;
-
 // The type of that number, which is 4 at most.
 fn kind_of(number: u64) -> Kind
     ensures { λ r. ⌜ r ≡ kindOf number ⌝ }
@@ -226,7 +224,7 @@ fn body_at(s: &[u8], at: usize, kind: Kind) -> UnsignedRead
             ListRead::Whole(inputs_at, inputs_count, m) => match string::string_at(
                 s,
                 m,
-                MEMO_MOST,
+                transaction::MEMO_MOST,
             ) {
                 Part::Refused(refusal) => UnsignedRead::Refused(refusal),
                 Part::Next(o) => match own_at(s, o, kind) {

@@ -8,13 +8,11 @@ use transaction::UnsignedRead;
 use wire::Part;
 use wire::Refusal;
 
-const MOST_BYTES: usize = 65536;
-
 // Accepted, or the first broken rule and its place.
 pub fn check(s: &[u8]) -> Checked
     ensures { λ r. ⌜ r ≡ checked (now (s .entry)) ⌝ }
 {
-    if MOST_BYTES < s.len() {
+    if transaction::MOST_BYTES < s.len() {
         return Checked::Refused(Refusal {
             number: wire::numbers::TOO_LONG,
             place: 0,

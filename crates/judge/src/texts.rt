@@ -26,7 +26,7 @@ pub fn list_rules(count: u32, least: u32) -> Verdict
 pub fn memo_rules(count: usize) -> Verdict
     ensures { λ r. ⌜ r ≡ memoRules count ⌝ }
 {
-    if 256 < count {
+    if transaction::MEMO_MOST < count as u64 {
         return Verdict::Refuse(wire::numbers::BAD_LENGTH);
     }
     Verdict::Fine

@@ -4,6 +4,12 @@ use element::OperationFields;
 use element::OutputFields;
 use wire::Refusal;
 
+// The most bytes that a signed transaction has.
+pub const MOST_BYTES: usize = 65536;
+
+// The most bytes that a memo has.
+pub const MEMO_MOST: u64 = 256;
+
 // The types of a transaction: 0 to 4.
 pub enum Kind {
     Base,

@@ -47,7 +47,7 @@ fn is_sane(w: Writer) -> bool
     if w.at < w.last {
         return false;
     }
-    w.count < 65536
+    (w.count as usize) < transaction::MOST_BYTES
 }
 
 // The last element of the open list, no bytes where it has none.
