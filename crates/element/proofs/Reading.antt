@@ -15,7 +15,7 @@ use native.Mathlib.Omega.{arith}
 use lib.ListN.{length, take, length-append}
 use lib.Seq.{take-at}
 use lib.Dec.{ltb, leb, eqb}
-use borrow.Author.Tests.{ltb-true, ltb-false, lt-leb, le-leb, eq-eqb, ne-eqb}
+use borrow.Author.Tests.{ltb-true, ltb-false, lt-leb, le-leb, eq-eqb, ne-eqb, not-true, not-false}
 use Rattle.wire.specs.declared.Refusal.{Refusal}
 use Rattle.wire.specs.declared.Part.{Part}
 use Rattle.wire.specs.declared.Part.the-variants as P
@@ -33,7 +33,7 @@ use Rattle.wire.proofs.Bytes.{Slice, slice-bytes, found, below-digits, key-belo
 use Rattle.wire.proofs.Orders.{empty-below}
 use Rattle.wire.proofs.Reading as W
 use Rattle.string.proofs.Reading as S
-use Rattle.element.specs.Owners.{Owners, owners}
+use Rattle.element.specs.Owners.{Owners, owners, thresholdFits}
 use Rattle.element.specs.Outputs.{OutputType, Output, output, TransferableOutput, transferableOutput}
 use Rattle.element.specs.Inputs.{key, Input, spend, inputAfter, input}
 use Rattle.element.specs.Operations.{OperationType, mintNft, transferNft, operationCode, operationType, operationType-code, OperationOwners, operationOwners, terms, Operation, operation, Fx, secpFx, nftFx, fxCode, fxOf, fxOutputs, fxId, stateOutputs, InitialState, initialStateAfter, initialState}
@@ -209,6 +209,14 @@ module _ (s : List ℕ) (b : Slice s) where
   address-last (suc n) prev x p h y w = absurd (omega arith)
 
 -- ---- owners
+
+-- what code answers on the threshold's rule, t
+module _ {R : Type 0} (threshold addresses : ℕ) (t : Bool) (z x y : R) (e : t ≡ thresholdFits threshold addresses) where
+  pub if-fits : not t ≡ false → z ≡ x → z ≡ pick (thresholdFits threshold addresses) x y
+  if-fits h i = rw (found e (not-false t h)) i
+
+  pub if-unfit : not t ≡ true → z ≡ y → z ≡ pick (thresholdFits threshold addresses) x y
+  if-unfit h i = rw (found e (not-true t h)) i
 
 module _ {R : Type 0} (s : List ℕ) (at : ℕ) (z : R) (stop : Refusal → R) (go : Owners → ℕ → R) (x : Part) where
   pub on-owners : (n : ℕ) → x ≡ ended owners s at → x ≡ P.Next n → ((v : Owners) → z ≡ go v n) → z ≡ owners .run s at stop go

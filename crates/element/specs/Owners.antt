@@ -1,6 +1,7 @@
 -- Owners: locktime, threshold, addresses. Assumes nothing.
 use mathlib.Core.Path.{refl, ap}
 use Prim.Native.Nat.{ℕ, _-_, _*_}
+use mathlib.Core.Bool.{Bool}
 use mathlib.Core.List.{List, []}
 use lib.ListN.{length}
 use lib.Dec.{leb}
@@ -19,13 +20,17 @@ pub record Owners : Type 0 where
 abbrev pub addressWidth : ℕ
 addressWidth = 20
 
--- the threshold is at most the number of addresses: judged when that number is read, at the threshold
+-- the threshold is at most the number of addresses
+abbrev pub thresholdFits : ℕ → ℕ → Bool
+thresholdFits threshold addresses = leb threshold addresses
+
+-- the threshold is judged when the number of addresses is read, at the threshold
 unfoldable pub owners : Format Owners
 unfolding named andThen guard
 owners =
     named
     (andThen (number 8) (λ locktime.
-    andThen (guard (andThen (number 4) (λ threshold. number 4)) (λ v. leb (v .0) (v .1)) badThreshold) (λ v.
+    andThen (guard (andThen (number 4) (λ threshold. number 4)) (λ v. thresholdFits (v .0) (v .1)) badThreshold) (λ v.
     increasing (blob addressWidth) (v .1))))
     (λ (locktime, ((threshold, count), list)). record { locktime = locktime; threshold = threshold; addresses = list })
     (λ o. (o .locktime, ((o .threshold, length (o .addresses)), o .addresses)))

@@ -3,7 +3,7 @@ ghost use mathlib.Core.Path.{_≡_};
 ghost use Rattle.wire.specs.Fields.{blob};
 ghost use Rattle.wire.specs.Series.{increasing, unordered};
 ghost use Rattle.wire.specs.Answer.{ended};
-ghost use Rattle.element.specs.Owners.{owners};
+ghost use Rattle.element.specs.Owners.{owners, thresholdFits};
 use wire::Number;
 use wire::Part;
 use wire::Refusal;
@@ -41,6 +41,13 @@ pub fn addresses_from(s: &[u8], start: usize, count: u64) -> Part
     wire::part_at(s, prev, 20)
 }
 
+// Is this threshold allowed for so many addresses? The reader and the writer both ask here.
+pub fn threshold_fits(threshold: u64, addresses: u64) -> bool
+    ensures { λ r. ⌜ r ≡ thresholdFits threshold addresses ⌝ }
+{
+    threshold <= addresses
+}
+
 // Where the owners at this place end.
 pub fn owners_at(s: &[u8], at: usize) -> Part
     ensures { λ r. ⌜ r ≡ ended owners (now (s .entry)) at ⌝ }
@@ -54,7 +61,7 @@ pub fn owners_at(s: &[u8], at: usize) -> Part
     let Number::Value(count, first) = wire::u32_at(s, n) else {
         return Part::Refused(wire::cut(s, n, 4));
     };
-    if count < threshold {
+    if !threshold_fits(threshold, count) {
         return Part::Refused(Refusal {
             number: wire::numbers::BAD_THRESHOLD,
             place: t,

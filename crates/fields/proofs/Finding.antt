@@ -14,7 +14,7 @@ use Rattle.wire.specs.Series.{left, increasing, unordered, counted, items-sized
 use Rattle.wire.proofs.Bytes.{Slice, slice-bytes}
 use Rattle.wire.proofs.Reading as L
 use Rattle.string.specs.Strings.{string}
-use Rattle.element.specs.Owners.{Owners, addressWidth, owners, ownersFields}
+use Rattle.element.specs.Owners.{Owners, addressWidth, thresholdFits, owners, ownersFields}
 use Rattle.element.specs.Outputs.{amount, OutputType, secpMint, secpTransfer, nftMint, nftTransfer, outputCode, outputType, outputType-code, OutputBody, transferBody, outputBody, Output, output, outputFields}
 use Rattle.element.specs.Inputs.{key, keyWidth, indices, spend, inputFields}
 use Rattle.element.specs.Operations.{OperationType, mintNft, transferNft, operationCode, operationType, operationType-code, OperationOwners, operationOwners, terms, termsFields, recipients, action, Operation, operation, operationFields}
@@ -66,7 +66,7 @@ module _ (s : List ℕ) (b : Slice s) where
       let (l, t, el, e₁) = run-inv (number 8) s at _ v m h in
       let (r, n, er, e₂) = run-inv (number 4) s t _ v m e₁ in
       let (c, f, ec, e₃) = run-inv (number 4) s n _ v m e₂ in
-      let (_, e₄) = pick-inv (leb r c) (by badThreshold t) _ v m e₃ in
+      let (_, e₄) = pick-inv (thresholdFits r c) (by badThreshold t) _ v m e₃ in
       let (list, k, ek, e₅) = run-inv (increasing (blob addressWidth) c) s f (λ list k. took record { locktime = l; threshold = r; addresses = list } k) v m e₄ in
       moved (λ x j. ownersFound s at ≡ W.Fields (ownersFields j x)) e₅
       (L.run-took (number 8) s at (λ e. W.Missing) _ l t el ∙ L.run-took (number 4) s t (λ e. W.Missing) _ r n er ∙ L.run-took (number 4) s n (λ e. W.Missing) _ c f ec ∙ made l r c f list k ek)

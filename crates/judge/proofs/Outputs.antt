@@ -7,7 +7,7 @@ use native.Mathlib.Omega.{arith}
 use native.Mathlib.Nat.{div-add-mod', mod-eq-of-lt}
 use lib.ListN.{length, take, drop, length-drop, take-append-drop, drop-of-length-le}
 use lib.Seq.{length-take-le, drop-drop}
-use lib.Dec.{ltb, leb, eqb}
+use lib.Dec.{ltb, eqb}
 use borrow.Author.Tests.{eq-eqb, eqb-true, not-true, not-false}
 use Rattle.wire.specs.declared.Refusal.{Refusal}
 use Rattle.wire.specs.declared.Part.{Part}
@@ -21,7 +21,8 @@ use Rattle.wire.specs.Orders.{All}
 use Rattle.wire.specs.Answer.{ended}
 use Rattle.wire.proofs.Bytes.{found}
 use Rattle.wire.proofs.Reading.{tests}
-use Rattle.element.specs.Owners.{owners}
+use Rattle.element.specs.Owners.{owners, thresholdFits}
+use Rattle.element.proofs.Reading.{if-fits, if-unfit}
 use Rattle.element.specs.Outputs as Outputs
 use Rattle.element.specs.Outputs.{transferBody, output, transferableOutput}
 use Rattle.judge.specs.declared.Verdict.{Verdict}
@@ -108,7 +109,7 @@ module _ (asset : List ℕ) (amount locktime threshold : ℕ) (addresses : List 
     abbrev rules : ℕ → List ℕ → Verdict
     rules count ys =
         pick (ltb 0 amount)
-        (pick (leb threshold count)
+        (pick (thresholdFits threshold count)
         (pick (eachAbove (blob 20) [] (listOf addresses))
         (pick (not (below ys prev))
         J.Fine
@@ -127,7 +128,7 @@ module _ (asset : List ℕ) (amount locktime threshold : ℕ) (addresses : List 
         (field-back (number 8) locktime (number-back 7 locktime) written _ _ _ _ _ r₃ λ r₄.
         field-back (number 4) threshold (number-back 3 threshold) written _ (number 4 .write count ++ w) _ _ _ (rest-as _ _ _ _ (append-assoc (number 4 .write threshold) _ _) r₄) λ r₅.
         field-back (number 4) count (number-back 3 count) written _ w _ _ _ r₅ λ r₆.
-        test-alike (leb threshold count) _ _ _
+        test-alike (thresholdFits threshold count) _ _ _
         (let sized = addresses-sized _ addresses (omega (arith, div-add-mod' (length addresses) 20)) in
         let (p, e) = list-back (blob 20) (λ b. length b ≡ 20) (blob-back 20) [] (listOf addresses) written _ [] _ _ sized (r₆ .there ∙ sym (append-nil w)) in
         e ∙ test-alike (eachAbove (blob 20) [] (listOf addresses)) _ _ _
@@ -162,4 +163,4 @@ module _ (t : Bool) (z x y : Verdict) where
   pub if-not-under : (a b : List ℕ) → t ≡ below a b → t ≡ false → z ≡ x → z ≡ pick (not (below a b)) x y
   if-not-under a b i j e = rw (found i j) e
 
-pub ruleset of-output = (as-output, if-rise, if-fall, if-under, if-not-under, tests)
+pub ruleset of-output = (as-output, if-rise, if-fall, if-under, if-not-under, if-fits, if-unfit, tests)

@@ -124,7 +124,7 @@ pub fn output_rules(
     if amount == 0 {
         return Verdict::Refuse(wire::numbers::ZERO_AMOUNT);
     }
-    if addresses.len() / 20 < threshold as usize {
+    if !element::owners::threshold_fits(threshold as u64, (addresses.len() / 20) as u64) {
         return Verdict::Refuse(wire::numbers::BAD_THRESHOLD);
     }
     if !addresses_rise(addresses) {

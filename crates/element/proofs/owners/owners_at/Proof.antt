@@ -1,7 +1,7 @@
 -- `element::owners::owners_at` meets its contract.
 -- Assumes nothing.
 use borrow.Author.Needs.{needs}
-use Rattle.element.proofs.Reading.{reading}
+use Rattle.element.proofs.Reading.{reading, if-fits, if-unfit}
 use Rattle.element.specs.Owners.{owners}
 use Rattle.element.proofs.owners.owners_at.Statement.{statement}
 use Rattle.element.proofs.owners.owners_at.Tie as tie
@@ -26,6 +26,7 @@ owners-at-spec =
     (λ c. search needs)  -- enum-told-3
     (λ c κs. search needs)  -- cut-requires-3
     (λ c. search reading depth 12)  -- returns-3
-    (λ c. search reading depth 12)  -- returns-4
+    (λ c κs. search needs)  -- threshold-fits-requires
+    (λ c. search (reading, if-unfit) depth 12)  -- returns-4
     (λ c κs. search needs)  -- addresses-from-requires
-    (λ c. search reading depth 12))  -- returns-5
+    (λ c. search (reading, if-fits) depth 12))  -- returns-5

@@ -10,6 +10,7 @@ output-rules-spec =
     (tie.spec
     (λ c. search of-output depth 12)  -- returns
     (λ c. search of-output depth 12)  -- returns-2
+    (λ c κs. search needs)  -- threshold-fits-requires
     (λ c. search of-output depth 12)  -- returns-3
     (λ c κs. search needs)  -- addresses-rise-requires
     (λ c. search of-output depth 12)  -- returns-4
