@@ -25,15 +25,15 @@ places-run (suc n) ps p =
     ap (λ (l : List ℕ). p ∷ l) (places-run n ps (p + 65) ∙ ap (λ (i : ℕ). slotRun n (p + 65) ++ places i ps) e)
 
 -- .. and so many bytes
-record Split (n : ℕ) (ps : List Piece) (l : List (List ℕ)) : Type 0 where
-  front : List ℕ
-  others : List (List ℕ)
-  good : pieces ps .Good others
-  written : pieces (signatures n ps) .write l ≡ front ++ pieces ps .write others
-  long : length front ≡ 65 * n
-  bytes : Bytes front
+pub record Split (n : ℕ) (ps : List Piece) (l : List (List ℕ)) : Type 0 where
+  pub front : List ℕ
+  pub others : List (List ℕ)
+  pub good : pieces ps .Good others
+  pub written : pieces (signatures n ps) .write l ≡ front ++ pieces ps .write others
+  pub long : length front ≡ 65 * n
+  pub bytes : Bytes front
 
-split : (n : ℕ) (ps : List Piece) (l : List (List ℕ)) → pieces (signatures n ps) .Good l → Split n ps l
+pub split : (n : ℕ) (ps : List Piece) (l : List (List ℕ)) → pieces (signatures n ps) .Good l → Split n ps l
 unfolding pieces signatures signatureWidth
 split zero ps l g = record { front = []; others = l; good = g; written = refl; long = omega arith; bytes = tt }
 split (suc n) ps [] g = absurd g
@@ -49,7 +49,7 @@ split (suc n) ps (b ∷ l) g =
     }
 
 -- what stands behind a number
-behind-number : (s : List ℕ) (q v : ℕ) (t : List ℕ) → drop q s ≡ number 4 .write v ++ t → drop (q + 4) s ≡ t
+pub behind-number : (s : List ℕ) (q v : ℕ) (t : List ℕ) → drop q s ≡ number 4 .write v ++ t → drop (q + 4) s ≡ t
 behind-number s q v t h = subst (λ (n : ℕ). drop (q + n) s ≡ t) (length-number 4 v) (drop-step s q (number 4 .write v) t h)
 
 -- the slots of a credential that stands at q, and what follows them
@@ -61,10 +61,10 @@ module _ (s : List ℕ) (q t n : ℕ) (x rest : List ℕ) (gt : number 4 .Good t
   at-signatures : drop (q + 4 + 4) s ≡ x ++ rest
   at-signatures = behind-number s (q + 4) n (x ++ rest) at-count
 
-  behind-signatures : drop (q + 4 + 4 + 65 * n) s ≡ rest
+  pub behind-signatures : drop (q + 4 + 4 + 65 * n) s ≡ rest
   behind-signatures = subst (λ (i : ℕ). drop (q + 4 + 4 + i) s ≡ rest) lx (drop-step s (q + 4 + 4) x rest at-signatures)
 
-  run-there : runAt s q ≡ R.Slots (q + 4 + 4) n (q + 4 + 4 + 65 * n)
+  pub run-there : runAt s q ≡ R.Slots (q + 4 + 4) n (q + 4 + 4 + 65 * n)
   unfolding blob
   run-there =
       blob 4 .complete s q (number 4 .write t) (number 4 .write n ++ (x ++ rest)) (λ e. R.End) (λ b i. counted i) (length-number 4 t, number 4 .bytes t gt) h
@@ -81,7 +81,7 @@ module _ (s : List ℕ) (q t n : ℕ) (x rest : List ℕ) (gt : number 4 .Good t
       counted i = number 4 .run s i (λ e. R.End) signed
 
 -- three parts, one behind the other, and what is left of the third
-regroup : (a b c x y rest : List ℕ) → c ≡ x ++ y → (a ++ (b ++ c)) ++ rest ≡ a ++ (b ++ (x ++ (y ++ rest)))
+pub regroup : (a b c x y rest : List ℕ) → c ≡ x ++ y → (a ++ (b ++ c)) ++ rest ≡ a ++ (b ++ (x ++ (y ++ rest)))
 regroup a b c x y rest e = rw e (simp append-assoc)
 
 walk-each : (ws : List Want) (l : List (List ℕ)) (s : List ℕ) (q : ℕ) (rest : List ℕ) → pieces (each ws) .Good l → drop q s ≡ pieces (each ws) .write l ++ rest

@@ -1,0 +1,55 @@
+-- `slot_table::put_slots` meets its contract. The invariant: putting the rows that are left is putting them all. Assumes nothing.
+use borrow.Author.Needs.{needs}
+use Prim.Native.Nat.{_+_, _*_, _≤_}
+use mathlib.Core.Path.{_≡_, refl, ap}
+use native.Mathlib.Omega.{arith}
+use lib.ListN.{length}
+use Rattle.slot.proofs.Walking.{run-inside}
+use Rattle.slot_table.specs.Slots.{rows}
+use Rattle.slot_table.specs.Walk.{walkFrom, walk, put}
+use Rattle.slot_table.proofs.Walking.{same-length, walk-from, slots-start, slots-none, left-behind, slotting}
+use Rattle.slot_table.proofs.put_slots.Statement.{statement}
+use Rattle.slot_table.proofs.put_slots.Tie as tie
+
+abbrev Inv-loop : tie.InvT-loop
+Inv-loop s table₀ at credentials start left₀ q₀ credential₀ i₀ table left q credential i =
+    (put table i (rows s (walkFrom credential left s q)) ≡ put table₀ 0 (rows s (walk s at)))
+    × (length table ≡ length table₀) × (i + 3 * length (walkFrom credential left s q) ≤ length table) × (credential ≤ q)
+
+abbrev μ-loop : tie.MeasureT-loop
+μ-loop s table₀ at credentials start left₀ q₀ credential₀ i₀ table left q credential i = left
+
+pub put-slots-spec : {M : Type 1} → statement M
+put-slots-spec =
+    tie.close
+    (tie.spec
+    Inv-loop
+    μ-loop
+    (λ c κs. search needs)  -- u32-at-requires
+    (λ c. search needs)  -- enum-known-credentials
+    (λ c. search needs)  -- enum-told
+    (λ c. search slots-none)  -- returns
+    (λ c. (search slots-start, refl, omega (arith, ap length (walk-from _ _ _ (c .before .before .before .u32-at .ensures) _ _ (c .before .credentials .given .1))), omega arith))  -- loop-holds
+    (λ c κs. search needs)  -- run-at-requires
+    (λ c. search needs)  -- enum-known-first
+    (λ c. search needs)  -- enum-told-2
+    (λ c. search needs)  -- same-length
+    (λ c. search slotting)  -- returns-2
+    (λ c κs.
+    let i = run-inside _ _ _ _ _ _ (c .before .before .before .before .run-at .ensures) (c .before .before .first .given .1) in
+    let more = left-behind _ (c .before .before .before .before .before .before .loop .credential) _ _ (c .before .before .before .before .run-at .ensures) (c .before .before .before .before .before .before .loop .left) _ _ _ (c .before .before .first .given .1) (omega arith) in
+    (omega arith, (omega arith, (omega arith, omega arith))))  -- put-run-requires
+    (λ c. let i = run-inside _ _ _ _ _ _ (c .before .before .before .before .before .before .before .run-at .ensures) (c .before .before .before .before .before .first .given .1) in omega arith)  -- mul-i
+    (λ c.
+    let more = left-behind _ (c .before .before .before .before .before .before .before .before .before .loop .credential) _ _ (c .before .before .before .before .before .before .before .run-at .ensures) (c .before .before .before .before .before .before .before .before .before .loop .left) _ _ _ (c .before .before .before .before .before .first .given .1) (omega arith) in
+    omega arith)  -- add-i
+    (λ c. let i = run-inside _ _ _ _ _ _ (c .before .before .before .before .before .before .before .run-at .ensures) (c .before .before .before .before .before .first .given .1) in omega arith)  -- add-credential
+    (λ c. search needs)  -- sub-left
+    (λ c. search needs)  -- loop-less
+    (λ c.
+    let i = run-inside _ _ _ _ _ _ (c .before .before .before .before .before .before .before .run-at .ensures) (c .before .before .before .before .before .first .given .1) in
+    let more = left-behind _ (c .before .before .before .before .before .before .before .before .before .loop .credential) _ _ (c .before .before .before .before .before .before .before .run-at .ensures) (c .before .before .before .before .before .before .before .before .before .loop .left) _ _ _ (c .before .before .before .before .before .first .given .1) (omega arith) in
+    let same = same-length _ _ _ _ (c .before .before .put-run .ensures) in
+    (search slotting, omega arith, omega arith, omega arith))  -- loop-again
+    (λ c. search needs)  -- same-length-2
+    (λ c. search slotting))  -- returns-3

@@ -1,0 +1,121 @@
+// The signature slots of a transaction, listed in a lent table.
+ghost use mathlib.Core.Path.{_≡_};
+ghost use Prim.Native.Nat.{_+_, _*_, _≤_};
+ghost use lib.ListN.{length};
+ghost use Rattle.table.specs.Table.{filled};
+ghost use Rattle.slot_table.specs.Slots.{slotIn, filledAt, row, rows};
+ghost use Rattle.slot_table.specs.Table.{tabledSlots};
+ghost use Rattle.slot_table.specs.Walk.{run, walk, put};
+use slot::Run;
+use table::Tabled;
+use transaction::Checked;
+use wire::Number;
+use wire::Refusal;
+
+// How many slots there are. The credential count stands at `at`.
+fn count(s: &[u8], at: usize) -> usize
+    ensures { λ r. ⌜ r ≡ length (walk (now (s .entry)) at) ⌝ }
+{
+    let Number::Value(credentials, start) = wire::u32_at(s, at) else {
+        return 0;
+    };
+    let mut left = credentials;
+    let mut q = start;
+    let mut slots: usize = 0;
+    while 0 < left {
+        let Run::Slots(_, n, next) = slot::walk::run_at(s, q) else {
+            return slots;
+        };
+        slots += n as usize;
+        q = next;
+        left -= 1;
+    }
+    slots
+}
+
+// 0 where the slot that starts at `at` is 65 zero bytes, else 1.
+fn filled_at(s: &[u8], at: usize) -> u32
+    ensures { λ r. ⌜ r ≡ filledAt (now (s .entry)) at ⌝ }
+{
+    if slot::compare::is_blank(slot::compare::slot_of(s, at)) {
+        return 0;
+    }
+    1
+}
+
+// Puts the row of the slot that starts at `at` into three numbers of the table, from the i-th on.
+fn put_row(s: &[u8], table: &mut [u32], i: usize, credential: usize, at: usize)
+    requires { ⌜ i + 3 ≤ length (now table) ⌝ }
+    requires { ⌜ credential ≤ 65536 ⌝ }
+    requires { ⌜ at ≤ 65536 ⌝ }
+    ensures { λ _. ⌜ now (table .exit) ≡ put (now (table .entry)) i (row (now (s .entry)) (slotIn credential at)) ⌝ }
+{
+    table[i] = credential as u32;
+    table[i + 1] = at as u32;
+    table[i + 2] = filled_at(s, at);
+}
+
+// Puts the rows of a credential's slots. The first of them starts at `at`.
+fn put_run(s: &[u8], table: &mut [u32], i: usize, credential: usize, at: usize, count: u64)
+    requires { ⌜ length (now s) ≤ 65536 ⌝ }
+    requires { ⌜ i + 3 * count ≤ length (now table) ⌝ }
+    requires { ⌜ credential ≤ at ⌝ }
+    requires { ⌜ at + 65 * count ≤ length (now s) ⌝ }
+    ensures { λ _. ⌜ now (table .exit) ≡ put (now (table .entry)) i (rows (now (s .entry)) (run credential count at)) ⌝ }
+{
+    let mut left = count;
+    let mut p = at;
+    let mut j = i;
+    while 0 < left {
+        put_row(s, table, j, credential, p);
+        j += 3;
+        p += 65;
+        left -= 1;
+    }
+}
+
+// Puts the rows of all slots, for which there is room. The credential count stands at `at`.
+fn put_slots(s: &[u8], table: &mut [u32], at: usize)
+    requires { ⌜ length (now s) ≤ 65536 ⌝ }
+    requires { ⌜ 3 * length (walk (now s) at) ≤ length (now table) ⌝ }
+    ensures { λ _. ⌜ now (table .exit) ≡ put (now (table .entry)) 0 (rows (now (s .entry)) (walk (now (s .entry)) at)) ⌝ }
+{
+    let Number::Value(credentials, start) = wire::u32_at(s, at) else {
+        return;
+    };
+    let mut left = credentials;
+    let mut q = start;
+    let mut credential: usize = 0;
+    let mut i: usize = 0;
+    while 0 < left {
+        let Run::Slots(first, n, next) = slot::walk::run_at(s, q) else {
+            return;
+        };
+        put_run(s, table, i, credential, first, n);
+        i += 3 * n as usize;
+        credential += 1;
+        q = next;
+        left -= 1;
+    }
+}
+
+// Checks the bytes, and writes a row of three numbers for each slot: credential, place, filled.
+pub fn list_slots(s: &[u8], table: &mut [u32]) -> Tabled
+    ensures { λ r. ⌜ filled r (now (table .exit)) ≡ tabledSlots (now (s .entry)) (now (table .entry)) ⌝ }
+{
+    match checker::check::check(s) {
+        Checked::Refused(refusal) => Tabled::Refused(refusal),
+        Checked::Accepted(layout, end) => {
+            let at = layout.credentials_at;
+            let slots = count(s, at);
+            if table.len() / 3 < slots {
+                return Tabled::Refused(Refusal {
+                    number: wire::numbers::NO_ROOM,
+                    place: 0,
+                });
+            }
+            put_slots(s, table, at);
+            Tabled::Listed(slots, end)
+        }
+    }
+}
