@@ -1,35 +1,40 @@
--- The answer with a lent table as one number, and whether a slot is filled. Assumes nothing.
+-- The answer with a lent table as one number. Assumes nothing.
 use Prim.Native.Nat.{ℕ, _+_, _*_, _%_}
 use mathlib.Core.Path.{_≡_, sym, ap, _∙_}
-use mathlib.Core.Bool.{Bool, true, false}
 use mathlib.Core.List.{List}
+use native.Mathlib.Omega.{arith}
+use borrow.Author.Tests.{ne-eqb}
 use Rattle.wire.specs.declared.Refusal.{Refusal}
-use Rattle.wire.proofs.Bytes.{found}
-use Rattle.transaction.specs.Slots.{blank, slotAt}
-use Rattle.slot.specs.Joining.{same}
-use Rattle.table.specs.Table.{filled, tabled}
+use Rattle.table.specs.Table.{Filled, filled, tabled}
 use Rattle.table.specs.declared.Tabled.{Tabled}
 use Rattle.table.specs.declared.Tabled.the-variants as T
-use Rattle.operator.specs.Listing.{listing, listed, filledAt}
+use Rattle.table.proofs.Tabling.{tabled-number}
+use Rattle.slot_table.specs.Table.{tabledSlots}
+use Rattle.slot_table.proofs.Listing.{slots-number}
+use Rattle.operator.specs.Listing.{Numbered, packed, listing, listed}
 
--- x is what the check answered, and u what the table holds then
-module _ (s t u : List ℕ) (x : Tabled) (p : filled x u ≡ tabled s t) where
-  pub rows-listed : (n end : ℕ) → x ≡ T.Listed n end → listing (n % 4294967296) u ≡ listed (tabled s t)
-  rows-listed n end q = sym (ap (λ y. listed (filled y u)) q) ∙ ap listed p
+-- ---- the number of an answer
 
-  pub refused-listed : (e : Refusal) → x ≡ T.Refused e → listing (e .number * 4294967296 + e .place % 4294967296) u ≡ listed (tabled s t)
-  refused-listed e q = sym (ap (λ y. listed (filled y u)) q) ∙ ap listed p
+pub rows-packed : (x : Tabled) (n end : ℕ) → x ≡ T.Listed n end → n % 4294967296 ≡ packed x
+unfolding packed
+rows-packed x n end q = rw q (omega arith)
 
-pub ruleset answered = (rows-listed, refused-listed)
+pub refused-packed : (x : Tabled) (e : Refusal) → Numbered x → x ≡ T.Refused e → e .number * 4294967296 + e .place % 4294967296 ≡ packed x
+unfolding packed Numbered
+refused-packed x e h q = rw (q, ne-eqb (e .number) 0 (λ z. let m = h e q in absurd (omega arith)))
 
--- x is the slot, and r whether it is blank
-module _ (s : List ℕ) (place : ℕ) (x : List ℕ) (r : Bool) (p : x ≡ slotAt s place) (q : r ≡ same x blank) where
-  pub blank-filled : r ≡ true → 0 ≡ filledAt s place
-  unfolding filledAt
-  blank-filled e = rw (← p, found q e)
+pub ruleset packing = (rows-packed, refused-packed)
 
-  pub signed-filled : r ≡ false → 1 ≡ filledAt s place
-  unfolding filledAt
-  signed-filled e = rw (← p, found q e)
+-- ---- x is what the call answered, and u what the table holds then
 
-pub ruleset filling = (blank-filled, signed-filled)
+module _ (s t u : List ℕ) (x : Tabled) where
+  pub rows-numbered : filled x u ≡ tabled s t → Numbered x
+  unfolding Numbered
+  rows-numbered p e q = let (a, b) = tabled-number s t e (ap (λ (f : Filled). f .answer) (sym p) ∙ q) in a
+
+  pub slots-numbered : filled x u ≡ tabledSlots s t → Numbered x
+  unfolding Numbered
+  slots-numbered p e q = let (a, b) = slots-number s t e (ap (λ (f : Filled). f .answer) (sym p) ∙ q) in a
+
+pub answered : (f : Filled) (u : List ℕ) (x : Tabled) (r : ℕ) → filled x u ≡ f → r ≡ packed x → listing r u ≡ listed f
+answered f u x r p q = ap (λ (n : ℕ). listing n u) q ∙ ap listed p

@@ -1,28 +1,34 @@
 // The functions that the operator's command calls beside those of the phone program.
 ghost use mathlib.Core.Path.{_≡_};
 ghost use Rattle.table.specs.Table.{tabled};
-ghost use Rattle.operator.specs.Listing.{listing, listed, filledAt};
+ghost use Rattle.slot_table.specs.Table.{tabledSlots};
+ghost use Rattle.operator.specs.Listing.{Numbered, packed, listing, listed};
 use table::Tabled;
 
-// The check with a lent table. How many rows were written; or number × 2^32 + place.
-#[no_mangle]
-pub extern "C" fn cellfacet_rows(bytes: &[u8], table: &mut [u32]) -> u64
-    ensures { λ r. ⌜ listing r (now (table .exit)) ≡ listed (tabled (now (bytes .entry)) (now (table .entry))) ⌝ }
+// How many rows were written, or number × 2^32 + place.
+fn word(answer: Tabled) -> u64
+    requires { ⌜ Numbered answer ⌝ }
+    ensures { λ r. ⌜ r ≡ packed answer ⌝ }
 {
-    match table::rows::check_table(bytes, table) {
+    match answer {
         Tabled::Listed(rows, _) => (rows % 4294967296) as u64,
         Tabled::Refused(refusal) => refusal.number as u64 * 4294967296
             + (refusal.place % 4294967296) as u64,
     }
 }
 
-// Is the slot that starts at a place filled? 0 where it is 65 zero bytes, else 1.
+// The check with a lent table, in which each entry has a row: kind, start, length.
 #[no_mangle]
-pub extern "C" fn cellfacet_filled(bytes: &[u8], place: u64) -> u64
-    ensures { λ r. ⌜ r ≡ filledAt (now (bytes .entry)) place ⌝ }
+pub extern "C" fn cellfacet_rows(bytes: &[u8], table: &mut [u32]) -> u64
+    ensures { λ r. ⌜ listing r (now (table .exit)) ≡ listed (tabled (now (bytes .entry)) (now (table .entry))) ⌝ }
 {
-    if slot::compare::is_blank(slot::compare::slot_of(bytes, place as usize)) {
-        return 0;
-    }
-    1
+    word(table::rows::check_table(bytes, table))
+}
+
+// The check with a lent table, in which each slot has a row: credential, place, filled.
+#[no_mangle]
+pub extern "C" fn cellfacet_slots(bytes: &[u8], table: &mut [u32]) -> u64
+    ensures { λ r. ⌜ listing r (now (table .exit)) ≡ listed (tabledSlots (now (bytes .entry)) (now (table .entry))) ⌝ }
+{
+    word(slot_table::list_slots(bytes, table))
 }

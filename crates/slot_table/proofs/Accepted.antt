@@ -37,7 +37,8 @@ walk-each k (w ∷ ws) l s q rest g h =
     let r : Split n (each ws) l = split n (each ws) l (g .1 .1) in
     let y : List ℕ = pieces (each ws) .write (r .others) ++ rest in
     let there : drop q s ≡ number 4 .write t ++ (number 4 .write n ++ (r .front ++ y)) =
-    h ∙ regroup (number 4 .write t) (number 4 .write n) (pieces (signatures n (each ws)) .write l) (r .front) (pieces (each ws) .write (r .others)) rest (r .written) in
+    h ∙ regroup (number 4 .write t) (number 4 .write n) (pieces (signatures n (each ws)) .write l) (r .front)
+    (pieces (each ws) .write (r .others)) rest (r .written) in
     let next : q + 4 + 4 + 65 * n ≡ q + size (credential w []) = omega (arith, size-signatures n) in
     ap (λ (u : Run). onRun u [] (λ first c m. run k c first ++ walkFrom (suc k) (length ws) s m))
     (run-there s q t n (r .front) y (g .0 .0) (g .1 .0 .0) (r .long) (r .bytes) there)

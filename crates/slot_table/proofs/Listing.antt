@@ -73,10 +73,12 @@ module _ (s : List ℕ) (x : Checked) (w : Layout) (k : ℕ) (p : x ≡ checked 
 pub ruleset listing = (on-refused, on-no-room, on-listed)
 
 -- demand 1: a refusal's number is one of 1 to 14
-listed-number : (k : ℕ) (s : List ℕ) (l : List Slot) (t : List ℕ) (e : Refusal) → listed k s l t .answer ≡ T.Refused e → (1 ≤ e .number) × (e .number ≤ 14)
+listed-number : (k : ℕ) (s : List ℕ) (l : List Slot) (t : List ℕ) (e : Refusal) → listed k s l t .answer ≡ T.Refused e
+    → (1 ≤ e .number) × (e .number ≤ 14)
 listed-number k s l t e = go (leb (3 * length l) (length t))
   where
-    go : (b : Bool) → pick b (filled (T.Listed (length l) k) (rows s l ++ drop (3 * length l) t)) (filled (T.Refused (refusal noRoom 0)) t) .answer ≡ T.Refused e
+    go : (b : Bool)
+        → pick b (filled (T.Listed (length l) k) (rows s l ++ drop (3 * length l) t)) (filled (T.Refused (refusal noRoom 0)) t) .answer ≡ T.Refused e
         → (1 ≤ e .number) × (e .number ≤ 14)
     go true h = let z : _≡_ {A = ℕ} 0 1 = cc in absurd (omega arith)
     go false h = let i : refusal noRoom 0 ≡ e = cc in rw (← i) (omega arith, omega arith)

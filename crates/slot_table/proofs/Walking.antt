@@ -33,7 +33,8 @@ length-walk j k zero s q = refl
 length-walk j k (suc n) s q = go (runAt s q) (λ next. length-walk (suc j) (suc k) n s next)
   where
     go : (x : Run) → ((next : ℕ) → length (walkFrom (suc j) n s next) ≡ length (walkFrom (suc k) n s next))
-        → length (onRun x [] (λ first c next. run j c first ++ walkFrom (suc j) n s next)) ≡ length (onRun x [] (λ first c next. run k c first ++ walkFrom (suc k) n s next))
+        → length (onRun x [] (λ first c next. run j c first ++ walkFrom (suc j) n s next))
+        ≡ length (onRun x [] (λ first c next. run k c first ++ walkFrom (suc k) n s next))
     go (R.Slots p c next) ih =
         let a : List Slot = walkFrom (suc j) n s next in
         let b : List Slot = walkFrom (suc k) n s next in
@@ -154,7 +155,8 @@ module _ (s : List ℕ) (k left q i : ℕ) (t y : List ℕ) (h : put t i (rows s
     unfolding rows put
     slots-stop r = sym (ap (λ (l : List Slot). put t i (rows s l)) (walk-stop s k q x e left r)) ∙ h
 
-    pub slots-next : (p n next : ℕ) → x ≡ R.Slots p n next → 0 < left → (u : List ℕ) → u ≡ put t i (rows s (run k n p)) → put u (i + 3 * n) (rows s (walkFrom (k + 1) (left - 1) s next)) ≡ y
+    pub slots-next : (p n next : ℕ) → x ≡ R.Slots p n next → 0 < left → (u : List ℕ) → u ≡ put t i (rows s (run k n p))
+        → put u (i + 3 * n) (rows s (walkFrom (k + 1) (left - 1) s next)) ≡ y
     slots-next p n next r b u g =
         let a : List Slot = run k n p in
         let l : List Slot = walkFrom (k + 1) (left - 1) s next in

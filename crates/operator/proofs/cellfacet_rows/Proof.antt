@@ -1,6 +1,6 @@
 -- `operator::cellfacet_rows` meets its contract. Assumes nothing.
 use borrow.Author.Needs.{needs}
-use Rattle.operator.proofs.Listing.{answered}
+use Rattle.operator.proofs.Listing.{rows-numbered, answered}
 use Rattle.operator.proofs.cellfacet_rows.Statement.{statement}
 use Rattle.operator.proofs.cellfacet_rows.Tie as tie
 
@@ -9,12 +9,6 @@ cellfacet-rows-spec =
     tie.close
     (tie.spec
     (λ c κs. search needs)  -- check-table-requires
-    (λ c. search needs)  -- enum-known-rows
-    (λ c. search needs)  -- enum-known-refusal
-    (λ c. search needs)  -- cast-result
-    (λ c. search needs)  -- mul-result
-    (λ c. search needs)  -- add-result
+    (λ c κs. search rows-numbered)  -- word-requires
     (λ c. search needs)  -- same-length
-    (λ c. search answered)  -- returns
-    (λ c. search needs)  -- same-length-2
-    (λ c. search answered))  -- returns-2
+    (λ c. search answered))  -- returns

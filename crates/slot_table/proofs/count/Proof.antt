@@ -31,8 +31,12 @@ count-spec =
     (λ c. search needs)  -- enum-known-n
     (λ c. search needs)  -- enum-told-2
     (λ c. search counting)  -- returns-2
-    (λ c. let i = run-inside _ _ _ _ _ _ (c .before .before .before .run-at .ensures) (c .before .n .given .1) in omega arith)  -- add-slots
+    (λ c.
+    let i = run-inside _ _ _ _ _ _ (c .before .before .before .run-at .ensures) (c .before .n .given .1) in
+    omega arith)  -- add-slots
     (λ c. search needs)  -- sub-left
     (λ c. search needs)  -- loop-less
-    (λ c. let i = run-inside _ _ _ _ _ _ (c .before .before .before .run-at .ensures) (c .before .n .given .1) in (search counting, omega arith))  -- loop-again
+    (λ c.
+    let i = run-inside _ _ _ _ _ _ (c .before .before .before .run-at .ensures) (c .before .n .given .1) in
+    (search counting, omega arith))  -- loop-again
     (λ c. search counting))  -- returns-3

@@ -29,26 +29,43 @@ put-slots-spec =
     (λ c. search needs)  -- enum-known-credentials
     (λ c. search needs)  -- enum-told
     (λ c. search slots-none)  -- returns
-    (λ c. (search slots-start, refl, omega (arith, ap length (walk-from _ _ _ (c .before .before .before .u32-at .ensures) _ _ (c .before .credentials .given .1))), omega arith))  -- loop-holds
+    (λ c.
+    let from = walk-from _ _ _ (c .before .before .before .u32-at .ensures) _ _ (c .before .credentials .given .1) in
+    (search slots-start, refl, omega (arith, ap length from), omega arith))  -- loop-holds
     (λ c κs. search needs)  -- run-at-requires
     (λ c. search needs)  -- enum-known-first
     (λ c. search needs)  -- enum-told-2
     (λ c. search needs)  -- same-length
     (λ c. search slotting)  -- returns-2
     (λ c κs.
-    let i = run-inside _ _ _ _ _ _ (c .before .before .before .before .run-at .ensures) (c .before .before .first .given .1) in
-    let more = left-behind _ (c .before .before .before .before .before .before .loop .credential) _ _ (c .before .before .before .before .run-at .ensures) (c .before .before .before .before .before .before .loop .left) _ _ _ (c .before .before .first .given .1) (omega arith) in
+    let l = c .before .before .before .before .before .before .loop in
+    let run = c .before .before .before .before .run-at .ensures in
+    let here = c .before .before .first .given .1 in
+    let i = run-inside _ _ _ _ _ _ run here in
+    let more = left-behind _ (l .credential) _ _ run (l .left) _ _ _ here (omega arith) in
     (omega arith, (omega arith, (omega arith, omega arith))))  -- put-run-requires
-    (λ c. let i = run-inside _ _ _ _ _ _ (c .before .before .before .before .before .before .before .run-at .ensures) (c .before .before .before .before .before .first .given .1) in omega arith)  -- mul-i
     (λ c.
-    let more = left-behind _ (c .before .before .before .before .before .before .before .before .before .loop .credential) _ _ (c .before .before .before .before .before .before .before .run-at .ensures) (c .before .before .before .before .before .before .before .before .before .loop .left) _ _ _ (c .before .before .before .before .before .first .given .1) (omega arith) in
+    let run = c .before .before .before .before .before .before .before .run-at .ensures in
+    let i = run-inside _ _ _ _ _ _ run (c .before .before .before .before .before .first .given .1) in
+    omega arith)  -- mul-i
+    (λ c.
+    let l = c .before .before .before .before .before .before .before .before .before .loop in
+    let run = c .before .before .before .before .before .before .before .run-at .ensures in
+    let here = c .before .before .before .before .before .first .given .1 in
+    let more = left-behind _ (l .credential) _ _ run (l .left) _ _ _ here (omega arith) in
     omega arith)  -- add-i
-    (λ c. let i = run-inside _ _ _ _ _ _ (c .before .before .before .before .before .before .before .run-at .ensures) (c .before .before .before .before .before .first .given .1) in omega arith)  -- add-credential
+    (λ c.
+    let run = c .before .before .before .before .before .before .before .run-at .ensures in
+    let i = run-inside _ _ _ _ _ _ run (c .before .before .before .before .before .first .given .1) in
+    omega arith)  -- add-credential
     (λ c. search needs)  -- sub-left
     (λ c. search needs)  -- loop-less
     (λ c.
-    let i = run-inside _ _ _ _ _ _ (c .before .before .before .before .before .before .before .run-at .ensures) (c .before .before .before .before .before .first .given .1) in
-    let more = left-behind _ (c .before .before .before .before .before .before .before .before .before .loop .credential) _ _ (c .before .before .before .before .before .before .before .run-at .ensures) (c .before .before .before .before .before .before .before .before .before .loop .left) _ _ _ (c .before .before .before .before .before .first .given .1) (omega arith) in
+    let l = c .before .before .before .before .before .before .before .before .before .loop in
+    let run = c .before .before .before .before .before .before .before .run-at .ensures in
+    let here = c .before .before .before .before .before .first .given .1 in
+    let i = run-inside _ _ _ _ _ _ run here in
+    let more = left-behind _ (l .credential) _ _ run (l .left) _ _ _ here (omega arith) in
     let same = same-length _ _ _ _ (c .before .before .put-run .ensures) in
     (search slotting, omega arith, omega arith, omega arith))  -- loop-again
     (λ c. search needs)  -- same-length-2

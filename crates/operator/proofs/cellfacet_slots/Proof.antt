@@ -1,0 +1,14 @@
+-- `operator::cellfacet_slots` meets its contract. Assumes nothing.
+use borrow.Author.Needs.{needs}
+use Rattle.operator.proofs.Listing.{slots-numbered, answered}
+use Rattle.operator.proofs.cellfacet_slots.Statement.{statement}
+use Rattle.operator.proofs.cellfacet_slots.Tie as tie
+
+pub cellfacet-slots-spec : {M : Type 1} → statement M
+cellfacet-slots-spec =
+    tie.close
+    (tie.spec
+    (λ c κs. search needs)  -- list-slots-requires
+    (λ c κs. search slots-numbered)  -- word-requires
+    (λ c. search needs)  -- same-length
+    (λ c. search answered))  -- returns

@@ -1,0 +1,17 @@
+-- `operator::word` meets its contract. Assumes nothing.
+use borrow.Author.Needs.{needs}
+use Rattle.operator.proofs.Listing.{packing}
+use Rattle.operator.proofs.word.Statement.{statement}
+use Rattle.operator.proofs.word.Tie as tie
+
+pub word-spec : {M : Type 1} → statement M
+word-spec =
+    tie.close
+    (tie.spec
+    (λ c. search needs)  -- enum-known-answer
+    (λ c. search needs)  -- enum-known-answer-2
+    (λ c. search needs)  -- cast-result
+    (λ c. search needs)  -- mul-result
+    (λ c. search needs)  -- add-result
+    (λ c. search packing)  -- returns
+    (λ c. search packing))  -- returns-2
