@@ -30,6 +30,13 @@ pub const MOST_BYTES: usize = 65_536;
 /// The numbers that a table for any transaction needs: three for each of at most 3,272 entries.
 pub const TABLE_NUMBERS: usize = 9_816;
 
+/// The numbers that a table for the slots of any transaction needs: three for each of at most 947.
+///
+/// An empty type 0 has 58 bytes, an input without indices 84, its credential 8, and each index
+/// with its signature 69: (65,536 - 150) / 69 = 947. With one imported input the 150 are 186, with
+/// one operation 126, and there is room for 947 too.
+pub const SLOT_NUMBERS: usize = 2_841;
+
 /// The bytes of a signature.
 pub const SIGNATURE: usize = 65;
 
@@ -161,6 +168,24 @@ pub fn entries(bytes: &[u8]) -> Result<Vec<Entry>, Refusal> {
     Ok(rows.map(entry).collect())
 }
 
+/// Checks, and writes three numbers for each slot into the lent table: the credential that it
+/// stands in, from 0; its first byte; and 1 where it is filled, 0 where all of its bytes are
+/// zero. The answer is the number of slots; numbers behind theirs stay, and all of them on a
+/// refusal.
+///
+/// ```
+/// let mut table = [0; cellfacet::SLOT_NUMBERS];
+/// let signed = include_bytes!("../../../tests/data/case-a.tx");
+/// assert_eq!(cellfacet::slot_rows(signed, &mut table), Ok(2));
+/// assert_eq!(table[..6], [0, 262, 1, 0, 327, 1]);
+/// ```
+///
+/// # Errors
+/// As [`check`], and then [`Reason::NoRoom`] where the table is too small.
+pub fn slot_rows(bytes: &[u8], table: &mut [u32]) -> Result<usize, Refusal> {
+    answered(library::slots(bytes, table))
+}
+
 /// A place for a signature.
 #[derive(Clone, Copy, Debug, PartialEq, Eq, Hash)]
 pub struct Slot {
@@ -186,17 +211,15 @@ pub struct Slot {
 /// # Errors
 /// As [`check`].
 pub fn slots(bytes: &[u8]) -> Result<Vec<Slot>, Refusal> {
-    let entries = entries(bytes)?;
-    let credentials = entries.iter().filter(|entry| entry.kind == Kind::Credential);
-    let slots = credentials.enumerate().flat_map(|(credential, entry)| {
-        // Type and count, then the signatures.
-        let places = (entry.start + 8..entry.start + entry.length).step_by(SIGNATURE);
-        places.map(move |place| {
-            let filled = library::filled(bytes, place) == 1;
-            Slot { credential, place, filled }
-        })
-    });
-    Ok(slots.collect())
+    let mut table = vec![0; SLOT_NUMBERS];
+    let count = slot_rows(bytes, &mut table)?;
+    let rows = table.chunks_exact(3).take(count);
+    let slot = |row: &[u32]| Slot {
+        credential: row[0] as usize,
+        place: row[1] as usize,
+        filled: row[2] == 1,
+    };
+    Ok(rows.map(slot).collect())
 }
 
 /// Takes an answer apart: number × 2^32 + place, where number 0 is no refusal.

@@ -17,7 +17,12 @@ mod c {
             table: *mut u32,
             room: usize,
         ) -> u64;
-        pub fn cellfacet_filled(bytes: *const u8, length: usize, place: u64) -> u64;
+        pub fn cellfacet_slots(
+            bytes: *const u8,
+            length: usize,
+            table: *mut u32,
+            room: usize,
+        ) -> u64;
     }
 }
 
@@ -51,9 +56,8 @@ pub fn rows(bytes: &[u8], table: &mut [u32]) -> u64 {
     unsafe { c::cellfacet_rows(bytes.as_ptr(), bytes.len(), table.as_mut_ptr(), table.len()) }
 }
 
-/// 0 where 65 zero bytes stand at the place, else 1.
-pub fn filled(bytes: &[u8], place: usize) -> u64 {
-    // SAFETY: pointer and length are those of a slice, which nothing writes to while it is
-    // borrowed; the function asks for nothing else.
-    unsafe { c::cellfacet_filled(bytes.as_ptr(), bytes.len(), place as u64) }
+/// The rows written, or number × 2^32 + place.
+pub fn slots(bytes: &[u8], table: &mut [u32]) -> u64 {
+    // SAFETY: as for `rows`.
+    unsafe { c::cellfacet_slots(bytes.as_ptr(), bytes.len(), table.as_mut_ptr(), table.len()) }
 }

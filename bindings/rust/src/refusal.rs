@@ -42,6 +42,15 @@ macro_rules! reasons {
             /// Every reason, in the order of the numbers.
             pub const ALL: &'static [Reason] = &[$(Reason::$name),*];
 
+            /// The reason with this number; none for 0, which is no refusal, and for numbers
+            /// that are not of the table.
+            pub const fn of_number(number: u32) -> Option<Reason> {
+                match number {
+                    $($number => Some(Reason::$name),)*
+                    _ => None,
+                }
+            }
+
             /// What is wrong, in a few words.
             pub const fn words(self) -> &'static str {
                 match self {
@@ -101,13 +110,6 @@ impl Reason {
     /// The number in the table.
     pub const fn number(self) -> u32 {
         self as u32
-    }
-
-    /// The reason with this number; none for 0, which is no refusal, and for numbers that are
-    /// not of the table.
-    pub fn of_number(number: u32) -> Option<Reason> {
-        let before = number.checked_sub(1)?;
-        Reason::ALL.get(before as usize).copied()
     }
 }
 

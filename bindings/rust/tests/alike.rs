@@ -1,14 +1,16 @@
 //! The bindings answer as the independent program does, and as the header says.
 #![allow(missing_docs)]
 
-use std::collections::BTreeSet;
+use std::collections::{BTreeMap, BTreeSet};
 
 use cellfacet::{Reason, Slot};
 use cellfacet_tests::draft;
+use cellfacet_tests::encode::Encoder;
 use cellfacet_tests::generate::damage::damaged;
-use cellfacet_tests::generate::valid::transaction;
+use cellfacet_tests::generate::valid::{refill, small_transaction, transaction};
 use cellfacet_tests::generate::{Kind, Random, Requests};
 use cellfacet_tests::lines::unhex;
+use cellfacet_tests::transaction::Entry;
 
 const SEED: u64 = 20_251_116;
 const COUNT: usize = 2_000;
@@ -45,18 +47,86 @@ fn rows_alike(bytes: &[u8]) {
     assert_eq!(table, rows);
 }
 
+/// The slots as the independent program finds them.
+fn expected_slots(bytes: &[u8]) -> Result<Vec<Slot>, cellfacet_tests::Refusal> {
+    let mut ends = Vec::new();
+    let read = cellfacet_tests::read(bytes, |row, entry| {
+        if let Entry::Credential(_) = entry {
+            ends.push(row.start + row.length);
+        }
+    })?;
+    let slots = draft::slots(bytes, &read).map(|place| Slot {
+        credential: ends.iter().filter(|end| **end <= place).count(),
+        place,
+        filled: bytes[place..place + cellfacet::SIGNATURE] != [0; cellfacet::SIGNATURE],
+    });
+    Ok(slots.collect())
+}
+
 fn slots_alike(bytes: &[u8]) {
-    let Ok(read) = cellfacet_tests::check(bytes) else {
-        return assert!(cellfacet::slots(bytes).is_err());
+    let expected = expected_slots(bytes);
+    let count = expected.as_ref().map_or(0, Vec::len);
+    let numbers = expected
+        .iter()
+        .flatten()
+        .flat_map(|slot| [slot.credential as u32, slot.place as u32, u32::from(slot.filled)]);
+    let rows: Vec<u32> = numbers.chain([7; 2]).collect();
+    let mut table = vec![7; rows.len()];
+    let answer = shown(cellfacet::slot_rows(bytes, &mut table));
+    assert_eq!(answer, self::expected(expected.clone().map(|_| count)));
+    assert_eq!(table, rows);
+    let slots = cellfacet::slots(bytes);
+    assert_eq!(shown(slots.clone().map(|slots| slots.len())), answer);
+    assert_eq!(slots.unwrap_or_default(), expected.unwrap_or_default());
+    no_room(bytes, answer, count);
+}
+
+/// One number too few: refused, after every rule, and nothing is written.
+fn no_room(bytes: &[u8], answer: (u32, usize), count: usize) {
+    let mut table = vec![7; (3 * count).saturating_sub(1)];
+    let refusal = if answer.0 == 0 && count > 0 { (14, 0) } else { answer };
+    assert_eq!(shown(cellfacet::slot_rows(bytes, &mut table)), refusal);
+    assert!(table.iter().all(|number| *number == 7));
+}
+
+#[test]
+fn random_drafts() {
+    let mut random = Random::new(SEED);
+    let mut met = [0; 2];
+    for _ in 0..COUNT {
+        let mut draft = small_transaction(&mut random);
+        let places: Vec<usize> =
+            expected_slots(&draft).into_iter().flatten().map(|slot| slot.place).collect();
+        refill(&mut random, &mut draft, &places, &BTreeMap::new());
+        slots_alike(&draft);
+        for slot in cellfacet::slots(&draft).expect("accepted") {
+            met[usize::from(slot.filled)] += 1;
+        }
+    }
+    assert!(met[0] > COUNT / 10 && met[1] > COUNT / 10, "{met:?}");
+}
+
+/// As many slots as 65,536 bytes allow: one input, one imported input, one operation.
+#[test]
+fn most_slots() {
+    let indices: Vec<u32> = (0..947).collect();
+    let input = |bytes: Encoder| {
+        bytes.u32(1).raw(&[1; 32]).u32(0).raw(&[2; 32]).u32(5).u64(1).numbers(&indices)
     };
-    let places: Vec<usize> = draft::slots(bytes, &read).collect();
-    let slots = cellfacet::slots(bytes).expect("accepted");
-    assert_eq!(slots.iter().map(|slot| slot.place).collect::<Vec<_>>(), places);
-    for (number, Slot { place, filled, .. }) in slots.into_iter().enumerate() {
-        let ones = [0xff; cellfacet::SIGNATURE];
-        // Another signature than the one that is there is refused.
-        let held = draft::fill(&mut bytes.to_vec(), number, &ones).is_err();
-        assert_eq!(filled, held || bytes[place..].starts_with(&ones));
+    let head = |type_id| Encoder::new().u16(0).u32(type_id).u32(1).raw(&[0; 32]).u32(0);
+    let base = input(head(0)).u32(0);
+    let import = input(head(3).u32(0).u32(0).raw(&[0; 32]));
+    let operation = head(2).u32(0).u32(0).u32(1).raw(&[2; 32]).u32(0);
+    let operation = operation.u32(12).numbers(&indices).u32(0).u32(0).u32(0);
+    for (unsigned, credential) in [(base, 9), (import, 9), (operation, 14)] {
+        let signatures = vec![[1; cellfacet::SIGNATURE]; indices.len()];
+        let bytes = unsigned.u32(1).u32(credential).list(&signatures).done();
+        assert!(cellfacet::MOST_BYTES - bytes.len() < 69, "no room for one more");
+        assert_eq!(
+            3 * cellfacet::slots(&bytes).map_or(0, |slots| slots.len()),
+            cellfacet::SLOT_NUMBERS
+        );
+        slots_alike(&bytes);
     }
 }
 
@@ -82,8 +152,8 @@ fn random_merges() {
 #[test]
 fn numbers_of_the_header() {
     let header = include_str!("../../../include/cellfacet.h");
-    for (before, reason) in Reason::ALL.iter().enumerate() {
-        assert_eq!(reason.number() as usize, before + 1);
+    assert!(Reason::ALL.windows(2).all(|pair| pair[0].number() < pair[1].number()));
+    for reason in Reason::ALL {
         assert_eq!(Reason::of_number(reason.number()), Some(*reason));
         // UnknownType is CELLFACET_UNKNOWN_TYPE.
         let mut name = String::from("CELLFACET");
@@ -97,5 +167,6 @@ fn numbers_of_the_header() {
         let found = header.lines().any(|other| other.trim_end_matches(',') == line);
         assert!(found, "{line}");
     }
-    assert_eq!((Reason::of_number(0), Reason::of_number(22)), (None, None));
+    let named = (0..=u16::MAX.into()).filter_map(Reason::of_number);
+    assert!(named.eq(Reason::ALL.iter().copied()), "no other number has a reason");
 }
