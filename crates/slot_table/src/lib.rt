@@ -12,6 +12,11 @@ use transaction::Checked;
 use wire::Number;
 use wire::Refusal;
 
+// Whether a slot holds a signature, as the third number of its row.
+const EMPTY: u32 = 0;
+
+const FILLED: u32 = 1;
+
 // How many slots there are. The credential count stands at `at`.
 fn count(s: &[u8], at: usize) -> usize
     ensures { λ r. ⌜ r ≡ length (walk (now (s .entry)) at) ⌝ }
@@ -33,14 +38,14 @@ fn count(s: &[u8], at: usize) -> usize
     slots
 }
 
-// 0 where the slot that starts at `at` is 65 zero bytes, else 1.
+// Does the slot that starts at `at` hold a signature? It is empty where it is 65 zero bytes.
 fn filled_at(s: &[u8], at: usize) -> u32
     ensures { λ r. ⌜ r ≡ filledAt (now (s .entry)) at ⌝ }
 {
     if slot::compare::is_blank(slot::compare::slot_of(s, at)) {
-        return 0;
+        return EMPTY;
     }
-    1
+    FILLED
 }
 
 // Puts the row of the slot that starts at `at` into three numbers of the table, from the i-th on.
