@@ -1,5 +1,5 @@
 -- DEMAND 3 of document 00, as document 01 ("Drafts, slots, merging") spells it out: one claim about every list of drafts and every grouping over it
--- that uses each. Over the calls that merge's contract cites and the slots that the reading of demand 2 has. Assumes nothing.
+-- that uses each. Over the calls that merge's contract cites and the slots that the reading of demand 2 has (specs/Slots). Assumes nothing.
 use mathlib.Core.Path.{_≡_}
 use mathlib.Core.Logic.{_⊎_, _↔_}
 use mathlib.Core.Option.{none, some}
