@@ -36,5 +36,7 @@ module _ (s t u : List ℕ) (x : Tabled) where
   unfolding Numbered
   slots-numbered p e q = let (a, b) = slots-number s t e (ap (λ (f : Filled). f .answer) (sym p) ∙ q) in a
 
+pub ruleset numbered = (rows-numbered, slots-numbered)
+
 pub answered : (f : Filled) (u : List ℕ) (x : Tabled) (r : ℕ) → filled x u ≡ f → r ≡ packed x → listing r u ≡ listed f
 answered f u x r p q = ap (λ (n : ℕ). listing n u) q ∙ ap listed p
