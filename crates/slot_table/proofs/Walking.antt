@@ -51,7 +51,7 @@ module _ (s : List ℕ) (at : ℕ) (x : Number) (p : x ≡ valued (number 4) s a
   unfolding walk
   walk-from n q h = W.on-value 4 s at (walkFrom 0 n s q) (λ e. []) (λ n q. walkFrom 0 n s q) x n q p h refl
 
-  pub walk-none : (e : Refusal) → x ≡ N.Refused e → [] ≡ walk s at
+  walk-none : (e : Refusal) → x ≡ N.Refused e → [] ≡ walk s at
   unfolding walk
   walk-none e h = W.on-number-refused 4 s at [] (λ e. []) (λ n q. walkFrom 0 n s q) x e p h refl
 
@@ -98,7 +98,7 @@ pub ruleset counting = (count-over, count-stop, count-next)
 
 -- ---- put into the table
 
-pub put-append : (t : List ℕ) (i : ℕ) (a b : List ℕ) → put t i (a ++ b) ≡ put (put t i a) (i + length a) b
+put-append : (t : List ℕ) (i : ℕ) (a b : List ℕ) → put t i (a ++ b) ≡ put (put t i a) (i + length a) b
 unfolding put
 put-append t i [] b = let e : i ≡ i + 0 = omega arith in ap (λ (j : ℕ). put t j b) e
 put-append t i (x ∷ a) b =

@@ -12,6 +12,11 @@ use transaction::Checked;
 use wire::Number;
 use wire::Refusal;
 
+const SIGNATURE_WIDTH: usize = 65;
+
+// The numbers of a row: credential, place, filled.
+const ROW: usize = 3;
+
 // Whether a slot holds a signature, as the third number of its row.
 const EMPTY: u32 = 0;
 
@@ -73,8 +78,8 @@ fn put_run(s: &[u8], table: &mut [u32], i: usize, credential: usize, at: usize, 
     let mut j = i;
     while 0 < left {
         put_row(s, table, j, credential, p);
-        j += 3;
-        p += 65;
+        j += ROW;
+        p += SIGNATURE_WIDTH;
         left -= 1;
     }
 }
@@ -97,7 +102,7 @@ fn put_slots(s: &[u8], table: &mut [u32], at: usize)
             return;
         };
         put_run(s, table, i, credential, first, n);
-        i += 3 * n as usize;
+        i += ROW * n as usize;
         credential += 1;
         q = next;
         left -= 1;
@@ -113,7 +118,7 @@ pub fn list_slots(s: &[u8], table: &mut [u32]) -> Tabled
         Checked::Accepted(layout, end) => {
             let at = layout.credentials_at;
             let slots = count(s, at);
-            if table.len() / 3 < slots {
+            if table.len() / ROW < slots {
                 return Tabled::Refused(Refusal {
                     number: wire::numbers::NO_ROOM,
                     place: 0,
