@@ -2,3 +2,4 @@
 pub mod Bytes
 pub mod Orders
 pub mod Reading
+pub mod Refusing
