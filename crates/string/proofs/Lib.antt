@@ -1,2 +1,3 @@
 -- The laws that proofs cite, here and in the crates above
 pub mod Reading
+pub mod Refusing

@@ -10,3 +10,4 @@ pub mod Verdicts
 pub mod Good
 pub mod Writing
 pub mod Accepted
+pub mod Refusing

@@ -2,7 +2,8 @@
 -- of the table as a whole; here it is for any numbers P. Assumes nothing.
 use mathlib.Core.Path.{_≡_, refl, sym, _∙_, subst}
 use Prim.Native.Nat.{ℕ, zero, suc, _+_, _-_, _≤_}
-use mathlib.Core.Bool.{Bool, true, false}
+use mathlib.Core.Logic.{⊎-elim}
+use mathlib.Core.Bool.{Bool, true, false, false≢true}
 use mathlib.Core.List.{List, [], _∷_}
 use lib.ListN.{length, take, drop}
 use lib.Dec.{leb, eqb}
@@ -24,6 +25,23 @@ RefusesBy F P = (s : List ℕ) (at : ℕ) (e : Refusal) → read F s at ≡ refu
 -- a number is in a list where a test finds it
 pub one-of : (l : List ℕ) (n : ℕ) → listed (λ (k : ℕ). k) l n ≡ true → OneOf n l
 one-of l n = listed-good (λ (k : ℕ). k) (λ (k : ℕ). k) (λ k. refl) l n .0
+
+-- all of l are in m
+abbrev pub contains : List ℕ → List ℕ → Bool
+contains m [] = true
+contains m (n ∷ l) = pick (listed (λ (k : ℕ). k) m n) (contains m l) false
+
+pub contained : (m l : List ℕ) → contains m l ≡ true → (n : ℕ) → OneOf n l → OneOf n m
+contained m [] e n h = absurd h
+contained m (k ∷ l) e n h = turn (listed (λ (i : ℕ). i) m k) refl e (λ q. contained m l q n)
+  where
+    turn : (b : Bool) → listed (λ (i : ℕ). i) m k ≡ b → pick b (contains m l) false ≡ true → (contains m l ≡ true → OneOf n l → OneOf n m) → OneOf n m
+    turn true p q more = ⊎-elim (λ i. subst (λ (j : ℕ). OneOf j m) (sym i) (one-of m k p)) (more q) h
+    turn false p q more = absurd (false≢true q)
+
+-- a format that refuses by the numbers of a list refuses by those of a longer one
+pub refuses-more : {A : Type 0} (F : Format A) (l m : List ℕ) → contains m l ≡ true → RefusesBy F (λ n. OneOf n l) → RefusesBy F (λ n. OneOf n m)
+refuses-more F l m h f s at e q = contained m l h (e .number) (f s at e q)
 
 module _ (P : ℕ → Type 0) where
   -- ---- readings
@@ -54,12 +72,14 @@ module _ (P : ℕ → Type 0) where
 
   -- ---- combinators
 
-  pub then-refuses : {A : Type 0} {B : A → Type 0} (F : Format A) (G : (a : A) → Format (B a)) → RefusesBy F P → ((a : A) → RefusesBy (G a) P) → RefusesBy (andThen F G) P
+  pub then-refuses : {A : Type 0} {B : A → Type 0} (F : Format A) (G : (a : A) → Format (B a)) → RefusesBy F P → ((a : A) → RefusesBy (G a) P)
+      → RefusesBy (andThen F G) P
   unfolding andThen
   then-refuses F G f g s at e = run-refuses F s at _ e f (λ a m. run-refuses (G a) s m _ e (g a) (λ b n q. took-refused (a, b) n e q))
 
   module _ {A : Type 0} (F : Format A) (ok : A → Bool) (x : Rule) (f : RefusesBy F P) (h : P (ruleNumber x)) where
-    pub guardAt-refuses : (place : ℕ → A → ℕ) (within : (at : ℕ) (a : A) → F .Good a → place at a ≤ at + length (F .write a)) → RefusesBy (guardAt F ok x place within) P
+    pub guardAt-refuses : (place : ℕ → A → ℕ) (within : (at : ℕ) (a : A) → F .Good a → place at a ≤ at + length (F .write a))
+        → RefusesBy (guardAt F ok x place within) P
     unfolding guardAt
     guardAt-refuses place within s at e = run-refuses F s at _ e f (λ a m. pick-refuses (ok a) (by x (place at a)) _ e h (λ q. took-refused a m e q))
 
@@ -106,7 +126,8 @@ module _ (P : ℕ → Type 0) where
       (λ l k q. took-refused (a ∷ l) k e q) (sym (list-same E step n (step st a) s m refused (λ l k. took (a ∷ l) k)) ∙ q))
       q
 
-  pub series-refuses : {A : Type 0} (E : List ℕ → Format A) (prev : List ℕ) (n : ℕ) → ((prev : List ℕ) → RefusesBy (E prev) P) → RefusesBy (seriesFrom E prev n) P
+  pub series-refuses : {A : Type 0} (E : List ℕ → Format A) (prev : List ℕ) (n : ℕ) → ((prev : List ℕ) → RefusesBy (E prev) P)
+      → RefusesBy (seriesFrom E prev n) P
   series-refuses E prev n = items-refuses E (left E) prev n
 
   pub above-refuses : {A : Type 0} (F : Format A) (prev : List ℕ) → RefusesBy F P → P (ruleNumber outOfOrder) → RefusesBy (above F prev) P
@@ -115,13 +136,15 @@ module _ (P : ℕ → Type 0) where
   pub notBelow-refuses : {A : Type 0} (F : Format A) (prev : List ℕ) → RefusesBy F P → P (ruleNumber outOfOrder) → RefusesBy (notBelow F prev) P
   notBelow-refuses F prev f h = guard-refuses F _ outOfOrder f h
 
-  pub counted-refuses : {A : Type 0} (C : Format ℕ) (E : List ℕ → Format A) → RefusesBy C P → ((prev : List ℕ) → RefusesBy (E prev) P) → RefusesBy (counted C E) P
+  pub counted-refuses : {A : Type 0} (C : Format ℕ) (E : List ℕ → Format A) → RefusesBy C P → ((prev : List ℕ) → RefusesBy (E prev) P)
+      → RefusesBy (counted C E) P
   unfolding counted
   counted-refuses C E f g = mapped-refuses (andThen C (series E)) (λ v. v .1) (then-refuses C (series E) f (λ n. series-refuses E [] n g))
 
   -- ---- the whole of a byte string
 
-  pub whole-refuses : {A : Type 0} (F : Format A) (most : ℕ) → RefusesBy F P → P tooLong → P bytesAfterEnd → (s : List ℕ) (e : Refusal) → whole F most s refused took ≡ refused e → P (e .number)
+  pub whole-refuses : {A : Type 0} (F : Format A) (most : ℕ) → RefusesBy F P → P tooLong → P bytesAfterEnd → (s : List ℕ) (e : Refusal)
+      → whole F most s refused took ≡ refused e → P (e .number)
   whole-refuses F most f h k s e =
       pick-refuses (leb (length s) most) (refusal tooLong 0) _ e h
       (run-refuses F s 0 _ e f (λ v n. pick-refuses (eqb n (length s)) (refusal bytesAfterEnd n) _ e k (λ q. took-refused v n e q)))

@@ -1,0 +1,36 @@
+-- By which numbers strings are refused. Assumes nothing.
+use Prim.Native.Nat.{ℕ, _+_}
+use lib.ListN.{length}
+use lib.Dec.{leb, ltb, eqb}
+use Rattle.wire.specs.Numbers.{ruleNumber, cutShort, badLength, notPrintable, badDenomination}
+use Rattle.wire.specs.Fields.{number, blob}
+use Rattle.wire.specs.Sequence.{andThen, guard}
+use Rattle.wire.proofs.Refusing.{RefusesBy, blob-refuses, number-refuses, then-refuses, guard-refuses, guardAt-refuses, mapped-refuses}
+use Rattle.string.specs.Strings.{lengthTo, string, unprintable, unprintable-within, printable, text, denomination}
+
+module _ (P : ℕ → Type 0) (short : P (ruleNumber cutShort)) where
+  pub string-refuses : (w most : ℕ) → P (ruleNumber badLength) → RefusesBy (string w most) P
+  unfolding string
+  string-refuses w most h =
+      mapped-refuses P (andThen (lengthTo w most) blob) (λ v. v .1)
+      (then-refuses P (lengthTo w most) blob
+      (guard-refuses P (number w) (λ n. leb n most) badLength (number-refuses P w short) h) (λ n. blob-refuses P n short))
+
+  printable-refuses : (n : ℕ) → P (ruleNumber notPrintable) → RefusesBy (printable n) P
+  unfolding printable
+  printable-refuses n h =
+      guardAt-refuses P (blob n) (λ b. eqb (unprintable b) (length b)) notPrintable (blob-refuses P n short) h
+      (λ at b. at + unprintable b) (λ at b k. unprintable-within n at b)
+
+  pub text-refuses : (most : ℕ) → P (ruleNumber badLength) → P (ruleNumber notPrintable) → RefusesBy (text most) P
+  unfolding text
+  text-refuses most h k =
+      mapped-refuses P (andThen (guard (guard (number 2) (λ n. ltb 0 n) badLength) (λ n. leb n most) badLength) printable) (λ v. v .1)
+      (then-refuses P (guard (guard (number 2) (λ n. ltb 0 n) badLength) (λ n. leb n most) badLength) printable
+      (guard-refuses P (guard (number 2) (λ n. ltb 0 n) badLength) (λ n. leb n most) badLength
+      (guard-refuses P (number 2) (λ n. ltb 0 n) badLength (number-refuses P 2 short) h) h)
+      (λ n. printable-refuses n k))
+
+  pub denomination-refuses : P (ruleNumber badDenomination) → RefusesBy denomination P
+  unfolding denomination
+  denomination-refuses h = guard-refuses P (number 1) (λ n. leb n 32) badDenomination (number-refuses P 1 short) h
