@@ -7,3 +7,4 @@ pub mod Trip
 pub mod Owing
 pub mod Theorems
 pub mod Calling
+pub mod Numbering

@@ -1,4 +1,5 @@
--- What every step owes, whatever state and buffer it is given. Assumes nothing.
+-- What every step owes, whatever state and buffer it is given: it answers as a verdict says, and the verdict's number is P where the numbers of its
+-- tests are. Assumes nothing.
 use Prim.Native.Nat.{ℕ, suc, _+_, _≤_}
 use mathlib.Core.Path.{_≡_, refl, sym, subst}
 use mathlib.Core.Bool.{Bool, true, false, _&&_}
@@ -6,144 +7,182 @@ use mathlib.Core.List.{List, _++_}
 use native.Mathlib.Omega.{arith}
 use lib.ListN.{length, take}
 use lib.Dec.{eqb, leb}
-use Rattle.wire.specs.Bytes.{pick}
-use Rattle.wire.specs.Numbers.{ruled-range, ruleNumber, cutShort, emptyList, bytesAfterEnd, refusal, noRoom, stepNotDue}
-use Rattle.wire.specs.declared.Refusal.{Refusal}
-use Rattle.wire.specs.Format.{Format, Result, took, onResult, read}
-use Rattle.wire.specs.Format as Format
+use borrow.Author.Tests.{leb-true}
+use Rattle.wire.specs.Bytes.{pick, digits, length-digits}
+use Rattle.wire.specs.Numbers.{ruleNumber, cutShort, emptyList, bytesAfterEnd, noRoom, stepNotDue}
+use Rattle.wire.specs.Format.{Format, Result, took, refused, onResult, read}
+use Rattle.wire.proofs.Refusing.{RefusesBy}
 use Rattle.transaction.specs.Signed.{mostBytes}
 use Rattle.transaction.specs.Plan.{Plan, shut, end, field, many}
 use Rattle.transaction.specs.Family.{Family, head, unsigned}
 use Rattle.transaction.specs.declared.Segment.{Segment}
 use Rattle.judge.specs.Given.{Given, headBytes, given}
-use Rattle.judge.specs.Judged.{judged}
+use Rattle.judge.specs.Judged.{judged, onFine}
 use Rattle.judge.specs.declared.Verdict.{Verdict}
 use Rattle.judge.specs.declared.Verdict.the-variants as J
-use Rattle.judge.proofs.Verdicts.{judged-read}
-use Rattle.due.specs.Plans.{isSegment, due, planOf}
+use Rattle.judge.proofs.Verdicts.{pick-fine, both-true, judged-read, judged-then, judged-on}
+use Rattle.due.specs.Plans.{isSegment, planOf}
 use Rattle.buffer.specs.Stores.{roomFor, overwrite}
+use Rattle.buffer.proofs.Stores.{room-inv, length-overwrite}
 use Rattle.blank.specs.Closing.{closing, closable}
 use Rattle.writer.specs.declared.Writer.{Writer}
-use Rattle.writer.specs.declared.Written.the-variants as W
-use Rattle.writer.specs.Steps.{Turn, answered, guarded, sane, opening, opened, prev, grown, appended, putAt, closeAt, finishAt, start, put, close, finish}
-use Rattle.run.specs.Runs.{Act, starts, puts, closes, finishes, act}
-use Rattle.run.specs.Claims.{StepsOwe}
+use Rattle.writer.specs.Steps.{Turn, answered, guarded, sane, opening, opened, prev, grown, appended, putAt, closeAt, finishAt, start}
+use Rattle.writer.proofs.Laws.{guarded-inv}
 
--- a number of the table, as the writer gives them
-abbrev Tabled : Verdict → Type 0
-Tabled J.Fine = Unit {0}
-Tabled (J.Refuse n) = (2 ≤ n) × (n ≤ 16)
+-- ---- the number of a verdict
 
-pick-tabled : (t : Bool) (v : Verdict) (n : ℕ) → Tabled v → 2 ≤ n → n ≤ 16 → Tabled (pick t v (J.Refuse n))
-pick-tabled true v n h a b = h
-pick-tabled false v n h a b = (a, b)
+abbrev pub Numbered : (ℕ → Type 0) → Verdict → Type 0
+Numbered P J.Fine = Unit {0}
+Numbered P (J.Refuse n) = P n
 
-guarded-tabled : (t : Bool) (w : Writer) (s : List ℕ) (v : Verdict) → Tabled v → Tabled (guarded t w s v)
-guarded-tabled t w s v h = pick-tabled t _ stepNotDue (pick-tabled (leb (w .at) (length s)) v noRoom h (omega arith) (omega arith)) (omega arith) (omega arith)
-
-room-tabled : (n : ℕ) (s : List ℕ) → Tabled (roomFor n s)
-unfolding roomFor
-room-tabled n s = pick-tabled (leb n (length s)) _ noRoom (pick-tabled (leb n mostBytes) J.Fine noRoom tt (omega arith) (omega arith)) (omega arith) (omega arith)
-
-judged-tabled : {A : Type 0} (F : Format A) (g : Given) (v : Verdict) → Tabled v → Tabled (judged F g v)
-judged-tabled {A} F g v h = subst Tabled (sym (judged-read F g v)) (pick-tabled (g .whole) _ (ruleNumber cutShort) (go (read F (g .bytes) 0) refl) (omega arith) (omega arith))
-  where
-    go : (o : Result A) → read F (g .bytes) 0 ≡ o → Tabled (onResult o (λ e. J.Refuse (e .number)) (λ a m. pick (eqb m (length (g .bytes))) v (J.Refuse bytesAfterEnd)))
-    go (took a m) r = pick-tabled (eqb m (length (g .bytes))) v bytesAfterEnd h (omega arith) (omega arith)
-    go (Format.refused e) r = let (a, b) = ruled-range (e .number) (F .ruled (g .bytes) 0 e r) in (a, omega arith)
-
--- a step that answers as its verdict says
-pub record Owed (w : Writer) (s : List ℕ) (t : Turn) : Type 0 where
+-- a step that answers as its verdict says; what it leaves is as long as what it was given
+pub record Owed (P : ℕ → Type 0) (w : Writer) (s : List ℕ) (t : Turn) : Type 0 where
   pub verdict : Verdict
-  pub numbered : Tabled verdict
+  pub numbered : Numbered P verdict
   pub next : Writer
   pub buffer : List ℕ
   pub is : t ≡ answered verdict w s next buffer
+  pub long : verdict ≡ J.Fine → length buffer ≡ length s
 
-none-owed : (w : Writer) (s : List ℕ) → Owed w s (answered (J.Refuse stepNotDue) w s w s)
-none-owed w s = record { verdict = J.Refuse stepNotDue; numbered = (omega arith, omega arith); next = w; buffer = s; is = refl }
+module _ (P : ℕ → Type 0) where
+  pub pick-numbered : (t : Bool) (v : Verdict) (n : ℕ) → Numbered P v → P n → Numbered P (pick t v (J.Refuse n))
+  pick-numbered true v n h k = h
+  pick-numbered false v n h k = k
 
-put-owed : (q : Plan) (w : Writer) (s : List ℕ) (l : Segment) (g : Given) → Owed w s (putAt q w s l g)
-unfolding putAt
-put-owed shut w s l g = none-owed w s
-put-owed end w s l g = none-owed w s
-put-owed (field m F q) w s l g =
-    record {
-      verdict = guarded (isSegment l m) w s (judged (F .content) g (roomFor (w .at + length (g .bytes ++ opening q)) s));
-      numbered = guarded-tabled (isSegment l m) w s _ (judged-tabled (F .content) g _ (room-tabled (w .at + length (g .bytes ++ opening q)) s));
-      next = opened (w .kind) (suc (w .phase)) (w .at + length (g .bytes)) q;
-      buffer = overwrite s (w .at) (g .bytes ++ opening q);
-      is = refl;
-    }
-put-owed (many m E q) w s l g =
-    record {
-      verdict = guarded (isSegment l m && sane w) w s (judged (E .element (prev w s)) g (roomFor (w .at + length (g .bytes)) s));
-      numbered = guarded-tabled (isSegment l m && sane w) w s _ (judged-tabled (E .element (prev w s)) g _ (room-tabled (w .at + length (g .bytes)) s));
-      next = grown w (length (g .bytes));
-      buffer = appended w s (g .bytes);
-      is = refl;
-    }
+  on-numbered : (v u : Verdict) → Numbered P v → Numbered P u → Numbered P (onFine v u)
+  on-numbered J.Fine u h k = k
+  on-numbered (J.Refuse n) u h k = h
 
-close-owed : (q : Plan) (w : Writer) (s : List ℕ) → Owed w s (closeAt q w s)
-unfolding closeAt
-close-owed shut w s = none-owed w s
-close-owed end w s = none-owed w s
-close-owed (field m F q) w s = none-owed w s
-close-owed (many m E q) w s =
-    record {
-      verdict = guarded true w s (pick (leb (E .least) (w .count)) (roomFor (w .at + length (opening q)) s) (J.Refuse (ruleNumber emptyList)));
-      numbered = guarded-tabled true w s _ (pick-tabled (leb (E .least) (w .count)) _ (ruleNumber emptyList) (room-tabled (w .at + length (opening q)) s) (omega arith) (omega arith));
-      next = opened (w .kind) (suc (w .phase)) (w .at) q;
-      buffer = overwrite s (w .at) (opening q);
-      is = refl;
-    }
+  -- what is judged of bytes, by the numbers that their format refuses by
+  pub judged-numbered : {A : Type 0} (F : Format A) (g : Given) → RefusesBy F P → P (ruleNumber cutShort) → P bytesAfterEnd → Numbered P (judged F g J.Fine)
+  judged-numbered {A} F g f h k = subst (Numbered P) (sym (judged-read F g J.Fine)) (pick-numbered (g .whole) _ (ruleNumber cutShort) (go (read F (g .bytes) 0) refl) h)
+    where
+      go : (o : Result A) → read F (g .bytes) 0 ≡ o
+          → Numbered P (onResult o (λ e. J.Refuse (e .number)) (λ a m. pick (eqb m (length (g .bytes))) J.Fine (J.Refuse bytesAfterEnd)))
+      go (took a m) r = pick-numbered (eqb m (length (g .bytes))) J.Fine bytesAfterEnd tt k
+      go (refused e) r = f (g .bytes) 0 e r
 
-module _ (F : Family) where
-  finish-owed : (q : Plan) (w : Writer) (s : List ℕ) → Owed w s (finishAt F q w s)
-  unfolding finishAt closable
-  finish-owed shut w s = none-owed w s
-  finish-owed end w s =
-      record {
-        verdict = guarded true w s (judged (unsigned F) (given (take (w .at) s)) (roomFor (w .at + length (closing F (w .at) s)) s));
-        numbered = guarded-tabled true w s _ (judged-tabled (unsigned F) (given (take (w .at) s)) _ (room-tabled (w .at + length (closing F (w .at) s)) s));
-        next = opened (w .kind) (suc (w .phase)) (w .at + length (closing F (w .at) s)) shut;
-        buffer = overwrite s (w .at) (closing F (w .at) s);
-        is = refl;
-      }
-  finish-owed (field m C q) w s = none-owed w s
-  finish-owed (many m E q) w s = none-owed w s
+  -- ---- the numbers of every step
 
-  act-owed : (a : Act) (w : Writer) (s : List ℕ) → Owed w s (act F a w s)
-  unfolding start put close finish
-  act-owed (starts kind network chain) w s =
-      let ys : List ℕ = headBytes kind network chain in
-      let q : Plan = planOf F kind in
-      record {
-        verdict = guarded (eqb (w .phase) 0) w s (judged (head F) (given ys) (roomFor (length (ys ++ opening q)) s));
-        numbered = guarded-tabled (eqb (w .phase) 0) w s _ (judged-tabled (head F) (given ys) _ (room-tabled (length (ys ++ opening q)) s));
-        next = opened kind 1 (length ys) q;
-        buffer = overwrite s 0 (ys ++ opening q);
-        is = refl;
-      }
-  act-owed (puts l g) w s = put-owed (due (w .phase) (planOf F (w .kind))) w s l g
-  act-owed closes w s = close-owed (due (w .phase) (planOf F (w .kind))) w s
-  act-owed finishes w s = finish-owed (due (w .phase) (planOf F (w .kind))) w s
+  module _ (room : P noRoom) (due : P stepNotDue) where
+    guarded-numbered : (t : Bool) (w : Writer) (s : List ℕ) (v : Verdict) → (t ≡ true → Numbered P v) → Numbered P (guarded t w s v)
+    guarded-numbered true w s v h = pick-numbered (leb (w .at) (length s)) v noRoom (h refl) room
+    guarded-numbered false w s v h = due
 
-answered-refused : (v : Verdict) → Tabled v → (w : Writer) (s : List ℕ) (w′ : Writer) (s′ : List ℕ) (e : Refusal) → answered v w s w′ s′ .step .answer ≡ W.Refused e
-    → ((answered v w s w′ s′ .step .next ≡ w) × (answered v w s w′ s′ .buffer ≡ s)) × ((2 ≤ e .number) × (e .number ≤ 16) × (e .place ≡ 0))
-unfolding answered
-answered-refused J.Fine t w s w′ s′ e h = let z : _≡_ {A = ℕ} 0 1 = cc in absurd (omega arith)
-answered-refused (J.Refuse n) (a, b) w s w′ s′ e h =
-    let i : refusal n 0 ≡ e = cc in
-    ((refl, refl), subst (λ (r : Refusal). (2 ≤ r .number) × (r .number ≤ 16) × (r .place ≡ 0)) i (a, b, refl))
+    room-numbered : (n : ℕ) (s : List ℕ) → Numbered P (roomFor n s)
+    unfolding roomFor
+    room-numbered n s = pick-numbered (leb n (length s)) _ noRoom (pick-numbered (leb n mostBytes) J.Fine noRoom tt room) room
 
-module _ (F : Family) where
-  refused : (a : Act) (w : Writer) (s : List ℕ) (e : Refusal) → act F a w s .step .answer ≡ W.Refused e
-      → ((act F a w s .step .next ≡ w) × (act F a w s .buffer ≡ s)) × ((2 ≤ e .number) × (e .number ≤ 16) × (e .place ≡ 0))
-  refused a w s e =
-      let o = act-owed F a w s in
-      subst (λ (t : Turn). t .step .answer ≡ W.Refused e → ((t .step .next ≡ w) × (t .buffer ≡ s)) × ((2 ≤ e .number) × (e .number ≤ 16) × (e .place ≡ 0))) (sym (o .is))
-      (answered-refused (o .verdict) (o .numbered) w s (o .next) (o .buffer) e)
+    then-room : {A : Type 0} (F : Format A) (g : Given) (n : ℕ) (s : List ℕ) → Numbered P (judged F g J.Fine) → Numbered P (judged F g (roomFor n s))
+    then-room F g n s h = subst (Numbered P) (sym (judged-on F g (roomFor n s))) (on-numbered (judged F g J.Fine) (roomFor n s) h (room-numbered n s))
 
-  pub steps-owe : StepsOwe F
-  steps-owe = record { refused-unchanged = λ a w s e h. refused a w s e h .0; refused-numbers = λ a w s e h. refused a w s e h .1 }
+    none-owed : (w : Writer) (s : List ℕ) → Owed P w s (answered (J.Refuse stepNotDue) w s w s)
+    none-owed w s = record { verdict = J.Refuse stepNotDue; numbered = due; next = w; buffer = s; is = refl; long = λ e. refl }
+
+    -- ---- a field, or an element
+
+    -- what is judged by the part of that name, if it is due
+    abbrev pub Judges : Writer → List ℕ → Segment → Given → Plan → Type 0
+    Judges w s l g shut = Unit {0}
+    Judges w s l g end = Unit {0}
+    Judges w s l g (field m C q) = isSegment l m ≡ true → Numbered P (judged (C .content) g J.Fine)
+    Judges w s l g (many m E q) = isSegment l m ≡ true → Numbered P (judged (E .element (prev w s)) g J.Fine)
+
+    pub put-owed : (q : Plan) (w : Writer) (s : List ℕ) (l : Segment) (g : Given) → Judges w s l g q → Owed P w s (putAt q w s l g)
+    unfolding putAt appended
+    put-owed shut w s l g h = none-owed w s
+    put-owed end w s l g h = none-owed w s
+    put-owed (field m C q) w s l g h =
+        let ys : List ℕ = g .bytes ++ opening q in
+        let R : Verdict = roomFor (w .at + length ys) s in
+        record {
+          verdict = guarded (isSegment l m) w s (judged (C .content) g R);
+          numbered = guarded-numbered (isSegment l m) w s _ (λ e. then-room (C .content) g (w .at + length ys) s (h e));
+          next = opened (w .kind) (suc (w .phase)) (w .at + length (g .bytes)) q;
+          buffer = overwrite s (w .at) ys;
+          is = refl;
+          long = λ e.
+              let (_, _, j) = guarded-inv (isSegment l m) w s (judged (C .content) g R) e in
+              length-overwrite s ys (w .at) (room-inv (w .at + length ys) s (judged-then (C .content) g R j) .0);
+        }
+    put-owed (many m E q) w s l g h =
+        let ys : List ℕ = g .bytes in
+        let R : Verdict = roomFor (w .at + length ys) s in
+        record {
+          verdict = guarded (isSegment l m && sane w) w s (judged (E .element (prev w s)) g R);
+          numbered = guarded-numbered (isSegment l m && sane w) w s _ (λ e. then-room (E .element (prev w s)) g (w .at + length ys) s (h (both-true (isSegment l m) (sane w) e .0)));
+          next = grown w (length ys);
+          buffer = appended w s ys;
+          is = refl;
+          long = λ e.
+              let (t, _, j) = guarded-inv (isSegment l m && sane w) w s (judged (E .element (prev w s)) g R) e in
+              let (fits, _) = room-inv (w .at + length ys) s (judged-then (E .element (prev w s)) g R j) in
+              let (inside, _) = both-true (leb (w .list + 4) (w .at)) _ (both-true (isSegment l m) (sane w) t .1) in
+              let first : length (overwrite s (w .at) ys) ≡ length s = length-overwrite s ys (w .at) fits in
+              let count : List ℕ = digits 4 (w .count + 1) in
+              let there : w .list + length count ≤ length (overwrite s (w .at) ys) = omega (arith, leb-true (w .list + 4) (w .at) inside, length-digits 4 (w .count + 1)) in
+              omega (arith, length-overwrite (overwrite s (w .at) ys) count (w .list) there);
+        }
+
+    -- ---- the other steps
+
+    pub close-owed : P (ruleNumber emptyList) → (q : Plan) (w : Writer) (s : List ℕ) → Owed P w s (closeAt q w s)
+    unfolding closeAt
+    close-owed h shut w s = none-owed w s
+    close-owed h end w s = none-owed w s
+    close-owed h (field m C q) w s = none-owed w s
+    close-owed h (many m E q) w s =
+        let R : Verdict = roomFor (w .at + length (opening q)) s in
+        let rules : Verdict = pick (leb (E .least) (w .count)) R (J.Refuse (ruleNumber emptyList)) in
+        record {
+          verdict = guarded true w s rules;
+          numbered = guarded-numbered true w s rules (λ e. pick-numbered (leb (E .least) (w .count)) R (ruleNumber emptyList) (room-numbered (w .at + length (opening q)) s) h);
+          next = opened (w .kind) (suc (w .phase)) (w .at) q;
+          buffer = overwrite s (w .at) (opening q);
+          is = refl;
+          long = λ e.
+              let (_, _, r) = guarded-inv true w s rules e in
+              let (_, i) = pick-fine (leb (E .least) (w .count)) R (ruleNumber emptyList) r in
+              length-overwrite s (opening q) (w .at) (room-inv (w .at + length (opening q)) s i .0);
+        }
+
+    module _ (F : Family) where
+      pub finish-owed : RefusesBy (unsigned F) P → P (ruleNumber cutShort) → P bytesAfterEnd → (q : Plan) (w : Writer) (s : List ℕ) → Owed P w s (finishAt F q w s)
+      unfolding finishAt closable
+      finish-owed f h k shut w s = none-owed w s
+      finish-owed f h k end w s =
+          let ys : List ℕ = closing F (w .at) s in
+          let R : Verdict = roomFor (w .at + length ys) s in
+          let rules : Verdict = judged (unsigned F) (given (take (w .at) s)) R in
+          record {
+            verdict = guarded true w s rules;
+            numbered = guarded-numbered true w s rules
+                (λ e. then-room (unsigned F) (given (take (w .at) s)) (w .at + length ys) s (judged-numbered (unsigned F) (given (take (w .at) s)) f h k));
+            next = opened (w .kind) (suc (w .phase)) (w .at + length ys) shut;
+            buffer = overwrite s (w .at) ys;
+            is = refl;
+            long = λ e.
+                let (_, _, r) = guarded-inv true w s rules e in
+                length-overwrite s ys (w .at) (room-inv (w .at + length ys) s (judged-then (unsigned F) (given (take (w .at) s)) R r) .0);
+          }
+      finish-owed f h k (field m C q) w s = none-owed w s
+      finish-owed f h k (many m E q) w s = none-owed w s
+
+      module _ (w : Writer) (s : List ℕ) (kind network : ℕ) (chain : List ℕ) where
+        pub start-owed : Numbered P (judged (head F) (given (headBytes kind network chain)) J.Fine) → Owed P w s (start F w s kind network chain)
+        unfolding start
+        start-owed h =
+            let ys : List ℕ = headBytes kind network chain in
+            let zs : List ℕ = ys ++ opening (planOf F kind) in
+            let R : Verdict = roomFor (length zs) s in
+            let rules : Verdict = judged (head F) (given ys) R in
+            record {
+              verdict = guarded (eqb (w .phase) 0) w s rules;
+              numbered = guarded-numbered (eqb (w .phase) 0) w s rules (λ e. then-room (head F) (given ys) (length zs) s h);
+              next = opened kind 1 (length ys) (planOf F kind);
+              buffer = overwrite s 0 zs;
+              is = refl;
+              long = λ e.
+                  let (_, _, r) = guarded-inv (eqb (w .phase) 0) w s rules e in
+                  length-overwrite s zs 0 (omega (arith, room-inv (length zs) s (judged-then (head F) (given ys) R r) .0));
+            }

@@ -3,11 +3,10 @@ use Rattle.transaction.specs.Avm.{plan, avm}
 use Rattle.transaction.specs.Answer.{memoMost}
 use Rattle.transaction.specs.declared.Kind.{Kind}
 use Rattle.transaction.specs.declared.Kind.the-variants as K
-use Rattle.run.specs.Claims.{FinishedIsAccepted, RoundTrip, StepsOwe}
+use Rattle.run.specs.Claims.{FinishedIsAccepted, RoundTrip}
 use Rattle.run.proofs.Finishing.{finished-is-accepted}
 use Rattle.run.proofs.Spelling.{Ends}
 use Rattle.run.proofs.Trip.{round-trip}
-use Rattle.run.proofs.Owing.{steps-owe}
 
 ends : (k : Kind) → Ends (plan memoMost k)
 ends K.Base = tt
@@ -21,6 +20,3 @@ avm-finished = finished-is-accepted (avm memoMost)
 
 pub avm-round-trip : RoundTrip (avm memoMost)
 avm-round-trip = round-trip (avm memoMost) ends
-
-pub avm-steps-owe : StepsOwe (avm memoMost)
-avm-steps-owe = steps-owe (avm memoMost)

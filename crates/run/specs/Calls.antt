@@ -8,6 +8,7 @@ use lib.ListN.{length, take}
 use Rattle.wire.specs.Bytes.{Bytes}
 use Rattle.wire.specs.Numbers.{noRoom, stepNotDue}
 use Rattle.wire.specs.Format.{took}
+use Rattle.wire.specs.Orders.{OneOf}
 use Rattle.wire.specs.declared.Refusal.{Refusal}
 use Rattle.element.specs.Outputs.{Output, secpMint, secpTransfer, nftMint, nftTransfer, TransferableOutput}
 use Rattle.element.specs.Inputs.{Input}
@@ -24,7 +25,7 @@ use Rattle.transaction.specs.declared.Kind.the-variants as K
 use Rattle.writer.specs.declared.Writer.{Writer}
 use Rattle.writer.specs.declared.Written.the-variants as W
 use Rattle.writer.specs.Steps as Steps
-use Rattle.writer.specs.Steps.{Turn}
+use Rattle.writer.specs.Steps.{Turn, writtenNumber, writtenPlace}
 use Rattle.writer.specs.Fields.{addOutput, addInput, addOperation, addInitialState, putMemo, putName, putSymbol, putDenomination, putChain}
 
 pub data Call : Type 0 where
@@ -127,6 +128,24 @@ abbrev pub readingCalls : Unsigned (avm memoMost) → List Call
 readingCalls (h, (outs, (ins, (note, own)))) =
     start (kindCode (h .kind)) (h .network) (h .chain) ∷ listCalls outputCall outs (listCalls inputCall ins (memo note ∷ ownCalls (h .kind) own))
 
+-- ---- the numbers that a call answers with, whatever the state and the buffer
+
+-- 0 is done, 16 and 14 are of every step; the others are the rules that what the call is given can break. Of finish they are those that bytes
+-- before a forged state can break: behind a run from a fresh writer it refuses by 14 and 16 only (`MethodsFinish.refused-by`)
+abbrev pub callNumbers : Call → List ℕ
+callNumbers (start kind network id) = 0 ∷ 4 ∷ 14 ∷ 16 ∷ []
+callNumbers (output asset amount locktime threshold addresses) = 0 ∷ 2 ∷ 5 ∷ 6 ∷ 7 ∷ 14 ∷ 16 ∷ []
+callNumbers (input txid index asset amount indices) = 0 ∷ 5 ∷ 6 ∷ 14 ∷ 16 ∷ []
+callNumbers (operation b) = 0 ∷ 2 ∷ 4 ∷ 6 ∷ 7 ∷ 8 ∷ 13 ∷ 14 ∷ 16 ∷ []
+callNumbers (state b) = 0 ∷ 2 ∷ 4 ∷ 5 ∷ 6 ∷ 7 ∷ 8 ∷ 13 ∷ 14 ∷ 16 ∷ []
+callNumbers (memo b) = 0 ∷ 8 ∷ 14 ∷ 16 ∷ []
+callNumbers (name b) = 0 ∷ 8 ∷ 9 ∷ 14 ∷ 16 ∷ []
+callNumbers (symbol b) = 0 ∷ 8 ∷ 9 ∷ 14 ∷ 16 ∷ []
+callNumbers (chain c) = 0 ∷ 14 ∷ 16 ∷ []
+callNumbers (denomination n) = 0 ∷ 10 ∷ 14 ∷ 16 ∷ []
+callNumbers close = 0 ∷ 11 ∷ 14 ∷ 16 ∷ []
+callNumbers finish = 0 ∷ 2 ∷ 3 ∷ 4 ∷ 5 ∷ 6 ∷ 7 ∷ 8 ∷ 9 ∷ 10 ∷ 11 ∷ 13 ∷ 14 ∷ 16 ∷ []
+
 -- ---- what is claimed of the methods
 
 -- finish behind a run of calls from a fresh writer over the buffer s
@@ -146,3 +165,22 @@ pub record MethodsRoundTrip : Type 0 where
       → finishBehind (readingCalls (v .0)) s .step .answer ≡ W.Done (length d)
   pub filled : (d : List ℕ) (v : Signed (avm memoMost)) (n : ℕ) → Bytes d → check (avm memoMost) d ≡ took v n → (s : List ℕ) → length d ≤ length s
       → putAll (Any.slotsAt (unsigned (avm memoMost)) (wants (avm memoMost)) d) (slotAt d) (take (length d) (finishBehind (readingCalls (v .0)) s .buffer)) ≡ d
+
+-- a call's answer: its number, and its place
+abbrev pub numberOf : Call → Writer → List ℕ → ℕ
+numberOf c w s = writtenNumber (call c w s .step .answer)
+
+abbrev pub placeOf : Call → Writer → List ℕ → ℕ
+placeOf c w s = writtenPlace (call c w s .step .answer)
+
+-- any call, any state, any buffer
+pub record MethodsOwe : Type 0 where
+  pub number : (c : Call) → Typed c → (w : Writer) (s : List ℕ) → OneOf (numberOf c w s) (callNumbers c)
+  -- a refusal changes neither state nor buffer, and its place is 0
+  pub refused-state : (c : Call) (w : Writer) (s : List ℕ) → (numberOf c w s ≡ 0 → ⊥) → call c w s .step .next ≡ w
+  pub refused-buffer : (c : Call) (w : Writer) (s : List ℕ) → (numberOf c w s ≡ 0 → ⊥) → call c w s .buffer ≡ s
+  pub refused-place : (c : Call) (w : Writer) (s : List ℕ) → (numberOf c w s ≡ 0 → ⊥) → placeOf c w s ≡ 0
+  -- what is done reports the bytes written so far
+  pub done-place : (c : Call) (w : Writer) (s : List ℕ) → numberOf c w s ≡ 0 → placeOf c w s ≡ call c w s .step .next .at
+  -- refused or done
+  pub length-kept : (c : Call) (w : Writer) (s : List ℕ) → length (call c w s .buffer) ≡ length s

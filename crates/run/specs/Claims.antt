@@ -1,5 +1,5 @@
 -- Demand 2, second half: whatever the writer finishes is accepted, and writing the reading of a transaction and filling its signatures gives its
--- bytes. Beside it what every step owes, whatever state and buffer it is given. Assumes nothing.
+-- bytes. What every call of the writer's methods owes is in Calls. Assumes nothing.
 use Prim.Native.Nat.{ℕ, _≤_}
 use mathlib.Core.Path.{_≡_}
 use mathlib.Core.Logic.{_⊎_}
@@ -14,10 +14,9 @@ use Rattle.transaction.specs.Slots.{slotAt, putAll}
 use Rattle.transaction.specs.Credentials.{layout, blanks}
 use Rattle.transaction.specs.Signed as Any
 use Rattle.transaction.specs.Family.{Family, Signed, unsigned, wants, check, accepted}
-use Rattle.writer.specs.declared.Writer.{Writer}
 use Rattle.writer.specs.declared.Written.the-variants as W
 use Rattle.writer.specs.Steps.{Turn, fresh, finish}
-use Rattle.run.specs.Runs.{Act, AllFair, act, run, AllDone, spelled}
+use Rattle.run.specs.Runs.{Act, AllFair, run, AllDone, spelled}
 
 module _ (F : Family) where
   -- finish behind a run of steps from a fresh writer over the buffer s
@@ -39,8 +38,3 @@ module _ (F : Family) where
     -- each slot filled with its signature
     pub filled : (d : List ℕ) (v : Signed F) (n : ℕ) → Bytes d → check F d ≡ took v n → (s : List ℕ) → length d ≤ length s
         → putAll (Any.slotsAt (unsigned F) (wants F) d) (slotAt d) (take (length d) (finishBehind (spelled F (v .0)) s .buffer)) ≡ d
-
-  -- any state, any buffer
-  pub record StepsOwe : Type 0 where
-    pub refused-unchanged : (a : Act) (w : Writer) (s : List ℕ) (e : Refusal) → act F a w s .step .answer ≡ W.Refused e → (act F a w s .step .next ≡ w) × (act F a w s .buffer ≡ s)
-    pub refused-numbers : (a : Act) (w : Writer) (s : List ℕ) (e : Refusal) → act F a w s .step .answer ≡ W.Refused e → (2 ≤ e .number) × (e .number ≤ 16) × (e .place ≡ 0)
