@@ -1,20 +1,19 @@
 -- What every call of the writer's methods owes. A field or an element is judged by the part of its name that is due, and each name has one format
 -- whatever the type and the phase (`due-proper`); what is given as fields is judged by tests on these. Assumes nothing.
-use Prim.Native.Nat.{ℕ, zero, suc, _/_, _%_, _≤_, _<_, _^_}
+use Prim.Native.Nat.{ℕ, zero, suc, _/_, _%_, _≤_}
 use mathlib.Core.Path.{_≡_, refl, sym, ap, _∙_, subst}
 use mathlib.Core.Bool.{Bool, true, false, not, false≢true}
 use mathlib.Core.Logic.{inl}
 use mathlib.Core.List.{List, [], _∷_, _++_}
 use native.Mathlib.Omega.{arith}
-use lib.ListN.{length, take, getD}
+use lib.ListN.{length, take}
 use lib.Dec.{ltb, leb, eqb}
 use Rattle.wire.specs.Bytes.{pick, digits, below}
-use Rattle.wire.specs.Numbers.{ruleNumber, cutShort, unknownType, zeroAmount, outOfOrder, badThreshold, badLength, notPrintable, badDenomination, ruled-range, refusal}
+use Rattle.wire.specs.Numbers.{ruleNumber, cutShort, zeroAmount, outOfOrder, badThreshold, ruled-range}
 use Rattle.wire.specs.Format.{Format}
 use Rattle.wire.specs.Fields.{blob}
 use Rattle.wire.specs.Series.{notBelow}
 use Rattle.wire.specs.Orders.{OneOf}
-use Rattle.wire.specs.declared.Refusal.{Refusal}
 use Rattle.wire.proofs.Refusing.{RefusesBy, one-of, refuses-more}
 use Rattle.string.specs.Strings.{unprintable, memo, text, denomination}
 use Rattle.element.specs.Outputs.{transferableOutput}
@@ -39,14 +38,11 @@ use Rattle.judge.proofs.Outputs as Outputs
 use Rattle.judge.proofs.Inputs as Inputs
 use Rattle.due.specs.Plans.{due, planOf}
 use Rattle.writer.specs.declared.Writer.{Writer}
-use Rattle.writer.specs.declared.Written.the-variants as W
 use Rattle.writer.specs.Steps.{Turn, answered, prev, writtenNumber, writtenPlace, put, close, finish}
 use Rattle.writer.proofs.Fitting.{isListName, fieldOf, Elementary, Proper, due-proper, same-segment}
 use Rattle.run.specs.Calls as C
 use Rattle.run.specs.Calls.{Call, Words, Typed, call, callNumbers, numberOf, placeOf, MethodsOwe}
 use Rattle.run.proofs.Owing.{Numbered, Owed, Judges, pick-numbered, judged-numbered, put-owed, close-owed, finish-owed, start-owed}
-use mir.Val.{Fits}
-use mir.Syntax.{w32}
 
 -- ---- a step by its name
 
@@ -68,7 +64,8 @@ module _ (P : ℕ → Type 0) (room : P 14) (due′ : P 16) (w : Writer) (s : Li
       subst (λ (D : Field). Numbered P (judged (D .content) g J.Fine)) (sym (c ∙ ap fieldOf (same-segment l m e))) f
   field-judges n f (many m E q) (t, _, _) = λ e. absurd (false≢true (sym n ∙ ap isListName (sym (same-segment l m e)) ∙ t))
 
-  element-owed : isListName l ≡ true → ((E : Elements) → Elementary l E → Numbered P (judged (E .element (prev w s)) g J.Fine)) → Owed P w s (put (avm memoMost) w s l g)
+  element-owed : isListName l ≡ true → ((E : Elements) → Elementary l E → Numbered P (judged (E .element (prev w s)) g J.Fine))
+      → Owed P w s (put (avm memoMost) w s l g)
   unfolding put
   element-owed n f = put-owed P room due′ plan w s l g (list-judges n f plan (due-proper (w .phase) (w .kind)))
 
@@ -100,7 +97,8 @@ module _ (P : ℕ → Type 0) where
       (pick-numbered P (eachAbove (blob 20) [] (addressesOf (length addresses / 20) addresses)) after 6
       (pick-numbered P (not (below built last)) J.Fine 6 tt order) order) high) nothing) short)
 
-  input-numbered : (txid : List ℕ) (index : ℕ) (asset : List ℕ) (amount : ℕ) (indices last : List ℕ) → length txid ≡ 32 → length asset ≡ 32 → Words indices → P 5 → P 6
+  input-numbered : (txid : List ℕ) (index : ℕ) (asset : List ℕ) (amount : ℕ) (indices last : List ℕ) → length txid ≡ 32 → length asset ≡ 32 → Words indices
+      → P 5 → P 6
       → Numbered P (judged (input last) (inputGiven txid index asset amount indices) J.Fine)
   input-numbered txid index asset amount indices last h k words nothing order =
       let rises : Verdict = pick (rising indices) J.Fine (J.Refuse (ruleNumber outOfOrder)) in
@@ -130,7 +128,8 @@ module _ (P : ℕ → Type 0) where
   unfolding blob
   chain-numbered c h = subst (Numbered P) (sym (id-judged c h)) tt
 
-  head-numbered : (kind network : ℕ) (chain : List ℕ) → length chain ≡ 32 → P 4 → Numbered P (judged (head (avm memoMost)) (given (headBytes kind network chain)) J.Fine)
+  head-numbered : (kind network : ℕ) (chain : List ℕ) → length chain ≡ 32 → P 4
+      → Numbered P (judged (head (avm memoMost)) (given (headBytes kind network chain)) J.Fine)
   head-numbered kind network chain h k = subst (Numbered P) (sym (head-judged kind network chain h)) (pick-numbered P (ltb kind 5) J.Fine 4 tt k)
 
 -- ---- each call, by its own list
@@ -166,13 +165,15 @@ call-owed (C.operation b) typed w s =
     let has = one-of (callNumbers c) in
     element-owed (Among c) (has 14 refl) (has 16 refl) w s S.Operation (given b) refl
     (λ E i. elements-as (Among c) w s (given b) E _ i
-    (judged-numbered (Among c) Operations.operation (given b) (refuses-more Operations.operation operationNumbers (callNumbers c) refl operation-numbers) (has 2 refl) (has 13 refl)))
+    (judged-numbered (Among c) Operations.operation (given b)
+    (refuses-more Operations.operation operationNumbers (callNumbers c) refl operation-numbers) (has 2 refl) (has 13 refl)))
 call-owed (C.state b) typed w s =
     let c : Call = C.state b in
     let has = one-of (callNumbers c) in
     element-owed (Among c) (has 14 refl) (has 16 refl) w s S.State (given b) refl
     (λ E i. elements-as (Among c) w s (given b) E _ i
-    (judged-numbered (Among c) (initialState (prev w s)) (given b) (refuses-more (initialState (prev w s)) stateNumbers (callNumbers c) refl (state-numbers (prev w s)))
+    (judged-numbered (Among c) (initialState (prev w s)) (given b)
+    (refuses-more (initialState (prev w s)) stateNumbers (callNumbers c) refl (state-numbers (prev w s)))
     (has 2 refl) (has 13 refl)))
 call-owed (C.memo b) typed w s =
     let c : Call = C.memo b in

@@ -55,7 +55,9 @@ module _ (P : ℕ → Type 0) where
 
   -- what is judged of bytes, by the numbers that their format refuses by
   pub judged-numbered : {A : Type 0} (F : Format A) (g : Given) → RefusesBy F P → P (ruleNumber cutShort) → P bytesAfterEnd → Numbered P (judged F g J.Fine)
-  judged-numbered {A} F g f h k = subst (Numbered P) (sym (judged-read F g J.Fine)) (pick-numbered (g .whole) _ (ruleNumber cutShort) (go (read F (g .bytes) 0) refl) h)
+  judged-numbered {A} F g f h k =
+      subst (Numbered P) (sym (judged-read F g J.Fine))
+      (pick-numbered (g .whole) _ (ruleNumber cutShort) (go (read F (g .bytes) 0) refl) h)
     where
       go : (o : Result A) → read F (g .bytes) 0 ≡ o
           → Numbered P (onResult o (λ e. J.Refuse (e .number)) (λ a m. pick (eqb m (length (g .bytes))) J.Fine (J.Refuse bytesAfterEnd)))
@@ -110,7 +112,8 @@ module _ (P : ℕ → Type 0) where
         let R : Verdict = roomFor (w .at + length ys) s in
         record {
           verdict = guarded (isSegment l m && sane w) w s (judged (E .element (prev w s)) g R);
-          numbered = guarded-numbered (isSegment l m && sane w) w s _ (λ e. then-room (E .element (prev w s)) g (w .at + length ys) s (h (both-true (isSegment l m) (sane w) e .0)));
+          numbered = guarded-numbered (isSegment l m && sane w) w s _
+              (λ e. then-room (E .element (prev w s)) g (w .at + length ys) s (h (both-true (isSegment l m) (sane w) e .0)));
           next = grown w (length ys);
           buffer = appended w s ys;
           is = refl;
@@ -120,7 +123,8 @@ module _ (P : ℕ → Type 0) where
               let (inside, _) = both-true (leb (w .list + 4) (w .at)) _ (both-true (isSegment l m) (sane w) t .1) in
               let first : length (overwrite s (w .at) ys) ≡ length s = length-overwrite s ys (w .at) fits in
               let count : List ℕ = digits 4 (w .count + 1) in
-              let there : w .list + length count ≤ length (overwrite s (w .at) ys) = omega (arith, leb-true (w .list + 4) (w .at) inside, length-digits 4 (w .count + 1)) in
+              let there : w .list + length count ≤ length (overwrite s (w .at) ys) =
+              omega (arith, leb-true (w .list + 4) (w .at) inside, length-digits 4 (w .count + 1)) in
               omega (arith, length-overwrite (overwrite s (w .at) ys) count (w .list) there);
         }
 
@@ -136,7 +140,8 @@ module _ (P : ℕ → Type 0) where
         let rules : Verdict = pick (leb (E .least) (w .count)) R (J.Refuse (ruleNumber emptyList)) in
         record {
           verdict = guarded true w s rules;
-          numbered = guarded-numbered true w s rules (λ e. pick-numbered (leb (E .least) (w .count)) R (ruleNumber emptyList) (room-numbered (w .at + length (opening q)) s) h);
+          numbered = guarded-numbered true w s rules
+              (λ e. pick-numbered (leb (E .least) (w .count)) R (ruleNumber emptyList) (room-numbered (w .at + length (opening q)) s) h);
           next = opened (w .kind) (suc (w .phase)) (w .at) q;
           buffer = overwrite s (w .at) (opening q);
           is = refl;
@@ -147,7 +152,8 @@ module _ (P : ℕ → Type 0) where
         }
 
     module _ (F : Family) where
-      pub finish-owed : RefusesBy (unsigned F) P → P (ruleNumber cutShort) → P bytesAfterEnd → (q : Plan) (w : Writer) (s : List ℕ) → Owed P w s (finishAt F q w s)
+      pub finish-owed : RefusesBy (unsigned F) P → P (ruleNumber cutShort) → P bytesAfterEnd → (q : Plan) (w : Writer) (s : List ℕ)
+          → Owed P w s (finishAt F q w s)
       unfolding finishAt closable
       finish-owed f h k shut w s = none-owed w s
       finish-owed f h k end w s =

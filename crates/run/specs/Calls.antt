@@ -130,8 +130,8 @@ readingCalls (h, (outs, (ins, (note, own)))) =
 
 -- ---- the numbers that a call answers with, whatever the state and the buffer
 
--- 0 is done, 16 and 14 are of every step; the others are the rules that what the call is given can break. Of finish they are those that bytes
--- before a forged state can break: behind a run from a fresh writer it refuses by 14 and 16 only (`MethodsFinish.refused-by`)
+-- 0 is done, 16 and 14 are of every call; the others are the rules that what it is given can break. Finish reads the unsigned part back, so where
+-- no run of calls has left state and buffer it can answer by any rule of that part; behind a run it refuses by 14 and 16 only (`MethodsFinish`)
 abbrev pub callNumbers : Call → List ℕ
 callNumbers (start kind network id) = 0 ∷ 4 ∷ 14 ∷ 16 ∷ []
 callNumbers (output asset amount locktime threshold addresses) = 0 ∷ 2 ∷ 5 ∷ 6 ∷ 7 ∷ 14 ∷ 16 ∷ []
