@@ -8,3 +8,4 @@ pub mod Owing
 pub mod Theorems
 pub mod Calling
 pub mod Numbering
+pub mod Occurring

@@ -2,3 +2,4 @@
 pub mod Runs
 pub mod Claims
 pub mod Calls
+pub mod Occurring

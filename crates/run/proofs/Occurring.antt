@@ -1,0 +1,288 @@
+-- Each number of a call's list occurs: calls that are computed. Assumes nothing.
+use Prim.Native.Nat.{ℕ, _<_, _^_}
+use mathlib.Core.Path.{_≡_, refl, sym, subst}
+use mathlib.Core.Logic.{⊎-elim}
+use mathlib.Core.Bool.{Bool, true, false, false≢true}
+use mathlib.Core.List.{List, [], _∷_, _++_}
+use native.Mathlib.Omega.{arith}
+use lib.ListN.{length, replicate}
+use lib.Dec.{ltb}
+use borrow.Author.Tests.{ltb-true}
+use Rattle.wire.specs.Bytes.{Bytes, pick, value, digits, below}
+use Rattle.wire.specs.Fields.{blob, blobRun, number, constant}
+use Rattle.wire.specs.Sequence.{tag}
+use Rattle.wire.specs.Series.{listRun, listWrite, items}
+use Rattle.wire.specs.Orders.{OneOf}
+use Rattle.string.specs.Strings.{string, text, unprintable, denomination}
+use Rattle.element.specs.Owners.{owners}
+use Rattle.element.specs.Outputs as Outputs
+use Rattle.element.specs.Outputs.{transferBody, transferableOutput}
+use Rattle.element.specs.Inputs.{key, spend, inputAfter}
+use Rattle.element.specs.Operations as Operations
+use Rattle.element.specs.Operations.{terms, action, fxId, stateOutputs, initialStateAfter}
+use Rattle.transaction.specs.Credentials.{credentials}
+use Rattle.transaction.specs.Plan.{atLeast, form}
+use Rattle.transaction.specs.Family.{head, unsigned, wants}
+use Rattle.judge.specs.Given.{addressesOf}
+use Rattle.judge.specs.Judged.{judged}
+use Rattle.buffer.specs.Stores.{roomFor}
+use Rattle.blank.specs.Closing.{closing, closable}
+use Rattle.writer.specs.declared.Writer.{Writer}
+use Rattle.writer.specs.Steps.{answered, prev, putAt, closeAt, finishAt, put, close, finish}
+use Rattle.writer.specs.Steps as Steps
+use Rattle.run.specs.Calls as C
+use Rattle.run.specs.Calls.{Call, Words, Typed, callNumbers, numberOf}
+use Rattle.run.specs.Occurring.{Method, start, output, input, operation, state, memo, name, symbol, chain, methodOf, Occurs, NumbersOccur}
+use Rattle.run.specs.Occurring as M
+
+-- ---- what the calls are given
+
+-- a list of bytes, by a test
+abbrev eachByte : List ℕ → Bool
+eachByte [] = true
+eachByte (x ∷ s) = pick (ltb x 256) (eachByte s) false
+
+bytes-of : (s : List ℕ) → eachByte s ≡ true → Bytes s
+bytes-of [] h = tt
+bytes-of (x ∷ s) h = turn (ltb x 256) refl h (bytes-of s)
+  where
+    turn : (b : Bool) → ltb x 256 ≡ b → pick b (eachByte s) false ≡ true → (eachByte s ≡ true → Bytes s) → (x < 256) × Bytes s
+    turn true p h on = (ltb-true x 256 p, on h)
+    turn false p h on = absurd (false≢true h)
+
+abbrev zeros : ℕ → List ℕ
+zeros n = replicate n 0
+
+abbrev word : ℕ → List ℕ
+word n = 0 ∷ 0 ∷ 0 ∷ n ∷ []
+
+-- behind n bytes, with the list's count in the first four
+abbrev at : ℕ → ℕ → ℕ → Writer
+at kind phase n = record { kind = kind; phase = phase; at = n; list = 0; count = 0; last = 0 }
+
+-- a number, and that it occurs
+abbrev Case : Method → Type 0
+Case m = (n : ℕ) × Occurs m n
+
+abbrev occurs : (c : Call) → Typed c → (w : Writer) (s : List ℕ) → eachByte s ≡ true → (n : ℕ) → numberOf c w s ≡ n → Case (methodOf c)
+occurs c typed w s h n e = (n, record { call = c; of = refl; typed = typed; before = w; buffer = s; bytes = bytes-of s h; answers = e })
+
+abbrev numbers : (m : Method) → List (Case m) → List ℕ
+numbers m [] = []
+numbers m ((n, o) ∷ l) = n ∷ numbers m l
+
+one-occurs : (m : Method) (l : List (Case m)) (n : ℕ) → OneOf n (numbers m l) → Occurs m n
+one-occurs m [] n h = absurd h
+one-occurs m ((k, o) ∷ l) n h = ⊎-elim (λ e. subst (Occurs m) (sym e) o) (one-occurs m l n) h
+
+-- ---- start
+
+abbrev starts : (kind : ℕ) → kind < 256 ^ 4 → (w : Writer) (s : List ℕ) → eachByte s ≡ true → (n : ℕ)
+    → numberOf (C.start kind 0 (zeros 32)) w s ≡ n → Case start
+starts kind h w s = occurs (C.start kind 0 (zeros 32)) (h, omega arith, (refl, bytes-of (zeros 32) refl)) w s
+
+unfoldable start-cases : List (Case start)
+unfolding Steps.start judged answered roomFor digits value blobRun number head constant tag
+start-cases =
+    starts 0 (omega arith) (at 0 0 0) (zeros 46) refl 0 refl
+    ∷ starts 5 (omega arith) (at 0 0 0) [] refl 4 refl
+    ∷ starts 0 (omega arith) (at 0 0 0) [] refl 14 refl
+    ∷ starts 0 (omega arith) (at 0 1 0) [] refl 16 refl
+    ∷ []
+
+-- ---- output
+
+abbrev gives : (amount threshold : ℕ) (addresses : List ℕ) → amount < 256 ^ 8 → threshold < 256 ^ 4 → eachByte addresses ≡ true
+    → (w : Writer) (s : List ℕ) → eachByte s ≡ true → (n : ℕ) → numberOf (C.output (zeros 32) amount 0 threshold addresses) w s ≡ n → Case output
+gives amount threshold addresses h k b w s =
+    occurs (C.output (zeros 32) amount 0 threshold addresses) ((refl, bytes-of (zeros 32) refl), h, omega arith, k, bytes-of addresses b) w s
+
+unfoldable output-cases : List (Case output)
+unfolding put putAt judged answered prev roomFor addressesOf value digits below blob blobRun number listRun listWrite items
+    transferableOutput transferBody owners
+output-cases =
+    gives 1 0 [] (omega arith) (omega arith) refl (at 0 1 4) (zeros 100) refl 0 refl
+    ∷ gives 1 0 (zeros 1) (omega arith) (omega arith) refl (at 0 1 4) (zeros 4) refl 2 refl
+    ∷ gives 0 0 [] (omega arith) (omega arith) refl (at 0 1 4) (zeros 4) refl 5 refl
+    ∷ gives 1 0 (zeros 40) (omega arith) (omega arith) refl (at 0 1 4) (zeros 4) refl 6 refl
+    ∷ gives 1 1 [] (omega arith) (omega arith) refl (at 0 1 4) (zeros 4) refl 7 refl
+    ∷ gives 1 0 [] (omega arith) (omega arith) refl (at 0 1 4) (zeros 4) refl 14 refl
+    ∷ gives 1 0 [] (omega arith) (omega arith) refl (at 0 0 4) (zeros 4) refl 16 refl
+    ∷ []
+
+-- ---- input
+
+abbrev spends : (amount : ℕ) (indices : List ℕ) → amount < 256 ^ 8 → Words indices → (w : Writer) (s : List ℕ) → eachByte s ≡ true
+    → (n : ℕ) → numberOf (C.input (zeros 32) 0 (zeros 32) amount indices) w s ≡ n → Case input
+spends amount indices h k w s =
+    occurs (C.input (zeros 32) 0 (zeros 32) amount indices) ((refl, bytes-of (zeros 32) refl), omega arith, (refl, bytes-of (zeros 32) refl), h, k) w s
+
+unfoldable input-cases : List (Case input)
+unfolding put putAt judged answered prev roomFor value digits below blob blobRun number listRun listWrite items inputAfter key spend constant
+input-cases =
+    spends 1 [] (omega arith) tt (at 0 2 4) (zeros 100) refl 0 refl
+    ∷ spends 0 [] (omega arith) tt (at 0 2 4) (zeros 4) refl 5 refl
+    ∷ spends 1 (0 ∷ 0 ∷ []) (omega arith) (omega arith, (omega arith, tt)) (at 0 2 4) (zeros 4) refl 6 refl
+    ∷ spends 1 [] (omega arith) tt (at 0 2 4) (zeros 4) refl 14 refl
+    ∷ spends 1 [] (omega arith) tt (at 0 0 4) (zeros 4) refl 16 refl
+    ∷ []
+
+-- ---- operation: asset id, no pairs, and a transfer
+
+abbrev operates : (b : List ℕ) → eachByte b ≡ true → (w : Writer) (s : List ℕ) → eachByte s ≡ true → (n : ℕ) → numberOf (C.operation b) w s ≡ n → Case operation
+operates b h w s = occurs (C.operation b) (bytes-of b h) w s
+
+abbrev transfer : List ℕ
+transfer = zeros 36 ++ word 13
+
+unfoldable operation-cases : List (Case operation)
+unfolding put putAt judged answered prev roomFor value digits below blob blobRun number listRun items Operations.operation key action tag terms string owners
+operation-cases =
+    operates (transfer ++ zeros 28) refl (at 2 4 4) (zeros 100) refl 0 refl
+    ∷ operates [] refl (at 2 4 4) (zeros 4) refl 2 refl
+    ∷ operates (zeros 40) refl (at 2 4 4) (zeros 4) refl 4 refl
+    ∷ operates (transfer ++ word 2 ++ zeros 8) refl (at 2 4 4) (zeros 4) refl 6 refl
+    ∷ operates (transfer ++ zeros 20 ++ word 1 ++ word 0) refl (at 2 4 4) (zeros 4) refl 7 refl
+    ∷ operates (transfer ++ zeros 8 ++ (0 ∷ 0 ∷ 4 ∷ 1 ∷ [])) refl (at 2 4 4) (zeros 4) refl 8 refl
+    ∷ operates (transfer ++ zeros 29) refl (at 2 4 4) (zeros 4) refl 13 refl
+    ∷ operates (transfer ++ zeros 28) refl (at 2 4 4) (zeros 4) refl 14 refl
+    ∷ operates [] refl (at 2 0 4) (zeros 4) refl 16 refl
+    ∷ []
+
+-- ---- state
+
+abbrev states : (b : List ℕ) → eachByte b ≡ true → (w : Writer) (s : List ℕ) → eachByte s ≡ true → (n : ℕ) → numberOf (C.state b) w s ≡ n → Case state
+states b h w s = occurs (C.state b) (bytes-of b h) w s
+
+unfoldable state-cases : List (Case state)
+unfolding put putAt judged answered prev roomFor value digits below blobRun number listRun items initialStateAfter fxId stateOutputs
+    Outputs.output transferBody string owners
+state-cases =
+    states (zeros 8) refl (at 1 7 4) (zeros 100) refl 0 refl
+    ∷ states [] refl (at 1 7 4) (zeros 4) refl 2 refl
+    ∷ states (word 2) refl (at 1 7 4) (zeros 4) refl 4 refl
+    ∷ states (word 0 ++ word 1 ++ word 7 ++ zeros 8) refl (at 1 7 4) (zeros 4) refl 5 refl
+    ∷ states (word 0 ++ word 1 ++ word 6 ++ zeros 12 ++ word 2 ++ zeros 40) refl (at 1 7 4) (zeros 4) refl 6 refl
+    ∷ states (word 0 ++ word 1 ++ word 6 ++ zeros 8 ++ word 1 ++ word 0) refl (at 1 7 4) (zeros 4) refl 7 refl
+    ∷ states (word 1 ++ word 1 ++ word 11 ++ word 0 ++ (0 ∷ 0 ∷ 4 ∷ 1 ∷ [])) refl (at 1 7 4) (zeros 4) refl 8 refl
+    ∷ states (zeros 9) refl (at 1 7 4) (zeros 4) refl 13 refl
+    ∷ states (zeros 8) refl (at 1 7 4) (zeros 4) refl 14 refl
+    ∷ states [] refl (at 1 0 4) (zeros 4) refl 16 refl
+    ∷ []
+
+-- ---- the other fields
+
+unfoldable memo-cases : List (Case memo)
+unfolding put putAt judged answered roomFor value digits blobRun number string
+memo-cases =
+    occurs (C.memo []) tt (at 0 3 0) (zeros 4) refl 0 refl
+    ∷ occurs (C.memo (zeros 257)) (bytes-of (zeros 257) refl) (at 0 3 0) [] refl 8 refl
+    ∷ occurs (C.memo []) tt (at 0 3 0) [] refl 14 refl
+    ∷ occurs (C.memo []) tt (at 0 0 0) [] refl 16 refl
+    ∷ []
+
+abbrev space : List ℕ
+space = 32 ∷ []
+
+unfoldable name-cases : List (Case name)
+unfolding put putAt judged answered roomFor value digits blobRun number text unprintable
+name-cases =
+    occurs (C.name space) (omega arith, tt) (at 1 4 0) (zeros 3) refl 0 refl
+    ∷ occurs (C.name []) tt (at 1 4 0) [] refl 8 refl
+    ∷ occurs (C.name (zeros 1)) (omega arith, tt) (at 1 4 0) [] refl 9 refl
+    ∷ occurs (C.name space) (omega arith, tt) (at 1 4 0) [] refl 14 refl
+    ∷ occurs (C.name space) (omega arith, tt) (at 1 0 0) [] refl 16 refl
+    ∷ []
+
+unfoldable symbol-cases : List (Case symbol)
+unfolding put putAt judged answered roomFor value digits blobRun number text unprintable
+symbol-cases =
+    occurs (C.symbol space) (omega arith, tt) (at 1 5 0) (zeros 3) refl 0 refl
+    ∷ occurs (C.symbol []) tt (at 1 5 0) [] refl 8 refl
+    ∷ occurs (C.symbol (zeros 1)) (omega arith, tt) (at 1 5 0) [] refl 9 refl
+    ∷ occurs (C.symbol space) (omega arith, tt) (at 1 5 0) [] refl 14 refl
+    ∷ occurs (C.symbol space) (omega arith, tt) (at 1 0 0) [] refl 16 refl
+    ∷ []
+
+unfoldable denomination-cases : List (Case M.denomination)
+unfolding put putAt judged answered roomFor value digits blobRun number denomination
+denomination-cases =
+    occurs (C.denomination 0) (omega arith) (at 1 6 0) (zeros 5) refl 0 refl
+    ∷ occurs (C.denomination 33) (omega arith) (at 1 6 0) [] refl 10 refl
+    ∷ occurs (C.denomination 0) (omega arith) (at 1 6 0) [] refl 14 refl
+    ∷ occurs (C.denomination 0) (omega arith) (at 1 0 0) [] refl 16 refl
+    ∷ []
+
+abbrev chains : (w : Writer) (s : List ℕ) → eachByte s ≡ true → (n : ℕ) → numberOf (C.chain (zeros 32)) w s ≡ n → Case chain
+chains w s = occurs (C.chain (zeros 32)) (refl, bytes-of (zeros 32) refl) w s
+
+unfoldable chain-cases : List (Case chain)
+unfolding put putAt judged answered roomFor digits blob blobRun
+chain-cases =
+    chains (at 3 4 0) (zeros 36) refl 0 refl
+    ∷ chains (at 3 4 0) [] refl 14 refl
+    ∷ chains (at 3 0 0) [] refl 16 refl
+    ∷ []
+
+-- ---- close: of the base outputs, and of operations, of which there is one at least
+
+unfoldable close-cases : List (Case M.close)
+unfolding close closeAt answered roomFor digits
+close-cases =
+    occurs C.close tt (at 0 1 0) (zeros 4) refl 0 refl
+    ∷ occurs C.close tt (at 2 4 0) [] refl 11 refl
+    ∷ occurs C.close tt (at 0 1 0) [] refl 14 refl
+    ∷ occurs C.close tt (at 0 0 0) [] refl 16 refl
+    ∷ []
+
+-- ---- finish, over bytes that no run of calls has left
+
+abbrev ends : (s : List ℕ) → eachByte s ≡ true → (n : ℕ) → numberOf C.finish (at 0 4 (length s)) s ≡ n → Case M.finish
+ends s h n = occurs C.finish tt (at 0 4 (length s)) s h n
+
+-- one output, in front of its amount
+abbrev paid : List ℕ
+paid = zeros 42 ++ word 1 ++ zeros 32 ++ word 7
+
+-- a head of that type, no outputs, no inputs, no memo
+abbrev typed : ℕ → List ℕ
+typed kind = zeros 2 ++ word kind ++ zeros 48
+
+unfoldable finish-cases : List (Case M.finish)
+unfolding finish finishAt closable closing judged answered roomFor value digits below blobRun number listRun items unsigned head constant tag form atLeast
+    transferableOutput transferBody owners string text unprintable denomination credentials wants
+finish-cases =
+    occurs C.finish tt (at 0 4 54) (zeros 58) refl 0 refl
+    ∷ ends [] refl 2 refl
+    ∷ ends (0 ∷ 1 ∷ []) refl 3 refl
+    ∷ ends (zeros 2 ++ word 9) refl 4 refl
+    ∷ ends (paid ++ zeros 8) refl 5 refl
+    ∷ ends (paid ++ zeros 4 ++ word 1 ++ zeros 12 ++ word 2 ++ zeros 40) refl 6 refl
+    ∷ ends (paid ++ zeros 4 ++ word 1 ++ zeros 8 ++ word 1 ++ word 0) refl 7 refl
+    ∷ ends (zeros 50 ++ (0 ∷ 0 ∷ 1 ∷ 1 ∷ [])) refl 8 refl
+    ∷ ends (typed 1 ++ (0 ∷ 1 ∷ 0 ∷ [])) refl 9 refl
+    ∷ ends (typed 1 ++ (0 ∷ 1 ∷ 32 ∷ 0 ∷ 1 ∷ 32 ∷ 33 ∷ [])) refl 10 refl
+    ∷ ends (typed 2 ++ word 0) refl 11 refl
+    ∷ ends (zeros 55) refl 13 refl
+    ∷ ends (zeros 54) refl 14 refl
+    ∷ occurs C.finish tt (at 0 0 0) [] refl 16 refl
+    ∷ []
+
+each : (c : Call) (n : ℕ) → OneOf n (callNumbers c) → Occurs (methodOf c) n
+unfolding start-cases output-cases input-cases operation-cases state-cases memo-cases name-cases symbol-cases chain-cases
+    denomination-cases close-cases finish-cases
+each (C.start kind network id) = one-occurs start start-cases
+each (C.output asset amount locktime threshold addresses) = one-occurs output output-cases
+each (C.input txid index asset amount indices) = one-occurs input input-cases
+each (C.operation b) = one-occurs operation operation-cases
+each (C.state b) = one-occurs state state-cases
+each (C.memo b) = one-occurs memo memo-cases
+each (C.name b) = one-occurs name name-cases
+each (C.symbol b) = one-occurs symbol symbol-cases
+each (C.chain c) = one-occurs chain chain-cases
+each (C.denomination n) = one-occurs M.denomination denomination-cases
+each C.close = one-occurs M.close close-cases
+each C.finish = one-occurs M.finish finish-cases
+
+pub numbers-occur : NumbersOccur
+numbers-occur = record { each = each }

@@ -1,0 +1,40 @@
+-- Each number of a call's list can occur. Assumes nothing.
+use Prim.Native.Nat.{ℕ}
+use mathlib.Core.Path.{_≡_}
+use mathlib.Core.List.{List}
+use Rattle.wire.specs.Bytes.{Bytes}
+use Rattle.wire.specs.Orders.{OneOf}
+use Rattle.writer.specs.declared.Writer.{Writer}
+use Rattle.run.specs.Calls as C
+use Rattle.run.specs.Calls.{Call, Typed, callNumbers, numberOf}
+
+pub data Method : Type 0 where
+  start output input operation state memo name symbol chain denomination close finish : Method
+
+abbrev pub methodOf : Call → Method
+methodOf (C.start kind network id) = start
+methodOf (C.output asset amount locktime threshold addresses) = output
+methodOf (C.input txid index asset amount indices) = input
+methodOf (C.operation b) = operation
+methodOf (C.state b) = state
+methodOf (C.memo b) = memo
+methodOf (C.name b) = name
+methodOf (C.symbol b) = symbol
+methodOf (C.chain c) = chain
+methodOf (C.denomination n) = denomination
+methodOf C.close = close
+methodOf C.finish = finish
+
+-- a call of the method answers with n, over some state and some bytes
+pub record Occurs (m : Method) (n : ℕ) : Type 0 where
+  pub call : Call
+  pub of : methodOf call ≡ m
+  pub typed : Typed call
+  pub before : Writer
+  pub buffer : List ℕ
+  pub bytes : Bytes buffer
+  pub answers : numberOf call before buffer ≡ n
+
+-- with `MethodsOwe.number`, a list has exactly the numbers that its method answers with
+pub record NumbersOccur : Type 0 where
+  pub each : (c : Call) (n : ℕ) → OneOf n (callNumbers c) → Occurs (methodOf c) n
