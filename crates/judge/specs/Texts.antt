@@ -7,6 +7,7 @@ use lib.Dec.{ltb, leb, eqb}
 use Rattle.wire.specs.Bytes.{pick}
 use Rattle.wire.specs.Numbers.{ruleNumber, unknownType, badLength, emptyList, notPrintable, badDenomination}
 use Rattle.string.specs.Strings.{unprintable}
+use Rattle.transaction.specs.Answer.{memoMost}
 use Rattle.judge.specs.declared.Verdict.{Verdict}
 use Rattle.judge.specs.declared.Verdict.the-variants as J
 
@@ -17,7 +18,7 @@ abbrev pub listRules : ℕ → ℕ → Verdict
 listRules count least = pick (leb least count) J.Fine (J.Refuse (ruleNumber emptyList))
 
 abbrev pub memoRules : ℕ → Verdict
-memoRules n = pick (leb n 256) J.Fine (J.Refuse (ruleNumber badLength))
+memoRules n = pick (leb n memoMost) J.Fine (J.Refuse (ruleNumber badLength))
 
 abbrev pub textRules : ℕ → List ℕ → Verdict
 textRules most b =

@@ -1,5 +1,7 @@
 -- `judge::texts::denomination_rules` meets its contract. Assumes nothing.
-use Rattle.wire.proofs.Reading.{tests}
+use mathlib.Core.Path.{refl}
+use native.Mathlib.Omega.{arith}
+use Rattle.wire.proofs.Reading.{if-le, if-not-le}
 use Rattle.judge.proofs.texts.denomination_rules.Statement.{statement}
 use Rattle.judge.proofs.texts.denomination_rules.Tie as tie
 
@@ -7,5 +9,5 @@ pub denomination-rules-spec : {M : Type 1} → statement M
 denomination-rules-spec =
     tie.close
     (tie.spec
-    (λ c. search tests depth 8)  -- returns
-    (λ c. search tests depth 8))  -- returns-2
+    (λ c. if-not-le (c .before .args .value) 32 _ _ _ (omega (arith, c .if1 .taken)) refl)  -- returns
+    (λ c. if-le (c .before .args .value) 32 _ _ _ (omega (arith, c .if1 .left)) refl))  -- returns-2

@@ -1,5 +1,8 @@
 -- `judge::texts::memo_rules` meets its contract. Assumes nothing.
-use Rattle.wire.proofs.Reading.{tests}
+use mathlib.Core.Path.{refl}
+use native.Mathlib.Omega.{arith}
+use Rattle.wire.proofs.Reading.{if-le, if-not-le}
+use Rattle.transaction.specs.Answer.{memoMost}
 use Rattle.judge.proofs.texts.memo_rules.Statement.{statement}
 use Rattle.judge.proofs.texts.memo_rules.Tie as tie
 
@@ -7,5 +10,5 @@ pub memo-rules-spec : {M : Type 1} → statement M
 memo-rules-spec =
     tie.close
     (tie.spec
-    (λ c. search tests depth 8)  -- returns
-    (λ c. search tests depth 8))  -- returns-2
+    (λ c. if-not-le (c .before .args .count) memoMost _ _ _ (omega (arith, c .if1 .taken)) refl)  -- returns
+    (λ c. if-le (c .before .args .count) memoMost _ _ _ (omega (arith, c .if1 .left)) refl))  -- returns-2
