@@ -16,18 +16,23 @@ use Rattle.wire.specs.Numbers.{refusal, noRoom}
 use Rattle.wire.specs.declared.Refusal.{Refusal}
 use Rattle.wire.specs.Format.{Result, took, refused, onResult, verdict}
 use Rattle.wire.specs.Orders.{OneOf}
-use Rattle.transaction.specs.Entries.{EntryAt, rows}
+use Rattle.transaction.specs.Entries.{EntryAt}
+use Rattle.transaction.specs.Entries as Entries
 use Rattle.transaction.specs.Family.{Signed, check, entries, entry}
 use Rattle.transaction.specs.Avm.{avm}
 use Rattle.transaction.specs.Answer.{memoMost, layout, checked, checkedNumber, checkedPlace}
 use Rattle.transaction.specs.declared.Checked.the-variants as C
 use Rattle.transaction.proofs.Codec.{codec}
-use Rattle.table.specs.Table.{Filled, filled, listed, tabled, tabledNumber, tabledRows}
+use Rattle.table.specs.Table.{Filled, filled, tabledNumber, tabledRows}
 use Rattle.table.specs.declared.Tabled.the-variants as T
 use Rattle.table.proofs.Tabling.{length-rows}
+use Rattle.slot_table.specs.Slots as Slots
+use Rattle.slot_table.specs.Table.{slots}
+use Rattle.slot_table.proofs.Rows.{reader-places, filled-empty, empty-filled}
+use Rattle.slot_table.proofs.Rows as SlotRows
 use Rattle.entry.specs.declared.EntryRead.{EntryRead}
 use Rattle.entry.specs.Entry.{refusedEntry, entryAnswer, entryOf, entryNumber}
-use Rattle.claims.specs.Answers.{checkNumbers, tableNumbers, entryNumbers, CheckAnswers, TableAnswers, EntryAnswers}
+use Rattle.claims.specs.Answers.{checkNumbers, tableNumbers, entryNumbers, CheckAnswers, Lists, TableAnswers, SlotsAnswers, EntryAnswers}
 
 -- k numbers from a on
 abbrev from : ℕ → ℕ → List ℕ
@@ -94,17 +99,7 @@ entry-answers =
       missing = λ s n v bytes h q. ap (λ o. answerOf s n o .answer) h ∙ ap (λ o. entryAnswer bytes o .answer) q;
     }
 
--- ---- the check with a lent table
-
--- the table, by what the check came to
-abbrev tableOf : List ℕ → Result (Signed (avm memoMost)) → Filled
-tableOf t o = onResult o (λ e. filled (T.Refused e) t) (λ v end. listed end (entries (avm memoMost) v) t)
-
-listed-room : (es : List EntryAt) (end : ℕ) (t : List ℕ) → 3 * length es ≤ length t → listed end es t ≡ filled (T.Listed (length es) end) (rows es ++ drop (3 * length es) t)
-listed-room es end t h = rw (le-leb (length (rows es)) (length t) (omega (arith, length-rows es)), length-rows es)
-
-listed-none : (es : List EntryAt) (end : ℕ) (t : List ℕ) → length t < 3 * length es → listed end es t ≡ filled (T.Refused (refusal 14 0)) t
-listed-none es end t h = rw (lt-leb (length (rows es)) (length t) (omega (arith, length-rows es)))
+-- ---- rows in a lent table
 
 -- what holds of every answer over the table t
 record Kept (t : List ℕ) (f : Filled) : Type 0 where
@@ -116,41 +111,66 @@ record Kept (t : List ℕ) (f : Filled) : Type 0 where
 refused-kept : (t : List ℕ) (e : Refusal) → OneOf (e .number) tableNumbers → Kept t (filled (T.Refused e) t)
 refused-kept t e h = record { number = h; unchanged = λ n. (refl, refl); beyond = refl; length-kept = refl }
 
-listed-kept : (es : List EntryAt) (end : ℕ) (t : List ℕ) → Kept t (listed end es t)
-listed-kept es end t = go (leb (length (rows es)) (length t)) refl
-  where
-    go : (b : Bool) → leb (length (rows es)) (length t) ≡ b
-        → Kept t (pick b (filled (T.Listed (length es) end) (rows es ++ drop (length (rows es)) t)) (filled (T.Refused (refusal noRoom 0)) t))
-    go true room =
-        let long : length (rows es) ≡ 3 * length es = length-rows es in
-        record {
-          number = inr (inl refl);
-          unchanged = λ n. absurd (n refl);
-          beyond = drop-at (rows es) (drop (length (rows es)) t) (3 * length es) long ∙ ap (λ (m : ℕ). drop m t) long;
-          length-kept = omega (
-            arith,
-            leb-true (length (rows es)) (length t) room,
-            length-append (rows es) (drop (length (rows es)) t),
-            length-drop (length (rows es)) t,
-          );
-        }
-    go false room = refused-kept t (refusal noRoom 0) (inl refl)
+-- rows r, which are c, with room asked for n numbers
+module _ (c : ℕ) (r : List ℕ) (n : ℕ) (asked : n ≡ 3 * c) (long : length r ≡ 3 * c) (end : ℕ) (t : List ℕ) where
+  abbrev inRoom : Filled
+  inRoom = pick (leb n (length t)) (filled (T.Listed c end) (r ++ drop n t)) (filled (T.Refused (refusal noRoom 0)) t)
 
-kept : (s t : List ℕ) → Kept t (tabled s t)
-kept s t = go (check (avm memoMost) s) refl
-  where
-    go : (o : Result (Signed (avm memoMost))) → check (avm memoMost) s ≡ o → Kept t (tableOf t o)
-    go (took v n) h = listed-kept (entries (avm memoMost) v) n t
-    go (refused e) h = refused-kept t e (inr (refused-listed s e h))
+  room-listed : 3 * c ≤ length t → inRoom ≡ filled (T.Listed c end) (r ++ drop (3 * c) t)
+  room-listed h = rw (le-leb n (length t) (omega arith)) (ap (λ (m : ℕ). filled (T.Listed c end) (r ++ drop m t)) asked)
+
+  room-none : length t < 3 * c → inRoom ≡ filled (T.Refused (refusal 14 0)) t
+  room-none h = rw (lt-leb n (length t) (omega arith))
+
+  room-kept : Kept t inRoom
+  room-kept = go (leb n (length t)) refl
+    where
+      go : (b : Bool) → leb n (length t) ≡ b → Kept t (pick b (filled (T.Listed c end) (r ++ drop n t)) (filled (T.Refused (refusal noRoom 0)) t))
+      go true room =
+          record {
+            number = inr (inl refl);
+            unchanged = λ other. absurd (other refl);
+            beyond = drop-at r (drop n t) (3 * c) long ∙ ap (λ (m : ℕ). drop m t) asked;
+            length-kept = omega (arith, leb-true n (length t) room, length-append r (drop n t), length-drop n t);
+          }
+      go false room = refused-kept t (refusal noRoom 0) (inl refl)
+
+-- of the reading v of s there are `count s v` rows, the numbers `rows s v`; room is asked for `width s v` numbers
+module _ (count : List ℕ → Signed (avm memoMost) → ℕ) (rows : List ℕ → Signed (avm memoMost) → List ℕ) (width : List ℕ → Signed (avm memoMost) → ℕ)
+    (asked : (s : List ℕ) (v : Signed (avm memoMost)) → width s v ≡ 3 * count s v)
+    (long : (s : List ℕ) (v : Signed (avm memoMost)) → length (rows s v) ≡ 3 * count s v) where
+  -- the table, by what the check came to
+  abbrev tableOf : List ℕ → List ℕ → Result (Signed (avm memoMost)) → Filled
+  tableOf s t o = onResult o (λ e. filled (T.Refused e) t) (λ v end. inRoom (count s v) (rows s v) (width s v) (asked s v) (long s v) end t)
+
+  kept : (s t : List ℕ) → Kept t (tableOf s t (check (avm memoMost) s))
+  kept s t = go (check (avm memoMost) s) refl
+    where
+      go : (o : Result (Signed (avm memoMost))) → check (avm memoMost) s ≡ o → Kept t (tableOf s t o)
+      go (took v n) h = room-kept (count s v) (rows s v) (width s v) (asked s v) (long s v) n t
+      go (refused e) h = refused-kept t e (inr (refused-listed s e h))
+
+  lists : Lists (λ s t. tableOf s t (check (avm memoMost) s)) count rows
+  lists =
+      record {
+        number = λ s t. kept s t .number;
+        refused-bytes = λ s t e h. ap (tableOf s t) h;
+        listed = λ s t v n h r. ap (tableOf s t) h ∙ room-listed (count s v) (rows s v) (width s v) (asked s v) (long s v) n t r;
+        no-room = λ s t v n h r. ap (tableOf s t) h ∙ room-none (count s v) (rows s v) (width s v) (asked s v) (long s v) n t r;
+        unchanged = λ s t. kept s t .unchanged;
+        beyond = λ s t. kept s t .beyond;
+        length-kept = λ s t. kept s t .length-kept;
+      }
 
 pub table-answers : TableAnswers
 table-answers =
+    let es : Signed (avm memoMost) → List EntryAt = entries (avm memoMost) in
+    lists (λ s v. length (es v)) (λ s v. Entries.rows (es v)) (λ s v. length (Entries.rows (es v))) (λ s v. length-rows (es v)) (λ s v. length-rows (es v))
+
+pub slots-answers : SlotsAnswers
+slots-answers =
     record {
-      number = λ s t. kept s t .number;
-      refused-bytes = λ s t e h. ap (tableOf t) h;
-      listed = λ s t v n h r. ap (tableOf t) h ∙ listed-room (entries (avm memoMost) v) n t r;
-      no-room = λ s t v n h r. ap (tableOf t) h ∙ listed-none (entries (avm memoMost) v) n t r;
-      unchanged = λ s t. kept s t .unchanged;
-      beyond = λ s t. kept s t .beyond;
-      length-kept = λ s t. kept s t .length-kept;
+      lists = lists (λ s v. length (slots s)) (λ s v. Slots.rows s (slots s)) (λ s v. 3 * length (slots s)) (λ s v. refl) (λ s v. SlotRows.length-rows s (slots s));
+      places = reader-places (avm memoMost);
+      empty = λ s p. (empty-filled s p, filled-empty s p);
     }

@@ -3,3 +3,4 @@ pub mod Answering
 pub mod Measuring
 pub mod Filling
 pub mod Instances
+pub mod Claims

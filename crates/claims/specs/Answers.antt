@@ -3,19 +3,26 @@
 -- that the function with this answer is proved. Assumes nothing.
 use Prim.Native.Nat.{ℕ, _*_, _≤_, _<_}
 use mathlib.Core.Path.{_≡_}
-use mathlib.Core.List.{List, [], _∷_, _++_}
+use mathlib.Core.Logic.{_↔_}
+use mathlib.Core.List.{List, [], _∷_, _++_, map}
 use mathlib.Core.Option.{none, some}
 use lib.ListN.{length, drop}
 use Rattle.wire.specs.declared.Refusal.{Refusal}
 use Rattle.wire.specs.Numbers.{refusal}
 use Rattle.wire.specs.Format.{took, refused, verdict}
 use Rattle.wire.specs.Orders.{OneOf}
-use Rattle.transaction.specs.Entries.{EntryAt, rows}
+use Rattle.transaction.specs.Slots.{blank, slotAt}
+use Rattle.transaction.specs.Entries.{EntryAt}
+use Rattle.transaction.specs.Entries as Entries
 use Rattle.transaction.specs.Family.{Signed, check, entries, entry}
 use Rattle.transaction.specs.Avm.{avm}
 use Rattle.transaction.specs.Answer.{memoMost, checked, checkedNumber, checkedPlace}
-use Rattle.table.specs.Table.{filled, tabled, tabledNumber, tabledRows}
+use Rattle.table.specs.Table.{Filled, filled, tabled, tabledNumber, tabledRows}
 use Rattle.table.specs.declared.Tabled.the-variants as T
+use Rattle.slot_table.specs.Slots.{filledAt}
+use Rattle.slot_table.specs.Slots as Slots
+use Rattle.slot_table.specs.Table.{slots, tabledSlots}
+use Rattle.draft.specs.Reader.{reader}
 use Rattle.entry.specs.Entry.{entryOf, entryNumber, foundEntry}
 use Rattle.entry.specs.declared.EntryAnswer.the-variants as E
 
@@ -39,23 +46,36 @@ pub record CheckAnswers : Type 0 where
   -- number and place are those of the definition
   pub own : (s : List ℕ) → (checkedNumber (checked s), checkedPlace (checked s)) ≡ verdict (check (avm memoMost) s)
 
--- ---- the check with a lent table t
+-- ---- the calls that list rows of three numbers in a lent table
 
-pub record TableAnswers : Type 0 where
-  pub number : (s t : List ℕ) → OneOf (tabledNumber (tabled s t .answer)) tableNumbers
+-- `call s t` checks the bytes s and lists in the table t; of the reading v of s there are `count s v` rows, the numbers `rows s v`
+pub record Lists (call : List ℕ → List ℕ → Filled) (count : List ℕ → Signed (avm memoMost) → ℕ) (rows : List ℕ → Signed (avm memoMost) → List ℕ) : Type 0 where
+  pub number : (s t : List ℕ) → OneOf (tabledNumber (call s t .answer)) tableNumbers
   -- bytes that are not accepted get the check's own refusal, whatever the room
-  pub refused-bytes : (s t : List ℕ) (e : Refusal) → check (avm memoMost) s ≡ refused e → tabled s t ≡ filled (T.Refused e) t
-  -- accepted bytes, whose entries have room: every row stands at the front, and each number beyond them is as before
-  pub listed : (s t : List ℕ) (v : Signed (avm memoMost)) (n : ℕ) → check (avm memoMost) s ≡ took v n
-      → let es : List EntryAt = entries (avm memoMost) v in 3 * length es ≤ length t → tabled s t ≡ filled (T.Listed (length es) n) (rows es ++ drop (3 * length es) t)
-  -- accepted bytes, whose entries have not: 14 at 0
-  pub no-room : (s t : List ℕ) (v : Signed (avm memoMost)) (n : ℕ) → check (avm memoMost) s ≡ took v n
-      → length t < 3 * length (entries (avm memoMost) v) → tabled s t ≡ filled (T.Refused (refusal 14 0)) t
+  pub refused-bytes : (s t : List ℕ) (e : Refusal) → check (avm memoMost) s ≡ refused e → call s t ≡ filled (T.Refused e) t
+  -- accepted bytes, whose rows have room: every row stands at the front, and each number beyond them is as before
+  pub listed : (s t : List ℕ) (v : Signed (avm memoMost)) (n : ℕ) → check (avm memoMost) s ≡ took v n → 3 * count s v ≤ length t
+      → call s t ≡ filled (T.Listed (count s v) n) (rows s v ++ drop (3 * count s v) t)
+  -- accepted bytes, whose rows have not: 14 at 0
+  pub no-room : (s t : List ℕ) (v : Signed (avm memoMost)) (n : ℕ) → check (avm memoMost) s ≡ took v n → length t < 3 * count s v
+      → call s t ≡ filled (T.Refused (refusal 14 0)) t
   -- a refusal has no rows and changes no number of the table
-  pub unchanged : (s t : List ℕ) → (tabledNumber (tabled s t .answer) ≡ 0 → ⊥) → (tabledRows (tabled s t .answer) ≡ 0) × (tabled s t .table ≡ t)
+  pub unchanged : (s t : List ℕ) → (tabledNumber (call s t .answer) ≡ 0 → ⊥) → (tabledRows (call s t .answer) ≡ 0) × (call s t .table ≡ t)
   -- numbers beyond the rows stay
-  pub beyond : (s t : List ℕ) → let rows = tabledRows (tabled s t .answer) in drop (3 * rows) (tabled s t .table) ≡ drop (3 * rows) t
-  pub length-kept : (s t : List ℕ) → length (tabled s t .table) ≡ length t
+  pub beyond : (s t : List ℕ) → let n = tabledRows (call s t .answer) in drop (3 * n) (call s t .table) ≡ drop (3 * n) t
+  pub length-kept : (s t : List ℕ) → length (call s t .table) ≡ length t
+
+-- the check with a lent table: a row for each entry of the reading
+abbrev pub TableAnswers : Type 0
+TableAnswers = Lists tabled (λ s v. length (entries (avm memoMost) v)) (λ s v. Entries.rows (entries (avm memoMost) v))
+
+-- the slots in a lent table: a row for each slot
+pub record SlotsAnswers : Type 0 where
+  pub lists : Lists tabledSlots (λ s v. length (slots s)) (λ s v. Slots.rows s (slots s))
+  -- the places are those of the slots that demand 3 speaks of, in their order
+  pub places : (s : List ℕ) → map (λ x. x .place) (slots s) ≡ reader (avm memoMost) .slots s
+  -- and a row's last number is 0 exactly where the slot is empty
+  pub empty : (s : List ℕ) (p : ℕ) → (filledAt s p ≡ 0) ↔ (slotAt s p ≡ blank)
 
 -- ---- entry n
 

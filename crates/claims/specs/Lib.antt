@@ -1,6 +1,7 @@
--- Everything that is claimed, in one place
+-- Everything that is claimed: the file Claims, over the others
 pub mod Cases
 pub mod Instance
 pub mod Answers
 pub mod Lengths
 pub mod RoundTrip
+pub mod Claims

@@ -1,0 +1,59 @@
+-- That everything that is claimed holds. Assumes nothing.
+use Rattle.transaction.specs.Family.{Family}
+use Rattle.transaction.specs.Avm.{avm}
+use Rattle.transaction.specs.Answer.{memoMost}
+use Rattle.transaction.proofs.Codec.{codec}
+use Rattle.transaction.proofs.Accepted.{transactions}
+use Rattle.transaction.proofs.FirstBroken.{first-broken}
+use Rattle.run.proofs.Calling.{methods-finish, methods-round-trip}
+use Rattle.run.proofs.Numbering.{methods-owe}
+use Rattle.run.proofs.Occurring.{numbers-occur}
+use Rattle.grouping.proofs.Theorems.{demand-3, slots-of-reading, avm-demand-3, avm-orders, avm-filling, avm-calls-owe}
+use Rattle.phone.proofs.Unpacking.{unpacked}
+use Rattle.claims.specs.Cases.{proved-cases}
+use Rattle.claims.specs.Claims.{Demand1, Demand2, Claims}
+use Rattle.claims.proofs.Answering.{check-answers, table-answers, entry-answers, slots-answers}
+use Rattle.claims.proofs.Measuring.{lengths}
+use Rattle.claims.proofs.Filling.{round-trips}
+use Rattle.claims.proofs.Instances.{instances}
+
+demand-1-holds : Demand1
+demand-1-holds =
+    record {
+      check = check-answers;
+      check-with-table = table-answers;
+      entry = entry-answers;
+      slots = slots-answers;
+      merge-and-fill = avm-calls-owe;
+      writer = methods-owe;
+      writer-occurs = numbers-occur;
+      phone = unpacked;
+    }
+
+demand-2-holds : Demand2
+demand-2-holds =
+    record {
+      transactions = transactions;
+      first-broken = first-broken (avm memoMost);
+      lengths = lengths;
+      finished = methods-finish;
+      written = methods-round-trip;
+      round-trips = round-trips;
+    }
+
+pub claims : Claims
+claims =
+    record {
+      demand-1 = demand-1-holds;
+      demand-2 = demand-2-holds;
+      demand-3 = avm-demand-3;
+      slots = slots-of-reading (avm memoMost);
+      instances = instances;
+      orders = avm-orders;
+      filling = avm-filling;
+      cases = proved-cases;
+      codecs = codec;
+      first-broken-rules = first-broken;
+      slots-of-readings = slots-of-reading;
+      groupings = demand-3;
+    }

@@ -1,0 +1,75 @@
+-- EVERYTHING THAT IS CLAIMED of the calls that users are offered: a field for each statement, in the order of document 00's demands. docs/CLAIMS.md
+-- has the same order, with each sentence of the papers beside its field. Proved as `claims`, of proofs/Claims. Assumes nothing.
+--
+-- The calls are given by definitions: `checked`, `tabled`, `entryOf`, `tabledSlots`, `mergeCall`, `fillCall`, `call` (the writer's methods), and
+-- `packed` (the answers to C). The contract of each public function says that its answer, its state and every lent byte equal these, whatever it is
+-- handed; that it ends and stays inside the memory lent is part of what a proved function is.
+use Prim.Native.Nat.{ℕ}
+use Rattle.transaction.specs.Family.{Family}
+use Rattle.transaction.specs.Avm.{avm}
+use Rattle.transaction.specs.Answer.{memoMost}
+use Rattle.transaction.specs.Codec.{Codec}
+use Rattle.transaction.specs.Accepted.{Transactions}
+use Rattle.transaction.specs.FirstBroken.{FirstBroken}
+use Rattle.draft.specs.Reader.{reader}
+use Rattle.run.specs.Calls.{MethodsOwe, MethodsFinish, MethodsRoundTrip}
+use Rattle.run.specs.Occurring.{NumbersOccur}
+use Rattle.grouping.specs.Answers.{CallsOwe}
+use Rattle.grouping.specs.Slots.{SlotsOfReading}
+use Rattle.grouping.specs.Demand.{Demand3}
+use Rattle.grouping.specs.Order.{Orders}
+use Rattle.grouping.specs.Filling.{Filling}
+use Rattle.phone.specs.Packed.{Unpacked}
+use Rattle.claims.specs.Answers.{CheckAnswers, TableAnswers, EntryAnswers, SlotsAnswers}
+use Rattle.claims.specs.Lengths.{Lengths}
+use Rattle.claims.specs.RoundTrip.{RoundTrips}
+use Rattle.claims.specs.Instance.{Instances}
+use Rattle.claims.specs.Cases.{AllHold, table}
+
+-- "answers with a number from document 01's table .. A refusal changes no lent byte and no builder state": the numbers of each call are a list
+pub record Demand1 : Type 0 where
+  pub check : CheckAnswers
+  pub check-with-table : TableAnswers
+  pub entry : EntryAnswers
+  pub slots : SlotsAnswers
+  pub merge-and-fill : CallsOwe (reader (avm memoMost))
+  pub writer : MethodsOwe
+  -- each number of the writer's lists is answered by some call, so that the lists are exact
+  pub writer-occurs : NumbersOccur
+  -- the answer to C is one number, from which number and place are got back
+  pub phone : Unpacked
+
+pub record Demand2 : Type 0 where
+  -- "accepted exactly when they are a signed AVM transaction", "one reading", "gives the same bytes"; for every limit of the memo, 256 in the base
+  pub transactions : (most : ℕ) → Transactions most
+  -- "A refusal names the first broken rule and its place"
+  pub first-broken : FirstBroken (avm memoMost)
+  -- the lengths that document 01 gives
+  pub lengths : Lengths
+  -- "whatever the writer finishes, each step given the state and buffer the last one left, is accepted"
+  pub finished : MethodsFinish
+  -- "writing that reading, room given, then filling in its signatures": the calls that the reading spells are typed and done
+  pub written : MethodsRoundTrip
+  -- ".. gives the same bytes": calls of the writer's methods and of fill alone
+  pub round-trips : RoundTrips
+
+pub record Claims : Type 1 where
+  pub demand-1 : Demand1
+  pub demand-2 : Demand2
+  -- one statement about every list of drafts and every grouping over it
+  pub demand-3 : Demand3 (reader (avm memoMost))
+  -- the slots that it speaks of are the signatures of demand 2's reading
+  pub slots : SlotsOfReading (avm memoMost)
+  -- its hypotheses can be met, with a conflict and without
+  pub instances : Instances
+  -- what follows: order, grouping and repetition do not matter
+  pub orders : Orders (reader (avm memoMost))
+  -- what a call of fill does and leaves
+  pub filling : Filling (reader (avm memoMost))
+  -- P1 to P14 and the bad examples, as one table
+  pub cases : AllHold table
+  -- ---- of every family of transactions, so of one to come too
+  pub codecs : (F : Family) → Codec F
+  pub first-broken-rules : (F : Family) → FirstBroken F
+  pub slots-of-readings : (F : Family) → SlotsOfReading F
+  pub groupings : (F : Family) → Demand3 (reader F)
