@@ -1,5 +1,4 @@
 -- That everything that is claimed holds. Assumes nothing.
-use Rattle.transaction.specs.Family.{Family}
 use Rattle.transaction.specs.Avm.{avm}
 use Rattle.transaction.specs.Answer.{memoMost}
 use Rattle.transaction.proofs.Codec.{codec}

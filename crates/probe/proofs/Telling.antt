@@ -9,7 +9,7 @@ use Rattle.table.specs.declared.Tabled.{Tabled}
 use Rattle.table.specs.declared.Tabled.the-variants as T
 use Rattle.draft.specs.declared.Answer.{Answer}
 use Rattle.draft.specs.declared.Answer.the-variants as A
-use Rattle.probe.specs.Probed.{probed, packed, told, toldFill}
+use Rattle.probe.specs.Probed.{probed, told, toldFill}
 
 -- x is what the check answered, and u what the table holds then
 module _ (s t u : List ℕ) (x : Tabled) (p : filled x u ≡ tabled s t) where
