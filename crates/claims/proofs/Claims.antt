@@ -5,6 +5,7 @@ use Rattle.transaction.proofs.Codec.{codec}
 use Rattle.transaction.proofs.Accepted.{transactions}
 use Rattle.transaction.proofs.FirstBroken.{first-broken}
 use Rattle.run.proofs.Calling.{methods-finish, methods-round-trip}
+use Rattle.run.proofs.Finishing.{finished-is-accepted}
 use Rattle.run.proofs.Numbering.{methods-owe}
 use Rattle.run.proofs.Occurring.{numbers-occur}
 use Rattle.grouping.proofs.Theorems.{demand-3, slots-of-reading, avm-demand-3, avm-orders, avm-filling, avm-calls-owe}
@@ -55,4 +56,5 @@ claims =
       first-broken-rules = first-broken;
       slots-of-readings = slots-of-reading;
       groupings = demand-3;
+      finished-steps = finished-is-accepted;
     }

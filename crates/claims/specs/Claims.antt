@@ -12,6 +12,7 @@ use Rattle.transaction.specs.Codec.{Codec}
 use Rattle.transaction.specs.Accepted.{Transactions}
 use Rattle.transaction.specs.FirstBroken.{FirstBroken}
 use Rattle.draft.specs.Reader.{reader}
+use Rattle.run.specs.Claims.{FinishedIsAccepted}
 use Rattle.run.specs.Calls.{MethodsOwe, MethodsFinish, MethodsRoundTrip}
 use Rattle.run.specs.Occurring.{NumbersOccur}
 use Rattle.grouping.specs.Answers.{CallsOwe}
@@ -73,3 +74,4 @@ pub record Claims : Type 1 where
   pub first-broken-rules : (F : Family) → FirstBroken F
   pub slots-of-readings : (F : Family) → SlotsOfReading F
   pub groupings : (F : Family) → Demand3 (reader F)
+  pub finished-steps : (F : Family) → FinishedIsAccepted F
