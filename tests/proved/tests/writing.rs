@@ -105,6 +105,11 @@ fn calls(request: &str) -> (usize, Vec<Call>) {
 }
 
 #[test]
+fn a_fresh_writer_has_written_nothing() {
+    assert_eq!(Writer::default(), Writer::of([0; 6]));
+}
+
+#[test]
 fn a_refused_step_changes_nothing() {
     let mut refused = 0;
     for request in Requests::new(SEED + 1, vec![Kind::Write]).take(5_000) {
