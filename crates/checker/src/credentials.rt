@@ -149,7 +149,7 @@ pub fn own_wants(kind: Kind, count: u64) -> u64
 }
 
 // All of them: their count, those beside the inputs, those beside the own part's elements.
-pub fn credentials_at(s: &[u8], at: usize, layout: Layout) -> Part
+pub(crate) fn credentials_at(s: &[u8], at: usize, layout: Layout) -> Part
     ensures { λ r. ⌜ r ≡ credentialsBeside layout (now (s .entry)) at ⌝ }
 {
     let kind = layout.kind;

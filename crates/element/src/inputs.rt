@@ -10,7 +10,7 @@ use wire::Part;
 use wire::Refusal;
 
 // May this number stand behind the one before, if there is any?
-pub fn number_follows(any: bool, prev: u64, number: u64) -> bool
+pub(crate) fn number_follows(any: bool, prev: u64, number: u64) -> bool
     ensures { λ r. ⌜ r ≡ numberFollows any prev number ⌝ }
 {
     if any {
@@ -20,7 +20,7 @@ pub fn number_follows(any: bool, prev: u64, number: u64) -> bool
 }
 
 // May this key stand behind the one before, if there is any?
-pub fn key_follows(any: bool, prev: [u8; 32], last: u64, id: [u8; 32], index: u64) -> bool
+pub(crate) fn key_follows(any: bool, prev: [u8; 32], last: u64, id: [u8; 32], index: u64) -> bool
     ensures { λ r. ⌜ r ≡ keyFollows any prev last id index ⌝ }
 {
     if any {
@@ -30,7 +30,7 @@ pub fn key_follows(any: bool, prev: [u8; 32], last: u64, id: [u8; 32], index: u6
 }
 
 // So many address indices from start, each above the one before.
-pub fn indices_from(s: &[u8], start: usize, count: u64) -> Part
+pub(crate) fn indices_from(s: &[u8], start: usize, count: u64) -> Part
     ensures { λ r. ⌜ r ≡ ended (increasing (number 4) count) (now (s .entry)) start ⌝ }
 {
     let mut left = count;

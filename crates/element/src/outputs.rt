@@ -133,7 +133,7 @@ pub fn outputs_from(s: &[u8], start: usize, count: u64) -> Part
 }
 
 // So many outputs under FxID 0 from start.
-pub fn secp_from(s: &[u8], start: usize, count: u64) -> Part
+pub(crate) fn secp_from(s: &[u8], start: usize, count: u64) -> Part
     ensures { λ r. ⌜ r ≡ ended (nondecreasing (output (fxOutputs secpFx)) count) (now (s .entry)) start ⌝ }
 {
     let mut left = count;
@@ -155,7 +155,7 @@ pub fn secp_from(s: &[u8], start: usize, count: u64) -> Part
 }
 
 // So many outputs under FxID 1 from start.
-pub fn nft_from(s: &[u8], start: usize, count: u64) -> Part
+pub(crate) fn nft_from(s: &[u8], start: usize, count: u64) -> Part
     ensures { λ r. ⌜ r ≡ ended (nondecreasing (output (fxOutputs nftFx)) count) (now (s .entry)) start ⌝ }
 {
     let mut left = count;

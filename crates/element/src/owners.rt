@@ -49,7 +49,7 @@ pub fn threshold_fits(threshold: u64, addresses: u64) -> bool
 }
 
 // Where the owners at this place end.
-pub fn owners_at(s: &[u8], at: usize) -> Part
+pub(crate) fn owners_at(s: &[u8], at: usize) -> Part
     ensures { λ r. ⌜ r ≡ ended owners (now (s .entry)) at ⌝ }
 {
     let Number::Value(_, t) = wire::u64_at(s, at) else {
@@ -71,7 +71,7 @@ pub fn owners_at(s: &[u8], at: usize) -> Part
 }
 
 // So many owners from start, of no order.
-pub fn owners_list_at(s: &[u8], start: usize, count: u64) -> Part
+pub(crate) fn owners_list_at(s: &[u8], start: usize, count: u64) -> Part
     ensures { λ r. ⌜ r ≡ ended (unordered owners count) (now (s .entry)) start ⌝ }
 {
     let mut left = count;
