@@ -7,12 +7,13 @@ use Rattle.transaction.proofs.FirstBroken.{first-broken}
 use Rattle.run.proofs.Calling.{methods-finish, methods-round-trip}
 use Rattle.run.proofs.Finishing.{finished-is-accepted}
 use Rattle.run.proofs.Numbering.{methods-owe}
-use Rattle.run.proofs.Occurring.{numbers-occur}
+use Rattle.run.proofs.Occurring as Writer
 use Rattle.grouping.proofs.Theorems.{demand-3, slots-of-reading, avm-demand-3, avm-orders, avm-filling, avm-calls-owe}
 use Rattle.phone.proofs.Unpacking.{unpacked}
 use Rattle.claims.specs.Cases.{proved-cases}
 use Rattle.claims.specs.Claims.{Demand1, Demand2, Claims}
 use Rattle.claims.proofs.Answering.{check-answers, table-answers, entry-answers, slots-answers}
+use Rattle.claims.proofs.Occurring.{numbers-occur}
 use Rattle.claims.proofs.Measuring.{lengths}
 use Rattle.claims.proofs.Filling.{round-trips}
 use Rattle.claims.proofs.Instances.{instances}
@@ -26,7 +27,8 @@ demand-1-holds =
       slots = slots-answers;
       merge-and-fill = avm-calls-owe;
       writer = methods-owe;
-      writer-occurs = numbers-occur;
+      numbers-occur = numbers-occur;
+      writer-numbers-occur = Writer.numbers-occur;
       phone = unpacked;
     }
 

@@ -1,5 +1,6 @@
 -- That the claims hold
 pub mod Answering
+pub mod Occurring
 pub mod Measuring
 pub mod Filling
 pub mod Instances

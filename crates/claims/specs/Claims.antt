@@ -14,7 +14,7 @@ use Rattle.transaction.specs.FirstBroken.{FirstBroken}
 use Rattle.draft.specs.Reader.{reader}
 use Rattle.run.specs.Claims.{FinishedIsAccepted}
 use Rattle.run.specs.Calls.{MethodsOwe, MethodsFinish, MethodsRoundTrip}
-use Rattle.run.specs.Occurring.{NumbersOccur}
+use Rattle.run.specs.Occurring as Writer
 use Rattle.grouping.specs.Answers.{CallsOwe}
 use Rattle.grouping.specs.Slots.{SlotsOfReading}
 use Rattle.grouping.specs.Demand.{Demand3}
@@ -22,6 +22,7 @@ use Rattle.grouping.specs.Order.{Orders}
 use Rattle.grouping.specs.Filling.{Filling}
 use Rattle.phone.specs.Packed.{Unpacked}
 use Rattle.claims.specs.Answers.{CheckAnswers, TableAnswers, EntryAnswers, SlotsAnswers}
+use Rattle.claims.specs.Occurring.{NumbersOccur}
 use Rattle.claims.specs.Lengths.{Lengths}
 use Rattle.claims.specs.RoundTrip.{RoundTrips}
 use Rattle.claims.specs.Instance.{Instances}
@@ -35,8 +36,9 @@ pub record Demand1 : Type 0 where
   pub slots : SlotsAnswers
   pub merge-and-fill : CallsOwe (reader (avm memoMost))
   pub writer : MethodsOwe
-  -- each number of the writer's lists is answered by some call, so that the lists are exact
-  pub writer-occurs : NumbersOccur
+  -- each number of a list is answered by some call, so that the lists are exact
+  pub numbers-occur : NumbersOccur
+  pub writer-numbers-occur : Writer.NumbersOccur
   -- the answer to C is one number, from which number and place are got back
   pub phone : Unpacked
 

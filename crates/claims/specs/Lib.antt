@@ -3,5 +3,6 @@ pub mod Cases
 pub mod Instance
 pub mod Answers
 pub mod Lengths
+pub mod Occurring
 pub mod RoundTrip
 pub mod Claims

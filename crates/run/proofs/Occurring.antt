@@ -38,11 +38,11 @@ use Rattle.run.specs.Occurring as M
 -- ---- what the calls are given
 
 -- a list of bytes, by a test
-abbrev eachByte : List ℕ → Bool
+abbrev pub eachByte : List ℕ → Bool
 eachByte [] = true
 eachByte (x ∷ s) = pick (ltb x 256) (eachByte s) false
 
-bytes-of : (s : List ℕ) → eachByte s ≡ true → Bytes s
+pub bytes-of : (s : List ℕ) → eachByte s ≡ true → Bytes s
 bytes-of [] h = tt
 bytes-of (x ∷ s) h = turn (ltb x 256) refl h (bytes-of s)
   where
@@ -50,10 +50,10 @@ bytes-of (x ∷ s) h = turn (ltb x 256) refl h (bytes-of s)
     turn true p h on = (ltb-true x 256 p, on h)
     turn false p h on = absurd (false≢true h)
 
-abbrev zeros : ℕ → List ℕ
+abbrev pub zeros : ℕ → List ℕ
 zeros n = replicate n 0
 
-abbrev word : ℕ → List ℕ
+abbrev pub word : ℕ → List ℕ
 word n = 0 ∷ 0 ∷ 0 ∷ n ∷ []
 
 -- behind n bytes, with the list's count in the first four
@@ -67,13 +67,15 @@ Case m = (n : ℕ) × Occurs m n
 abbrev occurs : (c : Call) → Typed c → (w : Writer) (s : List ℕ) → eachByte s ≡ true → (n : ℕ) → numberOf c w s ≡ n → Case (methodOf c)
 occurs c typed w s h n e = (n, record { call = c; of = refl; typed = typed; before = w; buffer = s; bytes = bytes-of s h; answers = e })
 
-abbrev numbers : (m : Method) → List (Case m) → List ℕ
-numbers m [] = []
-numbers m ((n, o) ∷ l) = n ∷ numbers m l
+-- numbers, each with what is said of it
+module _ (P : ℕ → Type 0) where
+  abbrev numbers : List ((n : ℕ) × P n) → List ℕ
+  numbers [] = []
+  numbers ((n, p) ∷ l) = n ∷ numbers l
 
-one-occurs : (m : Method) (l : List (Case m)) (n : ℕ) → OneOf n (numbers m l) → Occurs m n
-one-occurs m [] n h = absurd h
-one-occurs m ((k, o) ∷ l) n h = ⊎-elim (λ e. subst (Occurs m) (sym e) o) (one-occurs m l n) h
+  pub one-occurs : (l : List ((n : ℕ) × P n)) (n : ℕ) → OneOf n (numbers l) → P n
+  one-occurs [] n h = absurd h
+  one-occurs ((k, p) ∷ l) n h = ⊎-elim (λ e. subst P (sym e) p) (one-occurs l n) h
 
 -- ---- start
 
@@ -241,11 +243,11 @@ abbrev ends : (s : List ℕ) → eachByte s ≡ true → (n : ℕ) → numberOf 
 ends s h n = occurs C.finish tt (at 0 4 (length s)) s h n
 
 -- one output, in front of its amount
-abbrev paid : List ℕ
+abbrev pub paid : List ℕ
 paid = zeros 42 ++ word 1 ++ zeros 32 ++ word 7
 
 -- a head of that type, no outputs, no inputs, no memo
-abbrev typed : ℕ → List ℕ
+abbrev pub typed : ℕ → List ℕ
 typed kind = zeros 2 ++ word kind ++ zeros 48
 
 unfoldable finish-cases : List (Case M.finish)
@@ -271,18 +273,18 @@ finish-cases =
 each : (c : Call) (n : ℕ) → OneOf n (callNumbers c) → Occurs (methodOf c) n
 unfolding start-cases output-cases input-cases operation-cases state-cases memo-cases name-cases symbol-cases chain-cases
     denomination-cases close-cases finish-cases
-each (C.start kind network id) = one-occurs start start-cases
-each (C.output asset amount locktime threshold addresses) = one-occurs output output-cases
-each (C.input txid index asset amount indices) = one-occurs input input-cases
-each (C.operation b) = one-occurs operation operation-cases
-each (C.state b) = one-occurs state state-cases
-each (C.memo b) = one-occurs memo memo-cases
-each (C.name b) = one-occurs name name-cases
-each (C.symbol b) = one-occurs symbol symbol-cases
-each (C.chain c) = one-occurs chain chain-cases
-each (C.denomination n) = one-occurs M.denomination denomination-cases
-each C.close = one-occurs M.close close-cases
-each C.finish = one-occurs M.finish finish-cases
+each (C.start kind network id) = one-occurs (Occurs start) start-cases
+each (C.output asset amount locktime threshold addresses) = one-occurs (Occurs output) output-cases
+each (C.input txid index asset amount indices) = one-occurs (Occurs input) input-cases
+each (C.operation b) = one-occurs (Occurs operation) operation-cases
+each (C.state b) = one-occurs (Occurs state) state-cases
+each (C.memo b) = one-occurs (Occurs memo) memo-cases
+each (C.name b) = one-occurs (Occurs name) name-cases
+each (C.symbol b) = one-occurs (Occurs symbol) symbol-cases
+each (C.chain c) = one-occurs (Occurs chain) chain-cases
+each (C.denomination n) = one-occurs (Occurs M.denomination) denomination-cases
+each C.close = one-occurs (Occurs M.close) close-cases
+each C.finish = one-occurs (Occurs M.finish) finish-cases
 
 pub numbers-occur : NumbersOccur
 numbers-occur = record { each = each }

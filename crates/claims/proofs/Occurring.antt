@@ -1,0 +1,195 @@
+-- Each number of a call's list occurs: calls that are computed. Assumes nothing.
+use Prim.Native.Nat.{ℕ, zero, suc, _<_}
+use mathlib.Core.Path.{_≡_, refl, sym, ap, subst}
+use mathlib.Core.Logic.{⊎-elim}
+use mathlib.Core.Bool.{true}
+use mathlib.Core.List.{List, [], _∷_, _++_}
+use native.Mathlib.Omega.{arith}
+use lib.ListN.{replicate, length-replicate}
+use Rattle.wire.specs.Bytes.{Bytes, value, digits, below}
+use Rattle.wire.specs.declared.Refusal.{Refusal}
+use Rattle.wire.specs.Numbers.{refusal}
+use Rattle.wire.specs.Format.{onResult, refused}
+use Rattle.wire.specs.Fields.{number, blobRun, constant}
+use Rattle.wire.specs.Sequence.{guard, tag}
+use Rattle.wire.specs.Series.{items, listRun, listWrite, counted}
+use Rattle.wire.specs.Orders.{OneOf}
+use Rattle.string.specs.Strings.{string, text, printable, unprintable, denomination}
+use Rattle.element.specs.Owners.{owners}
+use Rattle.element.specs.Outputs.{amount, transferBody, output, transferableOutput}
+use Rattle.element.specs.Inputs.{key, indices, spend, inputAfter}
+use Rattle.transaction.specs.Slots.{signatureWidth, blank, slotAt, put, putAll}
+use Rattle.transaction.specs.Credentials.{credentials, layout, places, size}
+use Rattle.transaction.specs.Entries.{rows, entriesFrom, credentialEntries, nth}
+use Rattle.transaction.specs.Plan.{atLeast, form, wanted, asked, planEntries}
+use Rattle.transaction.specs.Signed as Any
+use Rattle.transaction.specs.Family.{head, unsigned, wants, check, entries}
+use Rattle.transaction.specs.Avm.{avm}
+use Rattle.transaction.specs.Answer.{memoMost, checked, checkedNumber}
+use Rattle.transaction.specs.Answer as Answer
+use Rattle.transaction.specs.declared.Checked.the-variants as C
+use Rattle.transaction.proofs.FirstBroken.{first-broken}
+use Rattle.table.specs.Table.{Filled, filled, tabled, tabledNumber}
+use Rattle.table.specs.declared.Tabled.the-variants as T
+use Rattle.entry.specs.Entry.{entryOf, entryNumber}
+use Rattle.slot.specs.Joining.{same, clashes, join, firstClash}
+use Rattle.slot_table.specs.Slots as Slots
+use Rattle.slot_table.specs.Table.{tabledSlots}
+use Rattle.draft.specs.Reader.{reader, body, slotCount, slot}
+use Rattle.draft.specs.Calls.{answerNumber, merged, mergeCall, fillCall}
+use Rattle.run.proofs.Occurring.{eachByte, bytes-of, zeros, word, typed, paid, one-occurs}
+use Rattle.claims.specs.Cases.{A, edited}
+use Rattle.claims.specs.Occurring.{NumbersOccur}
+use Rattle.claims.specs.Answers.{checkNumbers, tableNumbers, entryNumbers}
+use Rattle.claims.proofs.Answering.{table-answers, slots-answers, entry-answers}
+
+-- ---- bytes that the check refuses, by each of its numbers
+
+abbrev Refused : ℕ → Type 0
+Refused n = (s : List ℕ) × (p : ℕ) × Bytes s × (check (avm memoMost) s ≡ refused (refusal n p))
+
+-- rule 1 looks at nothing but the length
+zero-bytes : (n : ℕ) → Bytes (zeros n)
+zero-bytes zero = tt
+zero-bytes (suc n) = (omega arith, zero-bytes n)
+
+too-long : (n : ℕ) → 65536 < n → Refused 1
+too-long n h = (zeros n, 0, zero-bytes n, first-broken (avm memoMost) .too-long (zeros n) 0 .1 (omega (arith, length-replicate {A = ℕ} n 0), refl))
+
+abbrev refuses : (s : List ℕ) → eachByte s ≡ true → (n p : ℕ) → check (avm memoMost) s ≡ refused (refusal n p) → (n : ℕ) × Refused n
+refuses s h n p e = (n, (s, p, bytes-of s h, e))
+
+unfoldable refused-cases : List ((n : ℕ) × Refused n)
+unfolding Any.check unsigned head wants credentials owners amount transferBody output transferableOutput guard string text printable unprintable
+    denomination constant tag counted number blobRun items listRun listWrite value digits below form wanted asked atLeast layout
+refused-cases =
+    (1, too-long 65537 (omega arith))
+    ∷ refuses [] refl 2 0 refl
+    ∷ refuses (0 ∷ 1 ∷ []) refl 3 0 refl
+    ∷ refuses (zeros 2 ++ word 9) refl 4 2 refl
+    ∷ refuses (paid ++ zeros 8) refl 5 82 refl
+    ∷ refuses (paid ++ zeros 4 ++ word 1 ++ zeros 12 ++ word 2 ++ zeros 40) refl 6 126 refl
+    ∷ refuses (paid ++ zeros 4 ++ word 1 ++ zeros 8 ++ word 1 ++ word 0) refl 7 98 refl
+    ∷ refuses (zeros 50 ++ (0 ∷ 0 ∷ 1 ∷ 1 ∷ [])) refl 8 50 refl
+    ∷ refuses (typed 1 ++ (0 ∷ 1 ∷ 0 ∷ [])) refl 9 56 refl
+    ∷ refuses (typed 1 ++ (0 ∷ 1 ∷ 32 ∷ 0 ∷ 1 ∷ 32 ∷ 33 ∷ [])) refl 10 60 refl
+    ∷ refuses (typed 2 ++ word 0) refl 11 54 refl
+    ∷ refuses (zeros 54 ++ word 1) refl 12 54 refl
+    ∷ refuses (zeros 59) refl 13 58 refl
+    ∷ []
+
+abbrev refusals : List ℕ
+refusals = 1 ∷ 2 ∷ 3 ∷ 4 ∷ 5 ∷ 6 ∷ 7 ∷ 8 ∷ 9 ∷ 10 ∷ 11 ∷ 12 ∷ 13 ∷ []
+
+refused-by : (n : ℕ) → OneOf n refusals → Refused n
+unfolding refused-cases
+refused-by = one-occurs Refused refused-cases
+
+-- ---- the calls that read
+
+-- a transaction with nothing in it: 58 bytes, no entry, no slot
+abbrev empty : List ℕ
+empty = zeros 58
+
+empty-checked : checkedNumber (checked empty) ≡ 0
+unfolding Any.check unsigned head wants credentials constant tag counted number blobRun items listRun listWrite value digits form wanted asked atLeast string layout
+empty-checked = refl
+
+tables : (tabledNumber (tabled empty [] .answer) ≡ 0) × (tabledNumber (tabled A [] .answer) ≡ 14)
+unfolding Any.check unsigned head wants credentials owners amount transferBody output transferableOutput key indices spend inputAfter guard string constant tag
+    counted number blobRun items listRun listWrite value digits below form wanted asked atLeast layout signatureWidth entries planEntries entriesFrom credentialEntries rows
+tables = (refl, refl)
+
+slot-tables : (tabledNumber (tabledSlots empty [] .answer) ≡ 0) × (tabledNumber (tabledSlots A [] .answer) ≡ 14)
+unfolding Any.check unsigned head wants credentials owners amount transferBody output transferableOutput key indices spend inputAfter guard string constant tag
+    counted number blobRun items listRun listWrite value digits below form wanted asked atLeast layout signatureWidth places size Slots.slotsFrom
+slot-tables = (refl, refl)
+
+read-entries : (entryNumber (entryOf A 0 .answer) ≡ 0) × (entryNumber (entryOf empty 0 .answer) ≡ 15)
+unfolding Any.check unsigned head wants credentials owners amount transferBody output transferableOutput key indices spend inputAfter guard string constant tag
+    counted number blobRun items listRun listWrite value digits below form wanted asked atLeast layout signatureWidth entries planEntries entriesFrom credentialEntries nth
+read-entries = (refl, refl)
+
+A-bytes : Bytes A
+A-bytes = bytes-of A refl
+
+-- a case for a number that is given, and those of the check behind it
+behind : (P : ℕ → Type 0) (k n : ℕ) (l : List ℕ) → P k → (OneOf n l → P n) → OneOf n (k ∷ l) → P n
+behind P k n l p on = ⊎-elim (λ e. subst P (sym e) p) on
+
+check-occurs : (n : ℕ) → OneOf n checkNumbers → (s : List ℕ) × Bytes s × (checkedNumber (checked s) ≡ n)
+check-occurs n =
+    behind (λ n. (s : List ℕ) × Bytes s × (checkedNumber (checked s) ≡ n)) 0 n refusals (empty, zero-bytes 58, empty-checked)
+    (λ r. let (s, p, b, e) = refused-by n r in (s, b, ap (λ o. checkedNumber (onResult o C.Refused (λ v m. C.Accepted (Answer.layout (v .0)) m))) e))
+
+module _ (call : List ℕ → List ℕ → Filled) (refuses-alike : (s t : List ℕ) (e : Refusal) → check (avm memoMost) s ≡ refused e → call s t ≡ filled (T.Refused e) t)
+    (done : tabledNumber (call empty [] .answer) ≡ 0) (no-room : tabledNumber (call A [] .answer) ≡ 14) where
+  Listing : ℕ → Type 0
+  Listing n = (s t : List ℕ) × Bytes s × (tabledNumber (call s t .answer) ≡ n)
+
+  listing-occurs : (n : ℕ) → OneOf n tableNumbers → Listing n
+  unfolding Listing
+  listing-occurs n =
+      behind Listing 14 n checkNumbers (A, [], A-bytes, no-room) (behind Listing 0 n refusals (empty, [], zero-bytes 58, done)
+      (λ r. let (s, p, b, e) = refused-by n r in (s, [], b, ap (λ f. tabledNumber (f .answer)) (refuses-alike s [] (refusal n p) e))))
+
+entry-occurs : (n : ℕ) → OneOf n entryNumbers → (s : List ℕ) × (k : ℕ) × Bytes s × (entryNumber (entryOf s k .answer) ≡ n)
+entry-occurs n =
+    behind EntryOf 15 n checkNumbers (empty, 0, zero-bytes 58, read-entries .1) (behind EntryOf 0 n refusals (A, 0, A-bytes, read-entries .0)
+    (λ r. let (s, p, b, e) = refused-by n r in (s, 0, b, ap entryNumber (entry-answers .refused-bytes s 0 (refusal n p) e))))
+  where
+    EntryOf : ℕ → Type 0
+    EntryOf n = (s : List ℕ) × (k : ℕ) × Bytes s × (entryNumber (entryOf s k .answer) ≡ n)
+
+-- ---- merge and fill
+
+abbrev MergeOf : ℕ → Type 0
+MergeOf n = (d e out : List ℕ) × Bytes d × Bytes e × (answerNumber (mergeCall (reader (avm memoMost)) d e out .0) ≡ n)
+
+abbrev merges : (d e out : List ℕ) → eachByte d ≡ true → eachByte e ≡ true → (n : ℕ) → answerNumber (mergeCall (reader (avm memoMost)) d e out .0) ≡ n
+    → (n : ℕ) × MergeOf n
+merges d e out bd be n h = (n, (d, e, out, bytes-of d bd, bytes-of e be, h))
+
+unfoldable merge-cases : List ((n : ℕ) × MergeOf n)
+unfolding Any.check unsigned head wants credentials owners amount transferBody output transferableOutput key indices spend inputAfter guard string constant tag
+    counted number blobRun items listRun listWrite value digits below form wanted asked atLeast layout signatureWidth places blank slotAt put putAll same clashes
+    join firstClash body merged mergeCall
+merge-cases =
+    merges empty empty empty refl refl 0 refl
+    ∷ merges empty empty [] refl refl 14 refl
+    ∷ merges [] empty empty refl refl 17 refl
+    ∷ merges empty [] empty refl refl 18 refl
+    ∷ merges empty (zeros 9 ++ (1 ∷ zeros 48)) empty refl refl 19 refl
+    ∷ merges A (edited 391 (1 ∷ []) A) [] refl refl 20 refl
+    ∷ []
+
+abbrev FillOf : ℕ → Type 0
+FillOf n = (d : List ℕ) × (k : ℕ) × (s : List ℕ) × Bytes d × Bytes s × (answerNumber (fillCall (reader (avm memoMost)) d k s .0) ≡ n)
+
+abbrev fills : (d : List ℕ) (k : ℕ) (s : List ℕ) → eachByte d ≡ true → eachByte s ≡ true → (n : ℕ) → answerNumber (fillCall (reader (avm memoMost)) d k s .0) ≡ n
+    → (n : ℕ) × FillOf n
+fills d k s bd bs n h = (n, (d, k, s, bytes-of d bd, bytes-of s bs, h))
+
+unfoldable fill-cases : List ((n : ℕ) × FillOf n)
+unfolding Any.check unsigned head wants credentials owners amount transferBody output transferableOutput key indices spend inputAfter guard string constant tag
+    counted number blobRun items listRun listWrite value digits below form wanted asked atLeast layout signatureWidth places blank slotAt put same clashes
+    join slotCount slot fillCall
+fill-cases =
+    fills A 0 (zeros 65) refl refl 0 refl
+    ∷ fills empty 0 [] refl refl 15 refl
+    ∷ fills [] 0 [] refl refl 17 refl
+    ∷ fills A 0 (replicate 65 1) refl refl 20 refl
+    ∷ fills A 0 [] refl refl 21 refl
+    ∷ []
+
+pub numbers-occur : NumbersOccur
+unfolding Listing merge-cases fill-cases
+numbers-occur =
+    record {
+      check = check-occurs;
+      check-with-table = listing-occurs tabled (table-answers .refused-bytes) (tables .0) (tables .1);
+      entry = entry-occurs;
+      slots = listing-occurs tabledSlots (slots-answers .lists .refused-bytes) (slot-tables .0) (slot-tables .1);
+      merge = one-occurs MergeOf merge-cases;
+      fill = one-occurs FillOf fill-cases;
+    }

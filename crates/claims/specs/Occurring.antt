@@ -1,0 +1,26 @@
+-- Each number of a call's list is answered to some bytes, so that the lists are exact; those of the writer are in run/specs/Occurring.
+-- Assumes nothing.
+use Prim.Native.Nat.{ℕ}
+use mathlib.Core.Path.{_≡_}
+use mathlib.Core.List.{List}
+use Rattle.wire.specs.Bytes.{Bytes}
+use Rattle.wire.specs.Orders.{OneOf}
+use Rattle.transaction.specs.Avm.{avm}
+use Rattle.transaction.specs.Answer.{memoMost, checked, checkedNumber}
+use Rattle.table.specs.Table.{tabled, tabledNumber}
+use Rattle.entry.specs.Entry.{entryOf, entryNumber}
+use Rattle.slot_table.specs.Table.{tabledSlots}
+use Rattle.draft.specs.Reader.{reader}
+use Rattle.draft.specs.Calls.{answerNumber, mergeCall, fillCall}
+use Rattle.grouping.specs.Answers.{mergeNumbers, fillNumbers}
+use Rattle.claims.specs.Answers.{checkNumbers, tableNumbers, entryNumbers}
+
+pub record NumbersOccur : Type 0 where
+  pub check : (n : ℕ) → OneOf n checkNumbers → (s : List ℕ) × Bytes s × (checkedNumber (checked s) ≡ n)
+  pub check-with-table : (n : ℕ) → OneOf n tableNumbers → (s t : List ℕ) × Bytes s × (tabledNumber (tabled s t .answer) ≡ n)
+  pub entry : (n : ℕ) → OneOf n entryNumbers → (s : List ℕ) × (k : ℕ) × Bytes s × (entryNumber (entryOf s k .answer) ≡ n)
+  pub slots : (n : ℕ) → OneOf n tableNumbers → (s t : List ℕ) × Bytes s × (tabledNumber (tabledSlots s t .answer) ≡ n)
+  pub merge : (n : ℕ) → OneOf n mergeNumbers
+      → (d e out : List ℕ) × Bytes d × Bytes e × (answerNumber (mergeCall (reader (avm memoMost)) d e out .0) ≡ n)
+  pub fill : (n : ℕ) → OneOf n fillNumbers
+      → (d : List ℕ) × (k : ℕ) × (s : List ℕ) × Bytes d × Bytes s × (answerNumber (fillCall (reader (avm memoMost)) d k s .0) ≡ n)
