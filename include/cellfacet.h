@@ -102,9 +102,9 @@ uint64_t cellfacet_check(const uint8_t *bytes, size_t length);
  *
  * first, second and out each point to as many bytes as the length behind them says, or may be
  * NULL where it is 0. `out` shares no byte with the drafts, and nothing else reads or writes it
- * during the call, nor writes the drafts. Where merges are chained, `out` shares no byte either
- * with a draft or an earlier result that is still to be merged, and nothing writes those before
- * they are. Any bytes will do. Room for a draft is enough: the length of either, or 65,536.
+ * during the call, nor writes the drafts. When merges are chained, `out` must not overlap
+ * a draft or an earlier result that is still to be merged, and nothing may write to those until
+ * they have been merged. Any bytes will do. Room for a draft is enough: the length of either, or 65,536.
  *
  * On CELLFACET_DONE the merge stands at the front of `out`, and no byte behind it has changed.
  * On any other number no byte of `out` has.

@@ -1,5 +1,5 @@
 -- Demand 1 of document 00, of the calls that read: whatever the bytes, the answer has a number of the call's list, a refusal changes nothing that
--- was lent, and number and place are the check's own wherever they should be. That a call ends and stays inside the memory lent is what it means
+-- was lent, and bytes that are not accepted get the check's own number and place. That a call ends and stays inside the memory lent is what it means
 -- that the function with this answer is proved. Assumes nothing.
 use Prim.Native.Nat.{ℕ, _*_, _≤_, _<_}
 use mathlib.Core.Path.{_≡_}
@@ -48,15 +48,15 @@ pub record CheckAnswers : Type 0 where
 
 -- ---- the calls that list rows of three numbers in a lent table
 
--- `call s t` checks the bytes s and lists in the table t; of the reading v of s there are `count s v` rows, the numbers `rows s v`
+-- `call s t` checks the bytes s and writes rows into the table t. A reading v of s has `count s v` rows; their numbers are `rows s v`
 pub record Lists (call : List ℕ → List ℕ → Filled) (count : List ℕ → Signed (avm memoMost) → ℕ) (rows : List ℕ → Signed (avm memoMost) → List ℕ) : Type 0 where
   pub number : (s t : List ℕ) → OneOf (tabledNumber (call s t .answer)) tableNumbers
   -- bytes that are not accepted get the check's own refusal, whatever the room
   pub refused-bytes : (s t : List ℕ) (e : Refusal) → check (avm memoMost) s ≡ refused e → call s t ≡ filled (T.Refused e) t
-  -- accepted bytes, whose rows have room: every row stands at the front, and each number beyond them is as before
+  -- accepted bytes whose rows fit: every row stands at the front, and each number beyond them is as before
   pub listed : (s t : List ℕ) (v : Signed (avm memoMost)) (n : ℕ) → check (avm memoMost) s ≡ took v n → 3 * count s v ≤ length t
       → call s t ≡ filled (T.Listed (count s v) n) (rows s v ++ drop (3 * count s v) t)
-  -- accepted bytes, whose rows have not: 14 at 0
+  -- accepted bytes whose rows do not fit: 14 at 0
   pub no-room : (s t : List ℕ) (v : Signed (avm memoMost)) (n : ℕ) → check (avm memoMost) s ≡ took v n → length t < 3 * count s v
       → call s t ≡ filled (T.Refused (refusal 14 0)) t
   -- a refusal has no rows and changes no number of the table

@@ -1,5 +1,5 @@
 -- The formats of a transaction's parts have exactly the values that specs/Good says. Assumes nothing.
-use mathlib.Core.Path.{_≡_, refl, ap}
+use mathlib.Core.Path.{_≡_, refl, ap, subst, subst⁻¹}
 use mathlib.Core.Logic.{_↔_, Iff·rfl, Iff·trans, Iff·and, _⊎_, inl, inr}
 use Prim.Native.Nat.{ℕ, suc, _^_, _≤_, _<_}
 use native.Mathlib.Omega.{arith}
@@ -21,7 +21,7 @@ use Rattle.element.specs.Owners.{Owners, owners}
 use Rattle.element.specs.Outputs.{amount, transferBody, OutputType, secpMint, secpTransfer, nftMint, nftTransfer, outputCode, OutputBody, outputBody, outputType, outputType-code, Output, output, TransferableOutput, transferableOutput}
 use Rattle.element.specs.Inputs.{key, indices, Input, spend, inputAfter, input}
 use Rattle.element.specs.Operations.{OperationType, mintNft, transferNft, operationCode, operationType, operationType-code, OperationOwners, operationOwners, terms, action, Operation, operation, Fx, secpFx, nftFx, fxCode, fxOf, fxOf-code, fxOutputs, fxId, stateOutputs, InitialState, initialStateAfter, initialState}
-use Rattle.element.specs.Good.{GoodString, Printable, GoodText, GoodOwners, GoodAmount, GoodOutputBody, GoodOutput, GoodTransferableOutput, GoodIndices, GoodKey, GoodInput, inputKey, GoodRecipients, GoodOperationOwners, GoodTerms, GoodOperation, GoodInitialState}
+use Rattle.element.specs.Good.{GoodString, Printable, GoodText, GoodOwners, GoodAmount, GoodOutputBody, GoodOutput, GoodTransferableOutput, GoodIndices, GoodKey, GoodInput, inputKey, GoodRecipients, GoodOperationOwners, GoodTerms, GoodOperation, outputsUnder, GoodInitialState}
 use Rattle.element.specs.Layout.{outputBytes, keyBytes}
 use Rattle.element.proofs.Writing.{output-bytes}
 
@@ -279,6 +279,10 @@ fxCode-listed : (k : Fx) → OneOf k (secpFx ∷ nftFx ∷ [])
 fxCode-listed secpFx = inl refl
 fxCode-listed nftFx = inr (inl refl)
 
+outputs-under : (k : Fx) → fxOutputs k ≡ outputsUnder k
+outputs-under secpFx = refl
+outputs-under nftFx = refl
+
 -- an initial state is read in view of the bytes of the one before
 pub initialState-good : (prev : List ℕ) (v : InitialState)
     → initialState prev .Good v ↔ (GoodInitialState v × (below (take 4 prev) (digits 4 (fxCode (v .fx))) ≡ true))
@@ -286,10 +290,10 @@ unfolding initialStateAfter fxId number stateOutputs guard
 initialState-good prev v = (
   λ h.
       let (count, (each, sorted)) = list .0 (h .1) in
-      (record { count = count; outputs = each; order = sorted }, h .0 .1),
+      (record { count = count; outputs = subst (λ (l : List OutputType). All (GoodOutput l) (v .outputs)) (outputs-under (v .fx)) each; order = sorted }, h .0 .1),
   λ g. (
     (tag-good fxCode fxOf fxOf-code (number 4) (secpFx ∷ nftFx ∷ []) unknownType (v .fx) (fxCode-fits (v .fx)) .1 (fxCode-listed (v .fx)), g .1),
-    list .1 (g .0 .count, (g .0 .outputs, g .0 .order)),
+    list .1 (g .0 .count, (subst⁻¹ (λ (l : List OutputType). All (GoodOutput l) (v .outputs)) (outputs-under (v .fx)) (g .0 .outputs), g .0 .order)),
   ),
 )
   where

@@ -9,7 +9,7 @@ use Rattle.wire.specs.Orders.{All, OneOf, Increasing, Nondecreasing, Ascending}
 use Rattle.element.specs.Owners.{Owners}
 use Rattle.element.specs.Outputs.{OutputType, secpMint, secpTransfer, nftMint, nftTransfer, OutputBody, Output, TransferableOutput}
 use Rattle.element.specs.Inputs.{Input}
-use Rattle.element.specs.Operations.{OperationType, mintNft, transferNft, OperationOwners, Operation, fxOutputs, InitialState}
+use Rattle.element.specs.Operations.{OperationType, mintNft, transferNft, OperationOwners, Operation, Fx, secpFx, nftFx, InitialState}
 use Rattle.element.specs.Layout.{outputBytes, keyBytes}
 
 -- ---- strings
@@ -129,8 +129,13 @@ pub record GoodOperation (v : Operation) : Type 0 where
 
 -- ---- initial states
 
--- outputs 6 and 7 under FxID 0, 10 and 11 under FxID 1, non-decreasing as byte strings; that FxIDs strictly increase is said of their list
+-- outputs 6 and 7 under FxID 0, 10 and 11 under FxID 1
+abbrev pub outputsUnder : Fx → List OutputType
+outputsUnder secpFx = secpMint ∷ secpTransfer ∷ []
+outputsUnder nftFx = nftMint ∷ nftTransfer ∷ []
+
+-- outputs non-decreasing as byte strings; that FxIDs strictly increase is said of their list
 pub record GoodInitialState (v : InitialState) : Type 0 where
   pub count : length (v .outputs) < 2 ^ 32
-  pub outputs : All (GoodOutput (fxOutputs (v .fx))) (v .outputs)
+  pub outputs : All (GoodOutput (outputsUnder (v .fx))) (v .outputs)
   pub order : Nondecreasing (map outputBytes (v .outputs))

@@ -23,6 +23,6 @@ unfoldable pub walk : List ℕ → ℕ → List Slot
 unfolding walkFrom
 walk s at = number 4 .run s at (λ e. []) λ n q. walkFrom 0 n s q
 
--- a table in which the i-th number and those behind it are l. It is shut, so that `search` reads its arguments off it
+-- a table in which the i-th number and those behind it are l. Not unfolded, so that proof search finds its arguments
 unfoldable pub put : List ℕ → ℕ → List ℕ → List ℕ
 put t i l = sets t i l

@@ -1,5 +1,5 @@
--- A refusal names the first broken rule and its place (demand 2), as one statement over every byte string. The bytes are taken left to right, so
--- "first" is said by the shortest beginning that settles the answer: what is shorter is only cut short, and what follows does not matter.
+-- A refusal names the first broken rule and its place (demand 2), as one statement over every byte string. The first broken rule is the one that
+-- the shortest prefix which settles the answer breaks: every shorter prefix is only cut short, and what follows does not matter.
 -- Assumes nothing.
 use mathlib.Core.Path.{_≡_}
 use mathlib.Core.Logic.{_↔_}
@@ -43,5 +43,5 @@ module _ (F : Family) where
     -- "Then fields are taken left to right; a rule is judged at the moment named below": every other refusal has its moment
     pub broken : (s : List ℕ) (n p : ℕ) → Bytes s → (n ≡ tooLong → ⊥) → (n ≡ ruleNumber cutShort → ⊥) → (n ≡ bytesAfterEnd → ⊥)
         → Refuses s n p → (m : ℕ) × Moment s n p m
-    -- "Accepted means that none of 1 to 13 holds": of accepted bytes, what is shorter is cut short and breaks no other rule
+    -- of accepted bytes every shorter prefix is cut short, and breaks no other rule
     pub accepted : (s : List ℕ) → Bytes s → accepted F s ≡ true → (k : ℕ) → k < length s → Cut (take k s)

@@ -55,7 +55,7 @@ ownWants (exportTo chain outputs) = []
 abbrev pub credentialsOf : Transaction → List Want
 credentialsOf t = map inputWant (t .base .inputs) ++ ownWants (t .own)
 
--- ---- which there are
+-- ---- which transactions are good
 
 -- not decreasing as byte strings, asset id included
 pub record GoodOutputs (l : List TransferableOutput) : Type 0 where
@@ -69,7 +69,7 @@ pub record GoodInputs (l : List Input) : Type 0 where
   pub each : All GoodInput l
   pub order : Increasing (map inputKey l)
 
--- of no order
+-- in any order
 pub record GoodOperations (l : List Operation) : Type 0 where
   pub some : 1 ≤ length l
   pub count : length l < 2 ^ 32
