@@ -33,8 +33,8 @@ pub const TABLE_NUMBERS: usize = 9_816;
 /// The numbers that a table for the slots of any transaction needs: three for each of at most 947.
 ///
 /// An empty type 0 has 58 bytes, an input without indices 84, its credential 8, and each index
-/// with its signature 69: (65,536 - 150) / 69, rounded down, is 947. With one imported input the 150 are 186, with
-/// one operation 126, and there is room for 947 too.
+/// with its signature 69: (65,536 - 150) / 69, rounded down, is 947. With one imported input the
+/// 150 are 186, with one operation 126, and there is room for 947 too.
 pub const SLOT_NUMBERS: usize = 2_841;
 
 /// The bytes of a signature.
@@ -80,8 +80,8 @@ pub fn merge(first: &[u8], second: &[u8], out: &mut [u8]) -> Result<usize, Refus
 }
 
 /// Checks, and writes three numbers for each entry into the lent table: kind, start, length.
-/// The answer is the number of entries; numbers beyond the rows keep their values,
-/// and on a refusal all of them do.
+/// The answer is the number of entries; numbers beyond the rows keep their values, and on a
+/// refusal all of them do.
 ///
 /// ```
 /// let mut table = [0; cellfacet::TABLE_NUMBERS];
@@ -170,8 +170,8 @@ pub fn entries(bytes: &[u8]) -> Result<Vec<Entry>, Refusal> {
 
 /// Checks, and writes three numbers for each slot into the lent table: the credential that it
 /// stands in, from 0; its first byte; and 1 where it is filled, 0 where all of its bytes are
-/// zero. The answer is the number of slots; numbers beyond the rows keep their values,
-/// and on a refusal all of them do.
+/// zero. The answer is the number of slots; numbers beyond the rows keep their
+/// values, and on a refusal all of them do.
 ///
 /// ```
 /// let mut table = [0; cellfacet::SLOT_NUMBERS];
