@@ -3,7 +3,7 @@ use Prim.Native.Nat.{ℕ}
 use mathlib.Core.Path.{refl}
 use mathlib.Core.List.{List, [], _∷_}
 use lib.ListN.{take}
-use lib.Dec.{leb, ltb}
+use lib.Dec.{ltb}
 use Rattle.wire.specs.Numbers.{ruleNumber, cutShort, unknownType, zeroAmount, outOfOrder, badThreshold, badLength}
 use Rattle.wire.specs.Format.{Format}
 use Rattle.wire.specs.Fields.{number, blob, constant}
@@ -13,7 +13,7 @@ use Rattle.wire.specs.Orders.{OneOf}
 use Rattle.wire.proofs.Refusing.{RefusesBy, one-of, blob-refuses, number-refuses, constant-refuses, then-refuses, guard-refuses, mapped-refuses, tag-refuses, series-refuses, above-refuses, notBelow-refuses, counted-refuses}
 use Rattle.string.specs.Strings.{payload}
 use Rattle.string.proofs.Refusing.{string-refuses}
-use Rattle.element.specs.Owners.{addressWidth, owners}
+use Rattle.element.specs.Owners.{addressWidth, thresholdFits, owners}
 use Rattle.element.specs.Outputs.{amount, OutputType, secpMint, secpTransfer, nftMint, nftTransfer, outputCode, outputType, outputType-code, transferBody, outputBody, output, transferableOutput}
 use Rattle.element.specs.Inputs.{key, indices, spend, inputAfter}
 use Rattle.element.specs.Operations.{OperationType, mintNft, transferNft, operationCode, operationType, operationType-code, operationOwners, terms, action, operation, Fx, secpFx, nftFx, fxCode, fxOf, fxOf-code, fxOutputs, fxId, stateOutputs, initialStateAfter, initialState}
@@ -44,12 +44,12 @@ module _ (P : ℕ → Type 0) (short : P (ruleNumber cutShort)) where
       owners-refuses : RefusesBy owners P
       unfolding owners
       owners-refuses =
-          let bound : Format (ℕ × ℕ) = guard (andThen (number 4) (λ threshold. number 4)) (λ v. leb (v .0) (v .1)) badThreshold in
+          let bound : Format (ℕ × ℕ) = guard (andThen (number 4) (λ threshold. number 4)) (λ v. thresholdFits (v .0) (v .1)) badThreshold in
           mapped-refuses P (andThen (number 8) (λ locktime. andThen bound (λ v. increasing (blob addressWidth) (v .1))))
           (λ (locktime, ((threshold, count), list)). record { locktime = locktime; threshold = threshold; addresses = list })
           (then-refuses P (number 8) (λ locktime. andThen bound (λ v. increasing (blob addressWidth) (v .1))) (number-refuses P 8 short) λ locktime.
           then-refuses P bound (λ v. increasing (blob addressWidth) (v .1))
-          (guard-refuses P (andThen (number 4) (λ threshold. number 4)) (λ v. leb (v .0) (v .1)) badThreshold
+          (guard-refuses P (andThen (number 4) (λ threshold. number 4)) (λ v. thresholdFits (v .0) (v .1)) badThreshold
           (then-refuses P (number 4) (λ threshold. number 4) four-refuses (λ n. four-refuses)) threshold)
           (λ v. series-refuses P (above (blob addressWidth)) [] (v .1)
           (λ prev. above-refuses P (blob addressWidth) prev (blob-refuses P addressWidth short) order)))

@@ -6,7 +6,7 @@ use Rattle.wire.specs.Numbers.{ruleNumber, cutShort, badLength, notPrintable, b
 use Rattle.wire.specs.Fields.{number, blob}
 use Rattle.wire.specs.Sequence.{andThen, guard}
 use Rattle.wire.proofs.Refusing.{RefusesBy, blob-refuses, number-refuses, then-refuses, guard-refuses, guardAt-refuses, mapped-refuses}
-use Rattle.string.specs.Strings.{lengthTo, string, unprintable, unprintable-within, printable, text, denomination}
+use Rattle.string.specs.Strings.{lengthFits, notEmpty, textLength, denominationFits, lengthTo, string, unprintable, unprintable-within, printable, text, denomination}
 
 module _ (P : ℕ → Type 0) (short : P (ruleNumber cutShort)) where
   pub string-refuses : (w most : ℕ) → P (ruleNumber badLength) → RefusesBy (string w most) P
@@ -14,7 +14,7 @@ module _ (P : ℕ → Type 0) (short : P (ruleNumber cutShort)) where
   string-refuses w most h =
       mapped-refuses P (andThen (lengthTo w most) blob) (λ v. v .1)
       (then-refuses P (lengthTo w most) blob
-      (guard-refuses P (number w) (λ n. leb n most) badLength (number-refuses P w short) h) (λ n. blob-refuses P n short))
+      (guard-refuses P (number w) (λ n. lengthFits most n) badLength (number-refuses P w short) h) (λ n. blob-refuses P n short))
 
   printable-refuses : (n : ℕ) → P (ruleNumber notPrintable) → RefusesBy (printable n) P
   unfolding printable
@@ -25,12 +25,12 @@ module _ (P : ℕ → Type 0) (short : P (ruleNumber cutShort)) where
   pub text-refuses : (most : ℕ) → P (ruleNumber badLength) → P (ruleNumber notPrintable) → RefusesBy (text most) P
   unfolding text
   text-refuses most h k =
-      mapped-refuses P (andThen (guard (guard (number 2) (λ n. ltb 0 n) badLength) (λ n. leb n most) badLength) printable) (λ v. v .1)
-      (then-refuses P (guard (guard (number 2) (λ n. ltb 0 n) badLength) (λ n. leb n most) badLength) printable
-      (guard-refuses P (guard (number 2) (λ n. ltb 0 n) badLength) (λ n. leb n most) badLength
-      (guard-refuses P (number 2) (λ n. ltb 0 n) badLength (number-refuses P 2 short) h) h)
+      mapped-refuses P (andThen (textLength most) printable) (λ v. v .1)
+      (then-refuses P (textLength most) printable
+      (guard-refuses P (guard (number 2) (λ n. notEmpty n) badLength) (λ n. lengthFits most n) badLength
+      (guard-refuses P (number 2) (λ n. notEmpty n) badLength (number-refuses P 2 short) h) h)
       (λ n. printable-refuses n k))
 
   pub denomination-refuses : P (ruleNumber badDenomination) → RefusesBy denomination P
   unfolding denomination
-  denomination-refuses h = guard-refuses P (number 1) (λ n. leb n 32) badDenomination (number-refuses P 1 short) h
+  denomination-refuses h = guard-refuses P (number 1) (λ n. denominationFits n) badDenomination (number-refuses P 1 short) h

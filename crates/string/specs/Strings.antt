@@ -13,8 +13,11 @@ use Rattle.wire.specs.Fields.{number, blob, blob-sized}
 use Rattle.wire.specs.Sequence.{andThen, guard, guardAt, named}
 
 -- a length of w bytes, at most `most`
+abbrev pub lengthFits : ℕ → ℕ → Bool
+lengthFits most n = leb n most
+
 abbrev pub lengthTo : ℕ → ℕ → Format ℕ
-lengthTo w most = guard (number w) (λ n. leb n most) badLength
+lengthTo w most = guard (number w) (λ n. lengthFits most n) badLength
 
 unfoldable pub string : ℕ → ℕ → Format (List ℕ)
 unfolding named andThen guard
@@ -56,10 +59,16 @@ unfoldable pub printable : ℕ → Format (List ℕ)
 unfolding guardAt
 printable n = guardAt (blob n) (λ b. eqb (unprintable b) (length b)) notPrintable (λ at b. at + unprintable b) (λ at b h. unprintable-within n at b)
 
+abbrev pub notEmpty : ℕ → Bool
+notEmpty n = ltb 0 n
+
+abbrev pub textLength : ℕ → Format ℕ
+textLength most = guard (guard (number 2) (λ n. notEmpty n) badLength) (λ n. lengthFits most n) badLength
+
 unfoldable pub text : ℕ → Format (List ℕ)
 unfolding named andThen guard guardAt printable
 text most =
-    named (andThen (guard (guard (number 2) (λ n. ltb 0 n) badLength) (λ n. leb n most) badLength) printable) (λ v. v .1) (λ b. (length b, b))
+    named (andThen (textLength most) printable) (λ v. v .1) (λ b. (length b, b))
     (λ v h. ap (λ (n : ℕ). (n, v .1)) (blob-sized (v .0) (v .1) (h .1 .0))) (λ b. refl)
 
 abbrev pub name : Format (List ℕ)
@@ -68,6 +77,9 @@ name = text 128
 abbrev pub symbol : Format (List ℕ)
 symbol = text 4
 
+abbrev pub denominationFits : ℕ → Bool
+denominationFits n = leb n 32
+
 unfoldable pub denomination : Format ℕ
 unfolding guard
-denomination = guard (number 1) (λ n. leb n 32) badDenomination
+denomination = guard (number 1) (λ n. denominationFits n) badDenomination
