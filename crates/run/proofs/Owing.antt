@@ -1,8 +1,8 @@
--- What every step owes, whatever state and buffer it is given: it answers as a verdict says, and the verdict's number is P where the numbers of its
--- tests are. Assumes nothing.
+-- What every step owes, whatever state and buffer it is given: it answers as a guarded verdict says, by 16 where it is not due, by 14 where the
+-- buffer is short, and then by its rules, whose number is P where the numbers of their tests are. Assumes nothing.
 use Prim.Native.Nat.{ℕ, suc, _+_, _≤_}
 use mathlib.Core.Path.{_≡_, refl, sym, subst}
-use mathlib.Core.Bool.{Bool, true, false, _&&_}
+use mathlib.Core.Bool.{Bool, true, false, _&&_, _||_, or-false}
 use mathlib.Core.List.{List, _++_}
 use native.Mathlib.Omega.{arith}
 use lib.ListN.{length, take}
@@ -21,7 +21,7 @@ use Rattle.judge.specs.Judged.{judged, onFine}
 use Rattle.judge.specs.declared.Verdict.{Verdict}
 use Rattle.judge.specs.declared.Verdict.the-variants as J
 use Rattle.judge.proofs.Verdicts.{pick-fine, both-true, judged-read, judged-then, judged-on}
-use Rattle.due.specs.Plans.{isSegment, planOf}
+use Rattle.due.specs.Plans.{isSegment, planOf, dueOf, isList, isField, isOpen, isEnd}
 use Rattle.buffer.specs.Stores.{roomFor, overwrite}
 use Rattle.buffer.proofs.Stores.{room-inv, length-overwrite}
 use Rattle.blank.specs.Closing.{closing, closable}
@@ -35,14 +35,14 @@ abbrev pub Numbered : (ℕ → Type 0) → Verdict → Type 0
 Numbered P J.Fine = Unit {0}
 Numbered P (J.Refuse n) = P n
 
--- a step that answers as its verdict says; what it leaves is as long as what it was given
-pub record Owed (P : ℕ → Type 0) (w : Writer) (s : List ℕ) (t : Turn) : Type 0 where
-  pub verdict : Verdict
-  pub numbered : Numbered P verdict
+-- a step that answers by its rules where it is due and the buffer is not short; what it leaves is as long as what it was given
+pub record Owed (P : ℕ → Type 0) (isDue : Bool) (w : Writer) (s : List ℕ) (t : Turn) : Type 0 where
+  pub rules : Verdict
+  pub numbered : isDue ≡ true → Numbered P rules
   pub next : Writer
   pub buffer : List ℕ
-  pub is : t ≡ answered verdict w s next buffer
-  pub long : verdict ≡ J.Fine → length buffer ≡ length s
+  pub is : t ≡ answered (guarded isDue w s rules) w s next buffer
+  pub long : guarded isDue w s rules ≡ J.Fine → length buffer ≡ length s
 
 module _ (P : ℕ → Type 0) where
   pub pick-numbered : (t : Bool) (v : Verdict) (n : ℕ) → Numbered P v → P n → Numbered P (pick t v (J.Refuse n))
@@ -66,10 +66,17 @@ module _ (P : ℕ → Type 0) where
 
   -- ---- the numbers of every step
 
-  module _ (room : P noRoom) (due : P stepNotDue) where
-    guarded-numbered : (t : Bool) (w : Writer) (s : List ℕ) (v : Verdict) → (t ≡ true → Numbered P v) → Numbered P (guarded t w s v)
-    guarded-numbered true w s v h = pick-numbered (leb (w .at) (length s)) v noRoom (h refl) room
-    guarded-numbered false w s v h = due
+  -- what is judged by the part of that name, if it is due
+  abbrev pub Judges : Writer → List ℕ → Segment → Given → Plan → Type 0
+  Judges w s l g shut = Unit {0}
+  Judges w s l g end = Unit {0}
+  Judges w s l g (field m C q) = isSegment l m ≡ true → Numbered P (judged (C .content) g J.Fine)
+  Judges w s l g (many m E q) = isSegment l m ≡ true → Numbered P (judged (E .element (prev w s)) g J.Fine)
+
+  module _ (room : P noRoom) where
+    pub guarded-numbered : P stepNotDue → (t : Bool) (w : Writer) (s : List ℕ) (v : Verdict) → (t ≡ true → Numbered P v) → Numbered P (guarded t w s v)
+    guarded-numbered due true w s v h = pick-numbered (leb (w .at) (length s)) v noRoom (h refl) room
+    guarded-numbered due false w s v h = due
 
     room-numbered : (n : ℕ) (s : List ℕ) → Numbered P (roomFor n s)
     unfolding roomFor
@@ -78,28 +85,23 @@ module _ (P : ℕ → Type 0) where
     then-room : {A : Type 0} (F : Format A) (g : Given) (n : ℕ) (s : List ℕ) → Numbered P (judged F g J.Fine) → Numbered P (judged F g (roomFor n s))
     then-room F g n s h = subst (Numbered P) (sym (judged-on F g (roomFor n s))) (on-numbered (judged F g J.Fine) (roomFor n s) h (room-numbered n s))
 
-    none-owed : (w : Writer) (s : List ℕ) → Owed P w s (answered (J.Refuse stepNotDue) w s w s)
-    none-owed w s = record { verdict = J.Refuse stepNotDue; numbered = due; next = w; buffer = s; is = refl; long = λ e. refl }
+    none-owed : (w : Writer) (s : List ℕ) → Owed P false w s (answered (J.Refuse stepNotDue) w s w s)
+    none-owed w s = record { rules = J.Fine; numbered = λ e. tt; next = w; buffer = s; is = refl; long = λ e. refl }
 
     -- ---- a field, or an element
 
-    -- what is judged by the part of that name, if it is due
-    abbrev pub Judges : Writer → List ℕ → Segment → Given → Plan → Type 0
-    Judges w s l g shut = Unit {0}
-    Judges w s l g end = Unit {0}
-    Judges w s l g (field m C q) = isSegment l m ≡ true → Numbered P (judged (C .content) g J.Fine)
-    Judges w s l g (many m E q) = isSegment l m ≡ true → Numbered P (judged (E .element (prev w s)) g J.Fine)
-
-    pub put-owed : (q : Plan) (w : Writer) (s : List ℕ) (l : Segment) (g : Given) → Judges w s l g q → Owed P w s (putAt q w s l g)
+    pub put-owed : (q : Plan) (w : Writer) (s : List ℕ) (l : Segment) (g : Given) → Judges w s l g q
+        → Owed P (isField l (dueOf q) || (isOpen l (dueOf q) && sane w)) w s (putAt q w s l g)
     unfolding putAt appended
     put-owed shut w s l g h = none-owed w s
     put-owed end w s l g h = none-owed w s
     put-owed (field m C q) w s l g h =
         let ys : List ℕ = g .bytes ++ opening q in
         let R : Verdict = roomFor (w .at + length ys) s in
+        subst (λ (t : Bool). Owed P t w s (putAt (field m C q) w s l g)) (sym (or-false (isSegment l m)))
         record {
-          verdict = guarded (isSegment l m) w s (judged (C .content) g R);
-          numbered = guarded-numbered (isSegment l m) w s _ (λ e. then-room (C .content) g (w .at + length ys) s (h e));
+          rules = judged (C .content) g R;
+          numbered = λ e. then-room (C .content) g (w .at + length ys) s (h e);
           next = opened (w .kind) (suc (w .phase)) (w .at + length (g .bytes)) q;
           buffer = overwrite s (w .at) ys;
           is = refl;
@@ -111,9 +113,8 @@ module _ (P : ℕ → Type 0) where
         let ys : List ℕ = g .bytes in
         let R : Verdict = roomFor (w .at + length ys) s in
         record {
-          verdict = guarded (isSegment l m && sane w) w s (judged (E .element (prev w s)) g R);
-          numbered = guarded-numbered (isSegment l m && sane w) w s _
-              (λ e. then-room (E .element (prev w s)) g (w .at + length ys) s (h (both-true (isSegment l m) (sane w) e .0)));
+          rules = judged (E .element (prev w s)) g R;
+          numbered = λ e. then-room (E .element (prev w s)) g (w .at + length ys) s (h (both-true (isSegment l m) (sane w) e .0));
           next = grown w (length ys);
           buffer = appended w s ys;
           is = refl;
@@ -130,7 +131,7 @@ module _ (P : ℕ → Type 0) where
 
     -- ---- the other steps
 
-    pub close-owed : P (ruleNumber emptyList) → (q : Plan) (w : Writer) (s : List ℕ) → Owed P w s (closeAt q w s)
+    pub close-owed : P (ruleNumber emptyList) → (q : Plan) (w : Writer) (s : List ℕ) → Owed P (isList (dueOf q)) w s (closeAt q w s)
     unfolding closeAt
     close-owed h shut w s = none-owed w s
     close-owed h end w s = none-owed w s
@@ -139,9 +140,8 @@ module _ (P : ℕ → Type 0) where
         let R : Verdict = roomFor (w .at + length (opening q)) s in
         let rules : Verdict = pick (leb (E .least) (w .count)) R (J.Refuse (ruleNumber emptyList)) in
         record {
-          verdict = guarded true w s rules;
-          numbered = guarded-numbered true w s rules
-              (λ e. pick-numbered (leb (E .least) (w .count)) R (ruleNumber emptyList) (room-numbered (w .at + length (opening q)) s) h);
+          rules = rules;
+          numbered = λ e. pick-numbered (leb (E .least) (w .count)) R (ruleNumber emptyList) (room-numbered (w .at + length (opening q)) s) h;
           next = opened (w .kind) (suc (w .phase)) (w .at) q;
           buffer = overwrite s (w .at) (opening q);
           is = refl;
@@ -153,7 +153,7 @@ module _ (P : ℕ → Type 0) where
 
     module _ (F : Family) where
       pub finish-owed : RefusesBy (unsigned F) P → P (ruleNumber cutShort) → P bytesAfterEnd → (q : Plan) (w : Writer) (s : List ℕ)
-          → Owed P w s (finishAt F q w s)
+          → Owed P (isEnd (dueOf q)) w s (finishAt F q w s)
       unfolding finishAt closable
       finish-owed f h k shut w s = none-owed w s
       finish-owed f h k end w s =
@@ -161,9 +161,8 @@ module _ (P : ℕ → Type 0) where
           let R : Verdict = roomFor (w .at + length ys) s in
           let rules : Verdict = judged (unsigned F) (given (take (w .at) s)) R in
           record {
-            verdict = guarded true w s rules;
-            numbered = guarded-numbered true w s rules
-                (λ e. then-room (unsigned F) (given (take (w .at) s)) (w .at + length ys) s (judged-numbered (unsigned F) (given (take (w .at) s)) f h k));
+            rules = rules;
+            numbered = λ e. then-room (unsigned F) (given (take (w .at) s)) (w .at + length ys) s (judged-numbered (unsigned F) (given (take (w .at) s)) f h k);
             next = opened (w .kind) (suc (w .phase)) (w .at + length ys) shut;
             buffer = overwrite s (w .at) ys;
             is = refl;
@@ -175,7 +174,8 @@ module _ (P : ℕ → Type 0) where
       finish-owed f h k (many m E q) w s = none-owed w s
 
       module _ (w : Writer) (s : List ℕ) (kind network : ℕ) (chain : List ℕ) where
-        pub start-owed : Numbered P (judged (head F) (given (headBytes kind network chain)) J.Fine) → Owed P w s (start F w s kind network chain)
+        pub start-owed : Numbered P (judged (head F) (given (headBytes kind network chain)) J.Fine)
+            → Owed P (eqb (w .phase) 0) w s (start F w s kind network chain)
         unfolding start
         start-owed h =
             let ys : List ℕ = headBytes kind network chain in
@@ -183,8 +183,8 @@ module _ (P : ℕ → Type 0) where
             let R : Verdict = roomFor (length zs) s in
             let rules : Verdict = judged (head F) (given ys) R in
             record {
-              verdict = guarded (eqb (w .phase) 0) w s rules;
-              numbered = guarded-numbered (eqb (w .phase) 0) w s rules (λ e. then-room (head F) (given ys) (length zs) s h);
+              rules = rules;
+              numbered = λ e. then-room (head F) (given ys) (length zs) s h;
               next = opened kind 1 (length ys) (planOf F kind);
               buffer = overwrite s 0 zs;
               is = refl;

@@ -1,11 +1,12 @@
 -- Calls of the writer's methods, runs of them, and the calls that the reading of a transaction spells. Assumes nothing.
 use Prim.Native.Nat.{ℕ, _≤_, _<_, _^_}
 use mathlib.Core.Path.{_≡_}
-use mathlib.Core.Logic.{_⊎_}
-use mathlib.Core.Bool.{true}
+use mathlib.Core.Logic.{_⊎_, _↔_}
+use mathlib.Core.Bool.{Bool, true, false, _&&_, _||_}
 use mathlib.Core.List.{List, [], _∷_, _++_, map}
 use lib.ListN.{length, take}
-use Rattle.wire.specs.Bytes.{Bytes}
+use lib.Dec.{eqb}
+use Rattle.wire.specs.Bytes.{Bytes, pick}
 use Rattle.wire.specs.Numbers.{noRoom, stepNotDue}
 use Rattle.wire.specs.Format.{took}
 use Rattle.wire.specs.Orders.{OneOf}
@@ -22,10 +23,14 @@ use Rattle.transaction.specs.Avm.{kindCode, ownPlan, avm}
 use Rattle.transaction.specs.Answer.{memoMost}
 use Rattle.transaction.specs.declared.Kind.{Kind}
 use Rattle.transaction.specs.declared.Kind.the-variants as K
+use Rattle.transaction.specs.declared.Segment.{Segment}
+use Rattle.transaction.specs.declared.Segment.the-variants as S
+use Rattle.due.specs.Plans.{due, planOf, dueOf, isList, isField, isOpen, isEnd}
+use Rattle.due.specs.declared.Due.{Due}
 use Rattle.writer.specs.declared.Writer.{Writer}
 use Rattle.writer.specs.declared.Written.the-variants as W
 use Rattle.writer.specs.Steps as Steps
-use Rattle.writer.specs.Steps.{Turn, writtenNumber, writtenPlace}
+use Rattle.writer.specs.Steps.{Turn, writtenNumber, writtenPlace, sane}
 use Rattle.writer.specs.Fields.{addOutput, addInput, addOperation, addInitialState, putMemo, putName, putSymbol, putDenomination, putChain}
 
 pub data Call : Type 0 where
@@ -94,7 +99,7 @@ unfoldable pub joined : List (List ℕ) → List ℕ
 joined [] = []
 joined (a ∷ l) = a ++ joined l
 
--- a transferable output is of type 7
+-- a transferable output is of type 7; no accepted transaction has another, so what stands for the others does not matter
 abbrev pub ofOutput : List ℕ → Output → Call
 ofOutput asset (secpMint, o) = close
 ofOutput asset (secpTransfer, (amount, o)) = output asset amount (o .locktime) (o .threshold) (joined (o .addresses))
@@ -146,6 +151,31 @@ callNumbers (denomination n) = 0 ∷ 10 ∷ 14 ∷ 16 ∷ []
 callNumbers close = 0 ∷ 11 ∷ 14 ∷ 16 ∷ []
 callNumbers finish = 0 ∷ 2 ∷ 3 ∷ 4 ∷ 5 ∷ 6 ∷ 7 ∷ 8 ∷ 9 ∷ 10 ∷ 11 ∷ 13 ∷ 14 ∷ 16 ∷ []
 
+-- ---- when a call is due
+
+-- the part of the transaction that the state says is due
+abbrev pub dueNow : Writer → Due
+dueNow w = dueOf (due (w .phase) (planOf (avm memoMost) (w .kind)))
+
+-- a field of that name is due, or a list of that name is open; an element goes into the open list only where the count and the last element that
+-- the state names lie inside the bytes written, as they do behind every run of calls from a fresh writer
+abbrev pub partDue : Segment → Writer → Bool
+partDue l w = isField l (dueNow w) || (isOpen l (dueNow w) && sane w)
+
+abbrev pub isDue : Call → Writer → Bool
+isDue (start kind network id) w = eqb (w .phase) 0
+isDue (output asset amount locktime threshold addresses) w = partDue S.Output w
+isDue (input txid index asset amount indices) w = partDue S.Input w
+isDue (operation b) w = partDue S.Operation w
+isDue (state b) w = partDue S.State w
+isDue (memo b) w = partDue S.Memo w
+isDue (name b) w = partDue S.Name w
+isDue (symbol b) w = partDue S.Symbol w
+isDue (chain c) w = partDue S.Chain w
+isDue (denomination n) w = partDue S.Denomination w
+isDue close w = isList (dueNow w)
+isDue finish w = isEnd (dueNow w)
+
 -- ---- what is claimed of the methods
 
 -- finish behind a run of calls from a fresh writer over the buffer s
@@ -176,6 +206,10 @@ placeOf c w s = writtenPlace (call c w s .step .answer)
 -- any call, any state, any buffer
 pub record MethodsOwe : Type 0 where
   pub number : (c : Call) → Typed c → (w : Writer) (s : List ℕ) → OneOf (numberOf c w s) (callNumbers c)
+  -- 16 where the step is not due, and nowhere else
+  pub not-due : (c : Call) (w : Writer) (s : List ℕ) → (numberOf c w s ≡ stepNotDue) ↔ (isDue c w ≡ false)
+  -- "14, after 16 and before the rules, where the buffer is shorter than the bytes written"
+  pub short-buffer : (c : Call) (w : Writer) (s : List ℕ) → length s < w .at → numberOf c w s ≡ pick (isDue c w) noRoom stepNotDue
   -- a refusal changes neither state nor buffer, and its place is 0
   pub refused-state : (c : Call) (w : Writer) (s : List ℕ) → (numberOf c w s ≡ 0 → ⊥) → call c w s .step .next ≡ w
   pub refused-buffer : (c : Call) (w : Writer) (s : List ℕ) → (numberOf c w s ≡ 0 → ⊥) → call c w s .buffer ≡ s
