@@ -7,7 +7,7 @@ use Rattle.transaction.proofs.FirstBroken.{first-broken}
 use Rattle.run.proofs.Calling.{methods-finish, methods-round-trip}
 use Rattle.run.proofs.Finishing.{finished-is-accepted}
 use Rattle.run.proofs.Numbering.{methods-owe}
-use Rattle.run.proofs.Occurring as Writer
+use Rattle.run.proofs.Occurring.{writer-numbers-occur}
 use Rattle.grouping.proofs.Theorems.{demand-3, slots-of-reading, avm-demand-3, avm-orders, avm-filling, avm-calls-owe}
 use Rattle.phone.proofs.Unpacking.{unpacked}
 use Rattle.claims.specs.Cases.{proved-cases}
@@ -28,7 +28,7 @@ demand-1-holds =
       merge-and-fill = avm-calls-owe;
       writer = methods-owe;
       numbers-occur = numbers-occur;
-      writer-numbers-occur = Writer.numbers-occur;
+      writer-numbers-occur = writer-numbers-occur;
       phone = unpacked;
     }
 

@@ -14,7 +14,7 @@ use Rattle.transaction.specs.FirstBroken.{FirstBroken}
 use Rattle.draft.specs.Reader.{reader}
 use Rattle.run.specs.Claims.{FinishedIsAccepted}
 use Rattle.run.specs.Calls.{MethodsOwe, MethodsFinish, MethodsRoundTrip}
-use Rattle.run.specs.Occurring as Writer
+use Rattle.run.specs.Occurring.{WriterNumbersOccur}
 use Rattle.grouping.specs.Answers.{CallsOwe}
 use Rattle.grouping.specs.Slots.{SlotsOfReading}
 use Rattle.grouping.specs.Demand.{Demand3}
@@ -38,7 +38,7 @@ pub record Demand1 : Type 0 where
   pub writer : MethodsOwe
   -- each number of a list is answered by some call, so that the lists are exact
   pub numbers-occur : NumbersOccur
-  pub writer-numbers-occur : Writer.NumbersOccur
+  pub writer-numbers-occur : WriterNumbersOccur
   -- the answer to C is one number, from which number and place are got back
   pub phone : Unpacked
 

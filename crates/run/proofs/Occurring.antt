@@ -2,7 +2,7 @@
 use Prim.Native.Nat.{ℕ, _<_, _^_}
 use mathlib.Core.Path.{_≡_, refl, sym, subst}
 use mathlib.Core.Logic.{⊎-elim}
-use mathlib.Core.Bool.{Bool, true, false, false≢true}
+use mathlib.Core.Bool.{Bool, true, false, _&&_, false≢true}
 use mathlib.Core.List.{List, [], _∷_, _++_}
 use native.Mathlib.Omega.{arith}
 use lib.ListN.{length, replicate}
@@ -25,6 +25,7 @@ use Rattle.transaction.specs.Plan.{atLeast, form}
 use Rattle.transaction.specs.Family.{head, unsigned, wants}
 use Rattle.judge.specs.Given.{addressesOf}
 use Rattle.judge.specs.Judged.{judged}
+use Rattle.judge.proofs.Verdicts.{both-true}
 use Rattle.buffer.specs.Stores.{roomFor}
 use Rattle.blank.specs.Closing.{closing, closable}
 use Rattle.writer.specs.declared.Writer.{Writer}
@@ -32,7 +33,7 @@ use Rattle.writer.specs.Steps.{answered, prev, putAt, closeAt, finishAt, put, c
 use Rattle.writer.specs.Steps as Steps
 use Rattle.run.specs.Calls as C
 use Rattle.run.specs.Calls.{Call, Words, Typed, callNumbers, numberOf}
-use Rattle.run.specs.Occurring.{Method, start, output, input, operation, state, memo, name, symbol, chain, methodOf, Occurs, NumbersOccur}
+use Rattle.run.specs.Occurring.{Method, start, output, input, operation, state, memo, name, symbol, chain, methodOf, Held, Occurs, WriterNumbersOccur}
 use Rattle.run.specs.Occurring as M
 
 -- ---- what the calls are given
@@ -50,6 +51,28 @@ bytes-of (x ∷ s) h = turn (ltb x 256) refl h (bytes-of s)
     turn true p h on = (ltb-true x 256 p, on h)
     turn false p h on = absurd (false≢true h)
 
+-- a state that code can hold, by a test
+abbrev fits : Writer → Bool
+fits w =
+    ltb (w .kind) (2 ^ 32) && (ltb (w .phase) (2 ^ 32) && (ltb (w .count) (2 ^ 32)
+    && (ltb (w .at) (2 ^ 64) && (ltb (w .list) (2 ^ 64) && ltb (w .last) (2 ^ 64)))))
+
+held-of : (w : Writer) → fits w ≡ true → Held w
+held-of w h =
+    let (kind, h₁) = both-true (ltb (w .kind) (2 ^ 32)) _ h in
+    let (phase, h₂) = both-true (ltb (w .phase) (2 ^ 32)) _ h₁ in
+    let (count, h₃) = both-true (ltb (w .count) (2 ^ 32)) _ h₂ in
+    let (at, h₄) = both-true (ltb (w .at) (2 ^ 64)) _ h₃ in
+    let (list, last) = both-true (ltb (w .list) (2 ^ 64)) (ltb (w .last) (2 ^ 64)) h₄ in
+    record {
+      kind = ltb-true (w .kind) (2 ^ 32) kind;
+      phase = ltb-true (w .phase) (2 ^ 32) phase;
+      count = ltb-true (w .count) (2 ^ 32) count;
+      at = ltb-true (w .at) (2 ^ 64) at;
+      list = ltb-true (w .list) (2 ^ 64) list;
+      last = ltb-true (w .last) (2 ^ 64) last;
+    }
+
 abbrev pub zeros : ℕ → List ℕ
 zeros n = replicate n 0
 
@@ -64,8 +87,14 @@ at kind phase n = record { kind = kind; phase = phase; at = n; list = 0; count =
 abbrev Case : Method → Type 0
 Case m = (n : ℕ) × Occurs m n
 
-abbrev occurs : (c : Call) → Typed c → (w : Writer) (s : List ℕ) → eachByte s ≡ true → (n : ℕ) → numberOf c w s ≡ n → Case (methodOf c)
-occurs c typed w s h n e = (n, record { call = c; of = refl; typed = typed; before = w; buffer = s; bytes = bytes-of s h; answers = e })
+-- state and buffer, by one test
+abbrev holds : Writer → List ℕ → Bool
+holds w s = fits w && eachByte s
+
+abbrev occurs : (c : Call) → Typed c → (w : Writer) (s : List ℕ) → holds w s ≡ true → (n : ℕ) → numberOf c w s ≡ n → Case (methodOf c)
+occurs c typed w s h n e =
+    let (f, b) = both-true (fits w) (eachByte s) h in
+    (n, record { call = c; of = refl; typed = typed; before = w; held = held-of w f; buffer = s; bytes = bytes-of s b; answers = e })
 
 -- numbers, each with what is said of it
 module _ (P : ℕ → Type 0) where
@@ -79,7 +108,7 @@ module _ (P : ℕ → Type 0) where
 
 -- ---- start
 
-abbrev starts : (kind : ℕ) → kind < 256 ^ 4 → (w : Writer) (s : List ℕ) → eachByte s ≡ true → (n : ℕ)
+abbrev starts : (kind : ℕ) → kind < 256 ^ 4 → (w : Writer) (s : List ℕ) → holds w s ≡ true → (n : ℕ)
     → numberOf (C.start kind 0 (zeros 32)) w s ≡ n → Case start
 starts kind h w s = occurs (C.start kind 0 (zeros 32)) (h, omega arith, (refl, bytes-of (zeros 32) refl)) w s
 
@@ -95,7 +124,7 @@ start-cases =
 -- ---- output
 
 abbrev gives : (amount threshold : ℕ) (addresses : List ℕ) → amount < 256 ^ 8 → threshold < 256 ^ 4 → eachByte addresses ≡ true
-    → (w : Writer) (s : List ℕ) → eachByte s ≡ true → (n : ℕ) → numberOf (C.output (zeros 32) amount 0 threshold addresses) w s ≡ n → Case output
+    → (w : Writer) (s : List ℕ) → holds w s ≡ true → (n : ℕ) → numberOf (C.output (zeros 32) amount 0 threshold addresses) w s ≡ n → Case output
 gives amount threshold addresses h k b w s =
     occurs (C.output (zeros 32) amount 0 threshold addresses) ((refl, bytes-of (zeros 32) refl), h, omega arith, k, bytes-of addresses b) w s
 
@@ -114,7 +143,7 @@ output-cases =
 
 -- ---- input
 
-abbrev spends : (amount : ℕ) (indices : List ℕ) → amount < 256 ^ 8 → Words indices → (w : Writer) (s : List ℕ) → eachByte s ≡ true
+abbrev spends : (amount : ℕ) (indices : List ℕ) → amount < 256 ^ 8 → Words indices → (w : Writer) (s : List ℕ) → holds w s ≡ true
     → (n : ℕ) → numberOf (C.input (zeros 32) 0 (zeros 32) amount indices) w s ≡ n → Case input
 spends amount indices h k w s =
     occurs (C.input (zeros 32) 0 (zeros 32) amount indices) ((refl, bytes-of (zeros 32) refl), omega arith, (refl, bytes-of (zeros 32) refl), h, k) w s
@@ -131,7 +160,7 @@ input-cases =
 
 -- ---- operation: asset id, no pairs, and a transfer
 
-abbrev operates : (b : List ℕ) → eachByte b ≡ true → (w : Writer) (s : List ℕ) → eachByte s ≡ true → (n : ℕ) → numberOf (C.operation b) w s ≡ n → Case operation
+abbrev operates : (b : List ℕ) → eachByte b ≡ true → (w : Writer) (s : List ℕ) → holds w s ≡ true → (n : ℕ) → numberOf (C.operation b) w s ≡ n → Case operation
 operates b h w s = occurs (C.operation b) (bytes-of b h) w s
 
 abbrev transfer : List ℕ
@@ -153,7 +182,7 @@ operation-cases =
 
 -- ---- state
 
-abbrev states : (b : List ℕ) → eachByte b ≡ true → (w : Writer) (s : List ℕ) → eachByte s ≡ true → (n : ℕ) → numberOf (C.state b) w s ≡ n → Case state
+abbrev states : (b : List ℕ) → eachByte b ≡ true → (w : Writer) (s : List ℕ) → holds w s ≡ true → (n : ℕ) → numberOf (C.state b) w s ≡ n → Case state
 states b h w s = occurs (C.state b) (bytes-of b h) w s
 
 unfoldable state-cases : List (Case state)
@@ -215,7 +244,7 @@ denomination-cases =
     ∷ occurs (C.denomination 0) (omega arith) (at 1 0 0) [] refl 16 refl
     ∷ []
 
-abbrev chains : (w : Writer) (s : List ℕ) → eachByte s ≡ true → (n : ℕ) → numberOf (C.chain (zeros 32)) w s ≡ n → Case chain
+abbrev chains : (w : Writer) (s : List ℕ) → holds w s ≡ true → (n : ℕ) → numberOf (C.chain (zeros 32)) w s ≡ n → Case chain
 chains w s = occurs (C.chain (zeros 32)) (refl, bytes-of (zeros 32) refl) w s
 
 unfoldable chain-cases : List (Case chain)
@@ -239,7 +268,7 @@ close-cases =
 
 -- ---- finish, over bytes that no run of calls has left
 
-abbrev ends : (s : List ℕ) → eachByte s ≡ true → (n : ℕ) → numberOf C.finish (at 0 4 (length s)) s ≡ n → Case M.finish
+abbrev ends : (s : List ℕ) → holds (at 0 4 (length s)) s ≡ true → (n : ℕ) → numberOf C.finish (at 0 4 (length s)) s ≡ n → Case M.finish
 ends s h n = occurs C.finish tt (at 0 4 (length s)) s h n
 
 -- one output, in front of its amount
@@ -286,5 +315,5 @@ each (C.denomination n) = one-occurs (Occurs M.denomination) denomination-cases
 each C.close = one-occurs (Occurs M.close) close-cases
 each C.finish = one-occurs (Occurs M.finish) finish-cases
 
-pub numbers-occur : NumbersOccur
-numbers-occur = record { each = each }
+pub writer-numbers-occur : WriterNumbersOccur
+writer-numbers-occur = record { each = each }

@@ -1,5 +1,5 @@
 -- Each number of a call's list can occur. Assumes nothing.
-use Prim.Native.Nat.{ℕ}
+use Prim.Native.Nat.{ℕ, _<_, _^_}
 use mathlib.Core.Path.{_≡_}
 use mathlib.Core.List.{List}
 use Rattle.wire.specs.Bytes.{Bytes}
@@ -25,16 +25,26 @@ methodOf (C.denomination n) = denomination
 methodOf C.close = close
 methodOf C.finish = finish
 
+-- a state that code can hold: each number fits the field's width
+pub record Held (w : Writer) : Type 0 where
+  pub kind : w .kind < 2 ^ 32
+  pub phase : w .phase < 2 ^ 32
+  pub count : w .count < 2 ^ 32
+  pub at : w .at < 2 ^ 64
+  pub list : w .list < 2 ^ 64
+  pub last : w .last < 2 ^ 64
+
 -- a call of the method answers with n, over some state and some bytes
 pub record Occurs (m : Method) (n : ℕ) : Type 0 where
   pub call : Call
   pub of : methodOf call ≡ m
   pub typed : Typed call
   pub before : Writer
+  pub held : Held before
   pub buffer : List ℕ
   pub bytes : Bytes buffer
   pub answers : numberOf call before buffer ≡ n
 
 -- with `MethodsOwe.number`, a list has exactly the numbers that its method answers with
-pub record NumbersOccur : Type 0 where
+pub record WriterNumbersOccur : Type 0 where
   pub each : (c : Call) (n : ℕ) → OneOf n (callNumbers c) → Occurs (methodOf c) n
