@@ -7,6 +7,7 @@ use Rattle.transaction.proofs.FirstBroken.{first-broken}
 use Rattle.run.proofs.Calling.{methods-finish, methods-round-trip}
 use Rattle.run.proofs.Finishing.{finished-is-accepted}
 use Rattle.run.proofs.Numbering.{methods-owe}
+use Rattle.run.proofs.Trip.{steps-round-trip}
 use Rattle.run.proofs.Occurring.{writer-numbers-occur}
 use Rattle.grouping.proofs.Theorems.{demand-3, slots-of-reading, avm-demand-3, avm-orders, avm-filling, avm-calls-owe}
 use Rattle.phone.proofs.Unpacking.{unpacked}
@@ -59,4 +60,5 @@ claims =
       slots-of-readings = slots-of-reading;
       groupings = demand-3;
       finished-steps = finished-is-accepted;
+      written-steps = steps-round-trip;
     }

@@ -12,7 +12,8 @@ use Rattle.transaction.specs.Codec.{Codec}
 use Rattle.transaction.specs.Accepted.{Transactions}
 use Rattle.transaction.specs.FirstBroken.{FirstBroken}
 use Rattle.draft.specs.Reader.{reader}
-use Rattle.run.specs.Claims.{FinishedIsAccepted}
+use Rattle.run.specs.Runs.{Ends}
+use Rattle.run.specs.Claims.{FinishedIsAccepted, StepsRoundTrip}
 use Rattle.run.specs.Calls.{MethodsOwe, MethodsFinish, MethodsRoundTrip}
 use Rattle.run.specs.Occurring.{WriterNumbersOccur}
 use Rattle.grouping.specs.Answers.{CallsOwe}
@@ -77,3 +78,4 @@ pub record Claims : Type 1 where
   pub slots-of-readings : (F : Family) → SlotsOfReading F
   pub groupings : (F : Family) → Demand3 (reader F)
   pub finished-steps : (F : Family) → FinishedIsAccepted F
+  pub written-steps : (F : Family) → ((k : F .Kind) → Ends (F .plan k)) → StepsRoundTrip F

@@ -28,7 +28,7 @@ use Rattle.writer.specs.declared.Writer.{Writer}
 use Rattle.writer.specs.declared.Written.the-variants as W
 use Rattle.writer.specs.Steps.{turn, answered, sane, grown, appended, opening, opened, putAt, closeAt, put, close}
 use Rattle.writer.proofs.Laws.{guarded-fine}
-use Rattle.run.specs.Runs.{Act, puts, closes, act, run, AllDone, elementActs, planActs}
+use Rattle.run.specs.Runs.{Act, puts, closes, act, run, AllDone, elementActs, planActs, Ends}
 use Rattle.run.proofs.Keeping.{leaves, leaves-snoc, listed, list-inv, list-write, Here, here-at, Open, Begun, open-at, open-few, open-more, closed, begin}
 
 -- ---- steps that are done
@@ -76,13 +76,6 @@ length-appended w s ys f k =
     ∙ length-overwrite s ys (w .at) f
 
 -- ---- from one part to the next
-
--- behind the plan's last part stand only the credentials
-abbrev pub Ends : Plan → Type 0
-Ends shut = ⊥
-Ends end = Unit {0}
-Ends (field l C q) = Ends q
-Ends (many l E q) = Ends q
 
 -- a list's count is among what is still to come
 pub opening-le : (q : Plan) (v : Value q) → length (opening q) ≤ length (form q .write v)

@@ -32,12 +32,12 @@ use Rattle.writer.specs.declared.Writer.{Writer}
 use Rattle.writer.specs.declared.Written.the-variants as W
 use Rattle.writer.specs.Steps.{fresh, Turn, turn, answered, opening, opened, finishAt, start, finish}
 use Rattle.writer.proofs.Laws.{guarded-fine}
-use Rattle.run.specs.Runs.{run, AllDone, spelled}
-use Rattle.run.specs.Claims.{finishBehind, RoundTrip}
+use Rattle.run.specs.Runs.{run, AllDone, Ends, spelled}
+use Rattle.run.specs.Claims.{finishBehind, StepsRoundTrip}
 use Rattle.run.proofs.Keeping.{Here, here-at, Begun, begin}
 use Rattle.run.proofs.Finishing.{blankSigned, finish-is, finished-parts}
 use Rattle.run.proofs.Filling.{fill-all}
-use Rattle.run.proofs.Spelling.{Ends, Does, does-run, opening-le, plan-reached}
+use Rattle.run.proofs.Spelling.{Does, does-run, opening-le, plan-reached}
 
 module _ (F : Family) (ends : (k : F .Kind) → Ends (F .plan k)) where
   head-bytes : (h : Head (F .Kind)) → head F .write h ≡ headBytes (F .code (h .kind)) (h .network) (h .chain)
@@ -150,8 +150,8 @@ module _ (F : Family) (ends : (k : F .Kind) → Ends (F .plan k)) where
     trip-filled : putAll (Any.slotsAt (unsigned F) (wants F) d) (slotAt d) (take (length d) (finishBehind F (spelled F (v .0)) s .buffer)) ≡ d
     trip-filled = fill-all (unsigned F) (wants F) d (take (length d) (finishBehind F (spelled F (v .0)) s .buffer)) (v .0) (v .1) (blankSigned F (v .0)) parts trip-parts
 
-  pub round-trip : RoundTrip F
-  round-trip =
+  pub steps-round-trip : StepsRoundTrip F
+  steps-round-trip =
       record {
         steps-done = trip-steps;
         finish-done = trip-done;

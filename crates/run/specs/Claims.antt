@@ -29,7 +29,7 @@ module _ (F : Family) where
     pub refused-by : (l : List Act) → AllFair l → (s : List ℕ) (e : Refusal) → finishBehind l s .step .answer ≡ W.Refused e → (e .number ≡ noRoom) ⊎ (e .number ≡ stepNotDue)
 
   -- d is accepted, v is its reading, and the buffer s has room for it, whatever it holds
-  pub record RoundTrip : Type 0 where
+  pub record StepsRoundTrip : Type 0 where
     pub steps-done : (d : List ℕ) (v : Signed F) (n : ℕ) → Bytes d → check F d ≡ took v n → (s : List ℕ) → length d ≤ length s → AllDone F (spelled F (v .0)) fresh s
     pub finish-done : (d : List ℕ) (v : Signed F) (n : ℕ) → Bytes d → check F d ≡ took v n → (s : List ℕ) → length d ≤ length s
         → finishBehind (spelled F (v .0)) s .step .answer ≡ W.Done (length d)

@@ -61,6 +61,13 @@ planActs end v = []
 planActs (field l C q) v = puts l (given (C .content .write (v .0))) ∷ planActs q (v .1)
 planActs (many l E q) v = elementActs l E [] (v .0) ++ (closes ∷ planActs q (v .1))
 
+-- the plan stops at `end`, where the finish is due, and not at `shut`, where no step is: a value's steps can be followed by the finish
+abbrev pub Ends : Plan → Type 0
+Ends shut = ⊥
+Ends end = Unit {0}
+Ends (field l C q) = Ends q
+Ends (many l E q) = Ends q
+
 module _ (F : Family) where
   unfoldable pub spelled : Unsigned F → List Act
   unfolding planActs
