@@ -11,4 +11,5 @@ pub mod Filling
 pub mod Refilling
 pub mod Slotting
 pub mod Answering
+pub mod Deciding
 pub mod Theorems

@@ -17,7 +17,7 @@ use Rattle.grouping.specs.Demand.{FirstClash, Pair}
 use Rattle.grouping.proofs.Laws.{Laws, Like, like-self, like-read, on, slot-on}
 use Rattle.grouping.proofs.Merging.{called, first-clash}
 
-first-one : (R : Reader) (d e : List ℕ) (j k : ℕ) → FirstClash R d e j → FirstClash R d e k → j ≡ k
+pub first-one : (R : Reader) (d e : List ℕ) (j k : ℕ) → FirstClash R d e j → FirstClash R d e k → j ≡ k
 first-one R d e j k a b = go (decLt j k) (decLt k j)
   where
     go : Dec (j < k) → Dec (k < j) → j ≡ k
@@ -32,13 +32,13 @@ never-20 false m out h = omega arith
 
 module _ (R : Reader) (L : Laws R) (d e out : List ℕ) (hd : Draft R d) (he : Draft R e) where
   module _ (same-body : body R d ≡ body R e) where
-    le : Like R d e
+    pub le : Like R d e
     le = like-read R L d e hd he same-body
 
-    call-is : (o : Option ℕ) → firstClash 0 (R .slots d) d e ≡ o → mergeCall R d e out ≡ decideMerge true true true o (leb (length d) (length out)) (merged R d e) out
+    pub call-is : (o : Option ℕ) → firstClash 0 (R .slots d) d e ≡ o → mergeCall R d e out ≡ decideMerge true true true o (leb (length d) (length out)) (merged R d e) out
     call-is o h = called R L d hd d e (like-self R d hd) le o (leb (length d) (length out)) out h refl
 
-    no-first : firstClash 0 (R .slots d) d e ≡ none → (k : ℕ) → FirstClash R d e k → ⊥
+    pub no-first : firstClash 0 (R .slots d) d e ≡ none → (k : ℕ) → FirstClash R d e k → ⊥
     unfolding slotCount slot
     no-first h k f =
         first-none 0 (R .slots d) d e h k (f .k-in)

@@ -7,7 +7,7 @@ use Rattle.grouping.specs.Demand.{Demand3}
 use Rattle.grouping.specs.Order.{Orders}
 use Rattle.grouping.specs.Filling.{Filling, ReadingFilled}
 use Rattle.grouping.specs.Slots.{SlotsOfReading}
-use Rattle.grouping.specs.Answers.{CallsOwe}
+use Rattle.grouping.specs.Answers.{CallsOwe, CallsDecide}
 use Rattle.grouping.proofs.Demand.{demand3}
 use Rattle.grouping.proofs.Reading.{laws}
 use Rattle.grouping.proofs.Ordering as Ordering
@@ -15,6 +15,7 @@ use Rattle.grouping.proofs.Filling as Filling
 use Rattle.grouping.proofs.Refilling as Refilling
 use Rattle.grouping.proofs.Slotting as Slotting
 use Rattle.grouping.proofs.Answering as Answering
+use Rattle.grouping.proofs.Deciding as Deciding
 
 module _ (F : Family) where
   pub demand-3 : Demand3 (reader F)
@@ -34,6 +35,9 @@ module _ (F : Family) where
 
   pub calls-owe : CallsOwe (reader F)
   calls-owe = Answering.calls-owe (reader F)
+
+  pub calls-decide : CallsDecide (reader F)
+  calls-decide = Deciding.calls-decide (reader F) (laws (unsigned F) (wants F))
 
 -- ---- the AVM
 
@@ -57,3 +61,6 @@ avm-slots-of-reading = slots-of-reading (avm memoMost)
 
 pub avm-calls-owe : CallsOwe Avm
 avm-calls-owe = calls-owe (avm memoMost)
+
+pub avm-calls-decide : CallsDecide Avm
+avm-calls-decide = calls-decide (avm memoMost)
