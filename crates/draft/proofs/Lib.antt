@@ -2,3 +2,4 @@
 pub mod Walked
 pub mod Known
 pub mod Calling
+pub mod Packing

@@ -1,13 +1,15 @@
--- The answer with a lent table as one number of 64 bits, with what the table holds then. Assumes nothing.
+-- The answer with a lent table as one number of 64 bits, with what the table holds then, and that number taken apart again. Assumes nothing.
 use Prim.Native.Nat.{ℕ, _+_, _*_, _%_, _≤_}
 use mathlib.Core.Path.{_≡_}
 use mathlib.Core.List.{List}
 use lib.Dec.{eqb}
-use Rattle.wire.specs.Bytes.{pick}
+use Rattle.wire.specs.Bytes.{Bytes, pick}
 use Rattle.wire.specs.declared.Refusal.{Refusal}
-use Rattle.table.specs.Table.{Filled, tabledNumber, tabledPlace, tabledRows}
+use Rattle.table.specs.Table.{Filled, tabled, tabledNumber, tabledPlace, tabledRows}
 use Rattle.table.specs.declared.Tabled.{Tabled}
 use Rattle.table.specs.declared.Tabled.the-variants as T
+use Rattle.slot_table.specs.Table.{tabledSlots}
+use Rattle.draft.specs.Packing.{TakenApart}
 
 pub record Listing : Type 0 where
   pub answer : ℕ
@@ -20,9 +22,18 @@ listing a t = record { answer = a; table = t }
 unfoldable pub Numbered : Tabled → Type 0
 Numbered a = (e : Refusal) → a ≡ T.Refused e → 1 ≤ e .number
 
--- number × 2^32, and the rows written where the number is 0, else the place; both are far below 2^32
+-- the rows written where the number is 0, else the place
+abbrev pub reported : Tabled → ℕ
+reported a = pick (eqb (tabledNumber a) 0) (tabledRows a) (tabledPlace a)
+
+-- number × 2^32 + rows or place. These are below 2^32 (`Unlisted`), so nothing is cut
 unfoldable pub packed : Tabled → ℕ
-packed a = tabledNumber a * 4294967296 + pick (eqb (tabledNumber a) 0) (tabledRows a) (tabledPlace a) % 4294967296
+packed a = tabledNumber a * 4294967296 + reported a % 4294967296
 
 abbrev pub listed : Filled → Listing
 listed f = listing (packed (f .answer)) (f .table)
+
+-- from each answer the caller gets back the number, and the rows or the place
+pub record Unlisted : Type 0 where
+  pub rows : (s t : List ℕ) → Bytes s → let a = tabled s t .answer in TakenApart (packed a) (tabledNumber a) (reported a)
+  pub slots : (s t : List ℕ) → Bytes s → let a = tabledSlots s t .answer in TakenApart (packed a) (tabledNumber a) (reported a)

@@ -4,7 +4,7 @@ use lib.Dec.{leb}
 use mathlib.Core.Path.{_≡_, refl, sym, ap, _∙_, subst}
 use mathlib.Core.Bool.{Bool, true, false}
 use mathlib.Core.Option.{Option, none, some}
-use mathlib.Core.List.{List, [], _∷_, _++_}
+use mathlib.Core.List.{List, _++_}
 use native.Mathlib.Omega.{arith}
 use lib.ListN.{length, drop}
 use Rattle.wire.specs.Bytes.{Bytes}
@@ -12,7 +12,7 @@ use Rattle.wire.specs.Format.{Format, verdict}
 use Rattle.wire.specs.declared.Refusal.{Refusal}
 use Rattle.wire.proofs.Bytes.{Slice, slice-bytes, found}
 use Rattle.wire.specs.Numbers.{refusal}
-use Rattle.transaction.specs.Slots.{signatureWidth, slotAt, Spaced, length-slotAt}
+use Rattle.transaction.specs.Slots.{slotAt, length-slotAt}
 use Rattle.transaction.specs.Credentials.{Want}
 use Rattle.transaction.specs.Family.{Unsigned, unsigned, wants, check}
 use Rattle.transaction.specs.Avm.{avm}
@@ -29,6 +29,7 @@ use Rattle.draft.specs.Reader.{Reader, reader, body}
 use Rattle.draft.specs.Calls.{answerNumber, answerPlace, refuse, merged, decideMerge, mergeCall}
 use Rattle.draft.specs.declared.Answer.{Answer}
 use Rattle.draft.specs.declared.Answer.the-variants as A
+use Rattle.draft.proofs.Packing.{spaced-count}
 use Rattle.phone.specs.Packed.{packed, packedCall}
 
 -- x is what the check answered
@@ -54,12 +55,6 @@ refuses n s number place t q =
     let y : A.Done n ≡ refuse number place = ap (λ (z : Answer × List ℕ). z .0) q in
     let z : _≡_ {A = ℕ} 0 1 = cc in
     absurd (omega arith)
-
--- there are no more slots than bytes
-spaced-count : (lo : ℕ) (ps : List ℕ) (n : ℕ) → Spaced lo ps n → lo + length ps ≤ n
-unfolding signatureWidth
-spaced-count lo [] n h = omega arith
-spaced-count lo (p ∷ ps) n h = let k : p + signatureWidth + length ps ≤ n = spaced-count (p + signatureWidth) ps n (h .1) in omega arith
 
 abbrev U : Format (Unsigned (avm memoMost))
 U = unsigned (avm memoMost)

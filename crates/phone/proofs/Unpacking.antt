@@ -1,9 +1,8 @@
 -- Number and place of the answers to C are small, so that each answer can be taken apart again. Assumes nothing.
-use Prim.Native.Nat.{ℕ, _^_, _≤_, _<_}
+use Prim.Native.Nat.{ℕ}
 use mathlib.Core.Path.{_≡_, refl, sym, ap}
 use mathlib.Core.List.{List}
 use native.Mathlib.Omega.{arith}
-use lib.Arith.{digits-div, digits-mod}
 use Rattle.wire.specs.Bytes.{Bytes}
 use Rattle.wire.specs.Format.{Result, took, refused, onResult, verdict}
 use Rattle.transaction.specs.Family.{Signed, check}
@@ -14,15 +13,12 @@ use Rattle.transaction.proofs.Codec.{codec}
 use Rattle.transaction.proofs.Verdicts.{checked-number, checked-place}
 use Rattle.draft.specs.Reader.{reader}
 use Rattle.draft.specs.Calls.{answerNumber, answerPlace, mergeCall}
+use Rattle.draft.specs.Packing.{TakenApart}
+use Rattle.draft.proofs.Packing.{apart}
 use Rattle.draft.specs.declared.Answer.{Answer}
 use Rattle.draft.specs.declared.Answer.the-variants as A
-use Rattle.phone.specs.Packed.{packed, packedCall, TakenApart, Unpacked}
+use Rattle.phone.specs.Packed.{packed, packedCall, Unpacked}
 use Rattle.phone.proofs.Packing.{merge-small, merge-fits}
-
-apart : (n p : ℕ) → n ≤ 21 → p ≤ 65536 → TakenApart (packed (n, p)) n p
-apart n p h k =
-    let small : p < 2 ^ 32 = omega arith in
-    record { fits = omega arith; number = digits-div n small; place = digits-mod n small }
 
 check-apart : (s : List ℕ) → Bytes s → let v = verdict (check (avm memoMost) s) in TakenApart (packed v) (v .0) (v .1)
 check-apart s b = go (check (avm memoMost) s) refl

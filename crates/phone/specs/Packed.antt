@@ -1,6 +1,5 @@
 -- A number of the table and a place as one number of 64 bits, and that one taken apart again. Assumes nothing.
-use mathlib.Core.Path.{_≡_}
-use Prim.Native.Nat.{ℕ, _+_, _*_, _/_, _%_, _^_, _<_}
+use Prim.Native.Nat.{ℕ, _+_, _*_}
 use mathlib.Core.List.{List}
 use Rattle.wire.specs.Bytes.{Bytes}
 use Rattle.wire.specs.Format.{verdict}
@@ -9,6 +8,7 @@ use Rattle.transaction.specs.Avm.{avm}
 use Rattle.transaction.specs.Answer.{memoMost}
 use Rattle.draft.specs.Reader.{reader}
 use Rattle.draft.specs.Calls.{answerNumber, answerPlace, mergeCall}
+use Rattle.draft.specs.Packing.{TakenApart}
 use Rattle.draft.specs.declared.Answer.{Answer}
 
 -- number × 2^32 + place
@@ -18,12 +18,6 @@ packed (n, p) = n * 4294967296 + p
 -- a call's answer, and the lent bytes afterwards
 abbrev pub packedCall : Answer × List ℕ → ℕ × List ℕ
 packedCall (a, s) = (packed (answerNumber a, answerPlace a), s)
-
--- a is an answer of 64 bits from which the caller gets back the number n, by a division, and the place p, by its remainder
-pub record TakenApart (a n p : ℕ) : Type 0 where
-  pub fits : a < 2 ^ 64
-  pub number : a / 2 ^ 32 ≡ n
-  pub place : a % 2 ^ 32 ≡ p
 
 pub record Unpacked : Type 0 where
   pub check : (s : List ℕ) → Bytes s → let v = verdict (check (avm memoMost) s) in TakenApart (packed v) (v .0) (v .1)
