@@ -9,8 +9,10 @@ use Rattle.run.proofs.Finishing.{finished-is-accepted}
 use Rattle.run.proofs.Numbering.{methods-owe}
 use Rattle.run.proofs.Trip.{steps-round-trip}
 use Rattle.run.proofs.Occurring.{writer-numbers-occur}
-use Rattle.grouping.proofs.Theorems.{demand-3, slots-of-reading, avm-demand-3, avm-orders, avm-filling, avm-calls-owe}
+use Rattle.grouping.proofs.Theorems.{demand-3, orders, filling, slots-of-reading, calls-owe, calls-decide}
+use Rattle.grouping.proofs.Theorems.{avm-demand-3, avm-orders, avm-filling, avm-calls-owe, avm-calls-decide}
 use Rattle.phone.proofs.Unpacking.{unpacked}
+use Rattle.operator.proofs.Unlisting.{unlisted}
 use Rattle.claims.specs.Cases.{proved-cases}
 use Rattle.claims.specs.Claims.{Demand1, Demand2, Claims}
 use Rattle.claims.proofs.Answering.{check-answers, table-answers, entry-answers, slots-answers}
@@ -27,10 +29,12 @@ demand-1-holds =
       entry = entry-answers;
       slots = slots-answers;
       merge-and-fill = avm-calls-owe;
+      merge-and-fill-decide = avm-calls-decide;
       writer = methods-owe;
       numbers-occur = numbers-occur;
       writer-numbers-occur = writer-numbers-occur;
       phone = unpacked;
+      operator = unlisted;
     }
 
 demand-2-holds : Demand2
@@ -59,6 +63,10 @@ claims =
       first-broken-rules = first-broken;
       slots-of-readings = slots-of-reading;
       groupings = demand-3;
+      every-order = orders;
+      every-filling = filling;
+      every-call = calls-owe;
+      every-decision = calls-decide;
       finished-steps = finished-is-accepted;
       written-steps = steps-round-trip;
     }

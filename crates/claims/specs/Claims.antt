@@ -16,12 +16,13 @@ use Rattle.run.specs.Runs.{Ends}
 use Rattle.run.specs.Claims.{FinishedIsAccepted, StepsRoundTrip}
 use Rattle.run.specs.Calls.{MethodsOwe, MethodsFinish, MethodsRoundTrip}
 use Rattle.run.specs.Occurring.{WriterNumbersOccur}
-use Rattle.grouping.specs.Answers.{CallsOwe}
+use Rattle.grouping.specs.Answers.{CallsOwe, CallsDecide}
 use Rattle.grouping.specs.Slots.{SlotsOfReading}
 use Rattle.grouping.specs.Demand.{Demand3}
 use Rattle.grouping.specs.Order.{Orders}
 use Rattle.grouping.specs.Filling.{Filling}
 use Rattle.phone.specs.Packed.{Unpacked}
+use Rattle.operator.specs.Listing.{Unlisted}
 use Rattle.claims.specs.Answers.{CheckAnswers, TableAnswers, EntryAnswers, SlotsAnswers}
 use Rattle.claims.specs.Occurring.{NumbersOccur}
 use Rattle.claims.specs.Lengths.{Lengths}
@@ -36,12 +37,15 @@ pub record Demand1 : Type 0 where
   pub entry : EntryAnswers
   pub slots : SlotsAnswers
   pub merge-and-fill : CallsOwe (reader (avm memoMost))
+  -- "checks 17, 18, 19, 20, 14 in that order"; fill "17, 15, 21, then 20"
+  pub merge-and-fill-decide : CallsDecide (reader (avm memoMost))
   pub writer : MethodsOwe
   -- each number of a list is answered by some call, so that the lists are exact
   pub numbers-occur : NumbersOccur
   pub writer-numbers-occur : WriterNumbersOccur
-  -- the answer to C is one number, from which number and place are got back
+  -- the answer to C is one number, from which number and place, or rows, are got back
   pub phone : Unpacked
+  pub operator : Unlisted
 
 pub record Demand2 : Type 0 where
   -- "accepted exactly when they are a signed AVM transaction", "one reading", "gives the same bytes"; for every limit of the memo, 256 in the base
@@ -77,5 +81,9 @@ pub record Claims : Type 1 where
   pub first-broken-rules : (F : Family) → FirstBroken F
   pub slots-of-readings : (F : Family) → SlotsOfReading F
   pub groupings : (F : Family) → Demand3 (reader F)
+  pub every-order : (F : Family) → Orders (reader F)
+  pub every-filling : (F : Family) → Filling (reader F)
+  pub every-call : (F : Family) → CallsOwe (reader F)
+  pub every-decision : (F : Family) → CallsDecide (reader F)
   pub finished-steps : (F : Family) → FinishedIsAccepted F
   pub written-steps : (F : Family) → ((k : F .Kind) → Ends (F .plan k)) → StepsRoundTrip F
