@@ -25,6 +25,7 @@ use Rattle.transaction.specs.declared.Checked.the-variants as C
 use Rattle.transaction.proofs.Codec.{codec}
 use Rattle.table.specs.Table.{Filled, filled, tabledNumber, tabledRows}
 use Rattle.table.specs.declared.Tabled.the-variants as T
+use Rattle.table.proofs.Inside.{entries-inside}
 use Rattle.table.proofs.Tabling.{length-rows}
 use Rattle.slot_table.specs.Slots as Slots
 use Rattle.slot_table.specs.Table.{slots}
@@ -32,7 +33,8 @@ use Rattle.slot_table.proofs.Rows.{reader-places, filled-empty, empty-filled}
 use Rattle.slot_table.proofs.Rows as SlotRows
 use Rattle.entry.specs.declared.EntryRead.{EntryRead}
 use Rattle.entry.specs.Entry.{refusedEntry, entryAnswer, entryOf, entryNumber}
-use Rattle.claims.specs.Answers.{checkNumbers, tableNumbers, entryNumbers, CheckAnswers, Lists, TableAnswers, SlotsAnswers, EntryAnswers}
+use Rattle.claims.specs.Answers.{checkNumbers, tableNumbers, entryNumbers, CheckAnswers, Lists, TableAnswers, SlotsAnswers, StandsAs, EntryAnswers}
+use Rattle.claims.proofs.Standing.{each-nth, inside-each, entries-stand-as}
 
 -- k numbers from a on
 abbrev from : ℕ → ℕ → List ℕ
@@ -96,6 +98,13 @@ entry-answers =
       number = entry-number;
       refused-bytes = λ s n e h. ap (λ o. answerOf s n o .answer) h;
       found = λ s n v bytes e h q. ap (answerOf s n) h ∙ ap (entryAnswer bytes) q;
+      inside = λ s n v bytes e b h q.
+          let (w, m) = codec (avm memoMost) .write-after-read s v bytes b h in
+          each-nth (λ e. (e .start ≤ e .end) × (e .end ≤ length s)) (entries (avm memoMost) v)
+          (inside-each (length s) (entries (avm memoMost) v) (entries-inside s v w)) n e q;
+      stands = λ s n v bytes e b h q.
+          let (w, m) = codec (avm memoMost) .write-after-read s v bytes b h in
+          each-nth (StandsAs s) (entries (avm memoMost) v) (entries-stand-as s v w) n e q;
       missing = λ s n v bytes h q. ap (λ o. answerOf s n o .answer) h ∙ ap (λ o. entryAnswer bytes o .answer) q;
     }
 

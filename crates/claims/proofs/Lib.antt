@@ -1,4 +1,5 @@
 -- That the claims hold
+pub mod Standing
 pub mod Answering
 pub mod Occurring
 pub mod Measuring

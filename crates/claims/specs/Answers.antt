@@ -7,11 +7,17 @@ use mathlib.Core.Logic.{_↔_}
 use mathlib.Core.List.{List, [], _∷_, _++_, map}
 use mathlib.Core.Option.{none, some}
 use lib.ListN.{length, drop}
+use Rattle.wire.specs.Bytes.{Bytes, part}
 use Rattle.wire.specs.declared.Refusal.{Refusal}
 use Rattle.wire.specs.Numbers.{refusal}
 use Rattle.wire.specs.Format.{took, refused, verdict}
-use Rattle.wire.specs.Orders.{OneOf}
-use Rattle.transaction.specs.Slots.{blank, slotAt}
+use Rattle.wire.specs.Orders.{All, OneOf}
+use Rattle.element.specs.Outputs.{Output, TransferableOutput}
+use Rattle.element.specs.Inputs.{Input}
+use Rattle.element.specs.Operations.{Operation}
+use Rattle.element.specs.Layout.{u32, listBytes, outputBytes, transferableOutputBytes, inputBytes, operationBytes}
+use Rattle.transaction.specs.Slots.{signatureWidth, blank, slotAt}
+use Rattle.transaction.specs.Credentials.{credentialCode, Want}
 use Rattle.transaction.specs.Entries.{EntryAt}
 use Rattle.transaction.specs.Entries as Entries
 use Rattle.transaction.specs.Family.{Signed, check, entries, entry}
@@ -79,6 +85,21 @@ pub record SlotsAnswers : Type 0 where
 
 -- ---- entry n
 
+-- the element whose entry e is, and that its bytes, field after field as document 01 lays them out, stand in s from e's start to its end
+pub data StandsAs (s : List ℕ) (e : EntryAt) : Type 0 where
+  anOutput : (o : TransferableOutput) → e ∷ [] ≡ Entries.outputEntry (e .start) (e .end) o
+      → part (e .start) (e .end) s ≡ transferableOutputBytes o → StandsAs s e
+  anInput : (i : Input) → e ∷ [] ≡ Entries.inputEntry (e .start) (e .end) i → part (e .start) (e .end) s ≡ inputBytes i → StandsAs s e
+  anOperation : (o : Operation) → e ∷ [] ≡ Entries.operationEntry (e .start) (e .end) o → part (e .start) (e .end) s ≡ operationBytes o → StandsAs s e
+  anImportedInput : (i : Input) → e ∷ [] ≡ Entries.importedEntry (e .start) (e .end) i → part (e .start) (e .end) s ≡ inputBytes i → StandsAs s e
+  anExportedOutput : (o : TransferableOutput) → e ∷ [] ≡ Entries.exportedEntry (e .start) (e .end) o
+      → part (e .start) (e .end) s ≡ transferableOutputBytes o → StandsAs s e
+  aStateOutput : (o : Output) → e ∷ [] ≡ Entries.stateOutputEntry (e .start) (e .end) o → part (e .start) (e .end) s ≡ outputBytes o → StandsAs s e
+  -- its type, and a list of signatures
+  aCredential : (w : Want) (l : List (List ℕ)) → e ≡ Entries.credentialEntry w (e .start)
+      → length l ≡ w .signatures → All (λ signature. length signature ≡ signatureWidth) l
+      → part (e .start) (e .end) s ≡ u32 (credentialCode (w .type)) ++ listBytes (λ signature. signature) l → StandsAs s e
+
 pub record EntryAnswers : Type 0 where
   pub number : (s : List ℕ) (n : ℕ) → OneOf (entryNumber (entryOf s n .answer)) entryNumbers
   -- bytes that are not accepted get the check's own refusal first
@@ -86,6 +107,11 @@ pub record EntryAnswers : Type 0 where
   -- then the fields of entry n of the reading, with the bytes of the transaction as place
   pub found : (s : List ℕ) (n : ℕ) (v : Signed (avm memoMost)) (bytes : ℕ) (e : EntryAt) → check (avm memoMost) s ≡ took v bytes
       → entry (avm memoMost) v n ≡ some e → entryOf s n ≡ foundEntry bytes e
+  -- which lies inside the transaction, and is there
+  pub inside : (s : List ℕ) (n : ℕ) (v : Signed (avm memoMost)) (bytes : ℕ) (e : EntryAt) → Bytes s → check (avm memoMost) s ≡ took v bytes
+      → entry (avm memoMost) v n ≡ some e → (e .start ≤ e .end) × (e .end ≤ length s)
+  pub stands : (s : List ℕ) (n : ℕ) (v : Signed (avm memoMost)) (bytes : ℕ) (e : EntryAt) → Bytes s → check (avm memoMost) s ≡ took v bytes
+      → entry (avm memoMost) v n ≡ some e → StandsAs s e
   -- or 15 at 0 where the reading has no such entry
   pub missing : (s : List ℕ) (n : ℕ) (v : Signed (avm memoMost)) (bytes : ℕ) → check (avm memoMost) s ≡ took v bytes
       → entry (avm memoMost) v n ≡ none → entryOf s n .answer ≡ E.Refused (refusal 15 0)

@@ -49,7 +49,7 @@ module _ (P : EntryAt → Type 0) where
   Each [] = Unit {0}
   Each (e ∷ es) = P e × Each es
 
-  each-append : (xs ys : List EntryAt) → Each xs → Each ys → Each (xs ++ ys)
+  pub each-append : (xs ys : List EntryAt) → Each xs → Each ys → Each (xs ++ ys)
   each-append [] ys h k = k
   each-append (e ∷ xs) ys (a, h) k = (a, each-append xs ys h k)
 
