@@ -1,7 +1,7 @@
 -- By which numbers strings are refused. Assumes nothing.
 use Prim.Native.Nat.{ℕ, _+_}
 use lib.ListN.{length}
-use lib.Dec.{leb, ltb, eqb}
+use lib.Dec.{eqb}
 use Rattle.wire.specs.Numbers.{ruleNumber, cutShort, badLength, notPrintable, badDenomination}
 use Rattle.wire.specs.Fields.{number, blob}
 use Rattle.wire.specs.Sequence.{andThen, guard}
