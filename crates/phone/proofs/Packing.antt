@@ -96,6 +96,11 @@ module _ (d e out : List ℕ) (b : Bytes d) where
         decided-small f s (R .accepts d) (R .accepts e) (same (body R d) (body R e)) (firstClash 0 (R .slots d) d e) (leb (length d) (length out)) (merged R d e) slot-small
         (ap (λ (x : Answer). (x, s)) (sym q) ∙ p)
 
+-- the same, with what the call ensures before what is known of its first draft
+pub called-small : (d e out : List ℕ) (a : Answer) (s : List ℕ) → (a, s) ≡ mergeCall R d e out → (f : Refusal) → a ≡ A.Refused f → Bytes d
+    → (f .number ≤ 20) × (f .place ≤ 65536)
+called-small d e out a s p f q b = merge-small d e out b a s p f q
+
 -- a is what merge answered, and s what it left of out
 module _ (d e out : List ℕ) (a : Answer) (s : List ℕ) (p : (a, s) ≡ mergeCall R d e out) where
   pub merge-done : (n : ℕ) → a ≡ A.Done n → (n, s) ≡ packedCall (mergeCall R d e out)
