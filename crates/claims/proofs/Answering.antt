@@ -1,16 +1,15 @@
 -- What the calls that read answer. Assumes nothing.
-use Prim.Native.Nat.{ℕ, zero, suc, _+_, _*_, _≤_, _<_}
+use Prim.Native.Nat.{ℕ, _+_, _*_, _≤_, _<_}
 use mathlib.Core.Path.{_≡_, refl, ap, _∙_}
 use mathlib.Core.Logic.{inl, inr}
 use mathlib.Core.Bool.{Bool, true, false}
-use mathlib.Core.List.{List, [], _∷_, _++_}
+use mathlib.Core.List.{List, _++_}
 use mathlib.Core.Option.{Option, none, some}
 use native.Mathlib.Omega.{arith}
-use native.Mathlib.Decide.{decLe}
 use lib.ListN.{length, drop, length-append, length-drop}
 use lib.Seq.{drop-at}
-use lib.Dec.{leb, eqb}
-use borrow.Author.Tests.{leb-true, le-leb, lt-leb, eqb-true, eqb-false}
+use lib.Dec.{leb}
+use borrow.Author.Tests.{leb-true, le-leb, lt-leb}
 use Rattle.wire.specs.Bytes.{pick}
 use Rattle.wire.specs.Numbers.{refusal, noRoom}
 use Rattle.wire.specs.declared.Refusal.{Refusal}
@@ -23,35 +22,22 @@ use Rattle.transaction.specs.Avm.{avm}
 use Rattle.transaction.specs.Answer.{memoMost, layout, checked, checkedNumber, checkedPlace}
 use Rattle.transaction.specs.declared.Checked.the-variants as C
 use Rattle.transaction.proofs.Codec.{codec}
+use Rattle.transaction.proofs.Refusing.{check-numbers}
 use Rattle.table.specs.Table.{Filled, filled, tabledNumber, tabledRows}
 use Rattle.table.specs.declared.Tabled.the-variants as T
 use Rattle.table.proofs.Inside.{entries-inside}
 use Rattle.table.proofs.Tabling.{length-rows}
 use Rattle.slot_table.specs.Slots as Slots
 use Rattle.slot_table.specs.Table.{slots}
-use Rattle.slot_table.proofs.Rows.{reader-places, filled-empty, empty-filled}
+use Rattle.slot_table.proofs.Rows.{reader-places, filled-empty, filled-signed, empty-filled}
 use Rattle.slot_table.proofs.Rows as SlotRows
 use Rattle.entry.specs.declared.EntryRead.{EntryRead}
 use Rattle.entry.specs.Entry.{refusedEntry, entryAnswer, entryOf, entryNumber}
 use Rattle.claims.specs.Answers.{checkNumbers, tableNumbers, entryNumbers, CheckAnswers, Lists, TableAnswers, SlotsAnswers, StandsAs, EntryAnswers}
 use Rattle.claims.proofs.Standing.{each-nth, inside-each, entries-stand-as}
 
--- k numbers from a on
-abbrev from : ℕ → ℕ → List ℕ
-from a zero = []
-from a (suc k) = a ∷ from (suc a) k
-
-from-has : (a k n : ℕ) → a ≤ n → n < a + k → OneOf n (from a k)
-from-has a zero n h b = absurd (omega arith)
-from-has a (suc k) n h b = go (eqb n a) refl (λ l. from-has (suc a) k n l (omega arith))
-  where
-    go : (t : Bool) → eqb n a ≡ t → (suc a ≤ n → OneOf n (from (suc a) k)) → OneOf n (a ∷ from (suc a) k)
-    go true e later = inl (eqb-true n a e)
-    go false e later = let other = eqb-false n a e in inr (later (elim (decLe (suc a) n) [ yes l ↦ l | no l ↦ absurd (other (omega arith)) ]))
-
--- a refusal of the check is by 1 to 13
 refused-listed : (s : List ℕ) (e : Refusal) → check (avm memoMost) s ≡ refused e → OneOf (e .number) checkNumbers
-refused-listed s e h = from-has 0 14 (e .number) (omega arith) (omega (arith, codec (avm memoMost) .refused-by s e h .1))
+refused-listed s e h = inr (check-numbers (avm memoMost) s e h)
 
 -- ---- the check
 
@@ -182,4 +168,5 @@ slots-answers =
       lists = lists (λ s v. length (slots s)) (λ s v. Slots.rows s (slots s)) (λ s v. 3 * length (slots s)) (λ s v. refl) (λ s v. SlotRows.length-rows s (slots s));
       places = reader-places (avm memoMost);
       empty = λ s p. (empty-filled s p, filled-empty s p);
+      not-empty = filled-signed;
     }

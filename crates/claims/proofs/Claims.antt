@@ -10,7 +10,7 @@ use Rattle.run.proofs.Numbering.{methods-owe}
 use Rattle.run.proofs.Trip.{steps-round-trip}
 use Rattle.run.proofs.Occurring.{writer-numbers-occur}
 use Rattle.grouping.proofs.Theorems.{demand-3, orders, filling, slots-of-reading, calls-owe, calls-decide}
-use Rattle.grouping.proofs.Theorems.{avm-demand-3, avm-orders, avm-filling, avm-calls-owe, avm-calls-decide}
+use Rattle.grouping.proofs.Theorems.{avm-demand-3, avm-slots-of-reading, avm-orders, avm-filling, avm-calls-owe, avm-calls-decide}
 use Rattle.phone.proofs.Unpacking.{unpacked}
 use Rattle.operator.proofs.Unlisting.{unlisted}
 use Rattle.claims.specs.Cases.{proved-cases}
@@ -54,7 +54,7 @@ claims =
       demand-1 = demand-1-holds;
       demand-2 = demand-2-holds;
       demand-3 = avm-demand-3;
-      slots = slots-of-reading (avm memoMost);
+      slots = avm-slots-of-reading;
       instances = instances;
       orders = avm-orders;
       filling = avm-filling;

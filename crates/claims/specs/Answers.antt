@@ -82,6 +82,8 @@ pub record SlotsAnswers : Type 0 where
   pub places : (s : List ℕ) → map (λ x. x .place) (slots s) ≡ reader (avm memoMost) .slots s
   -- and a row's last number is 0 exactly where the slot is empty
   pub empty : (s : List ℕ) (p : ℕ) → (filledAt s p ≡ 0) ↔ (slotAt s p ≡ blank)
+  -- and 1 where it is filled
+  pub not-empty : (s : List ℕ) (p : ℕ) → (slotAt s p ≡ blank → ⊥) → filledAt s p ≡ 1
 
 -- ---- entry n
 
