@@ -1,6 +1,6 @@
 -- The credentials as the chain that the code is: the bytes written are there, the unsigned part is read back, its credentials have room. Assumes
 -- nothing.
-use Prim.Native.Nat.{ℕ, zero, suc, _+_, _*_, _≤_, _<_}
+use Prim.Native.Nat.{ℕ, zero, suc, _+_, _≤_, _<_}
 use mathlib.Core.Path.{_≡_, refl, sym, ap, ap₂, _∙_, subst}
 use mathlib.Core.Bool.{Bool, true, false}
 use mathlib.Core.List.{List, [], _∷_}
@@ -18,23 +18,23 @@ use Rattle.wire.specs.declared.Part.the-variants as P
 use Rattle.wire.proofs.Bytes.{Slice, slice-bytes}
 use Rattle.element.proofs.Reading.{answer-took}
 use Rattle.transaction.specs.Signed.{mostBytes}
-use Rattle.transaction.specs.Family.{Family, Unsigned, unsigned}
+use Rattle.transaction.specs.Family.{Family, Unsigned, unsigned, wants}
 use Rattle.transaction.specs.Avm.{avm}
-use Rattle.transaction.specs.Answer.{memoMost, unsignedAt}
-use Rattle.transaction.specs.Answer as A
+use Rattle.transaction.specs.Answer.{layout, unsignedAt}
 use Rattle.transaction.specs.declared.Layout.{Layout}
 use Rattle.transaction.specs.declared.UnsignedRead.{UnsignedRead}
 use Rattle.transaction.specs.declared.UnsignedRead.the-variants as U
 use Rattle.transaction.proofs.Checking.{on-unsigned, on-unsigned-refused}
+use Rattle.checker.specs.Wanted.{Wants, firstWanting}
+use Rattle.checker.proofs.Besides.{credentials-stand, first-wants}
 use Rattle.judge.specs.declared.Verdict.{Verdict}
 use Rattle.judge.specs.declared.Verdict.the-variants as J
 use Rattle.judge.specs.Given.{given}
-use Rattle.judge.specs.Judged.{judged}
-use Rattle.blank.specs.Closing.{closingOf, counted, fitted, Room, mostIn, blankBehind, closing, closable}
-use Rattle.blank.proofs.Blanks.{fitted-next, fitted-refused}
-use Rattle.blank.proofs.Wanted.{closing-blank}
+use Rattle.judge.specs.Judged.{barred, judged}
 use Rattle.buffer.specs.Stores.{roomFor, overwrite, stored}
 use Rattle.buffer.proofs.Stores.{room-fine}
+use Rattle.blank.specs.Closing.{closingBytes, fitted, mostIn, written, closed, AllAhead, OfAll, RoomForAll, blankBehind, closing, closable}
+use Rattle.blank.proofs.Blanks.{closing-long, fitted-next, fitted-refused}
 
 -- ---- room
 
@@ -45,44 +45,50 @@ most-inside n = cases (ltb n mostBytes) refl
     cases true e = (omega arith, omega (arith, ltb-true n mostBytes e))
     cases false e = (omega (arith, ltb-false n mostBytes e), omega arith)
 
-most-full : (k : ℕ) (s : List ℕ) → mostIn (length s) < k → roomFor k s ≡ J.Refuse noRoom
+most-full : (k : ℕ) (s : List ℕ) → mostIn (length s) < k → roomFor k s ≡ barred noRoom
 unfolding roomFor
 most-full k s = cases (ltb (length s) mostBytes)
   where
-    either : (a b : Bool) → b ≡ false → pick a (pick b J.Fine (J.Refuse noRoom)) (J.Refuse noRoom) ≡ J.Refuse noRoom
+    either : (a b : Bool) → b ≡ false → pick a (pick b J.Fine (barred noRoom)) (barred noRoom) ≡ barred noRoom
     either true b e = rw e
     either false b e = refl
 
-    cases : (b : Bool) → pick b (length s) mostBytes < k → pick (leb k (length s)) (pick (leb k mostBytes) J.Fine (J.Refuse noRoom)) (J.Refuse noRoom) ≡ J.Refuse noRoom
+    cases : (b : Bool) → pick b (length s) mostBytes < k
+        → pick (leb k (length s)) (pick (leb k mostBytes) J.Fine (barred noRoom)) (barred noRoom) ≡ barred noRoom
     cases true h = rw (lt-leb k (length s) h)
     cases false h = either (leb k (length s)) (leb k mostBytes) (lt-leb k mostBytes h)
 
 -- ---- the credentials of a layout
 
-module _ (l : Layout) (s : List ℕ) (at m : ℕ) (em : m ≡ mostIn (length s)) (z : Part) (e : z ≡ fitted at (length (closingOf l (take at s))) m) where
-  abbrev ys : List ℕ
-  ys = closingOf l (take at s)
+module _ (l : Layout) (s : List ℕ) (at m : ℕ) (em : m ≡ mostIn (length s)) (z : Part)
+    (e : OfAll l (take at s) (λ ws. z ≡ fitted at (length (closingBytes ws)) m)) where
+  -- what the answer comes to
+  abbrev Out : Part → List ℕ → Type 0
+  Out r b = OfAll l (take at s) (λ ws. (r, b) ≡ closed s at ws)
 
-  pub close-room : 8 * counted l ≤ length ys → (n : ℕ) → z ≡ P.Next n → Room l s at
-  close-room c n f =
-      let (i, k) = fitted-next z at (length ys) m e n f in
-      let (a, b) = most-inside (length s) in
-      record { fits = omega arith; short = omega arith; counts = c }
-
-  pub close-done : (n : ℕ) → z ≡ P.Next n → (b : List ℕ) → b ≡ overwrite s at ys → (P.Next n, b) ≡ stored (roomFor (at + length ys) s) (at + length ys) s (overwrite s at ys)
-  unfolding stored
-  close-done n f b eb =
-      let (i, k) = fitted-next z at (length ys) m e n f in
+  pub close-room : AllAhead l (take at s) → (n : ℕ) → z ≡ P.Next n → RoomForAll l (take at s) at (length s)
+  close-room a n f =
+      let (i, k) = fitted-next z at (length (closingBytes (a .all))) m (e (a .most) (a .all) (a .wants) (a .counts)) n f in
       let (p, q) = most-inside (length s) in
-      ap₂ (λ (a : ℕ) (t : List ℕ). (P.Next a, t)) i eb
-      ∙ ap (λ (v : Verdict). stored v (at + length ys) s (overwrite s at ys)) (sym (room-fine (at + length ys) s (omega arith) (omega arith)))
+      let long = closing-long (a .all) in
+      record { ahead = a; behind = omega arith; fits = omega arith; short = omega arith }
 
-  pub close-full : (r : Refusal) → z ≡ P.Refused r → (P.Refused r, s) ≡ stored (roomFor (at + length ys) s) (at + length ys) s (overwrite s at ys)
+  pub close-done : (n : ℕ) → z ≡ P.Next n → (b : List ℕ) → OfAll l (take at s) (λ ws. b ≡ overwrite s at (closingBytes ws)) → Out (P.Next n) b
   unfolding stored
-  close-full r f =
-      let (i, k) = fitted-refused z at (length ys) m e r f in
+  close-done n f b g most ws w c =
+      let ys : List ℕ = closingBytes ws in
+      let (i, k) = fitted-next z at (length ys) m (e most ws w c) n f in
+      let (p, q) = most-inside (length s) in
+      ap₂ (λ (a : ℕ) (t : List ℕ). (P.Next a, t)) i (g most ws w c)
+      ∙ ap (λ (v : Verdict). written v s at ys) (sym (room-fine (at + length ys) s (omega arith) (omega arith)))
+
+  pub close-full : (r : Refusal) → z ≡ P.Refused r → Out (P.Refused r) s
+  unfolding stored
+  close-full r f most ws w c =
+      let ys : List ℕ = closingBytes ws in
+      let (i, k) = fitted-refused z at (length ys) m (e most ws w c) r f in
       ap (λ (r : Refusal). (P.Refused r, s)) k
-      ∙ ap (λ (v : Verdict). stored v (at + length ys) s (overwrite s at ys)) (sym (most-full (at + length ys) s (omega arith)))
+      ∙ ap (λ (v : Verdict). written v s at ys) (sym (most-full (at + length ys) s (omega arith)))
 
 -- ---- the unsigned part, read back
 
@@ -91,67 +97,80 @@ slice-of [] b j = omega arith
 slice-of (x ∷ s) b zero = omega (arith, b .0)
 slice-of (x ∷ s) b (suc j) = slice-of s (b .1) j
 
-abbrev F : Family
-F = avm memoMost
+module _ (most : ℕ) (s : List ℕ) (at : ℕ) where
+  abbrev F : Family
+  F = avm most
 
-module _ (s : List ℕ) (at : ℕ) where
   -- what a verdict comes to
-  abbrev Out : Verdict → Part × List ℕ
-  Out v = stored v (at + length (closing F at s)) s (overwrite s at (closing F at s))
+  abbrev Ruled : Verdict → Part × List ℕ
+  Ruled v = written v s at (closing F at s)
 
-  pub close-short : length s < at → (P.Refused (refusal noRoom 0), s) ≡ Out (closable F at s)
+  pub close-short : length s < at → (P.Refused (refusal noRoom 0), s) ≡ Ruled (closable F at s)
   unfolding stored closable
   close-short h = rw (lt-leb at (length s) h)
 
-  module _ (h : at ≤ length s) (x : UnsignedRead) (p : x ≡ unsignedAt (take at s)) where
+  module _ (h : at ≤ length s) (x : UnsignedRead) (p : x ≡ unsignedAt most (take at s)) where
     -- once the unsigned part is judged
-    ruled : (v : Verdict) → judged (unsigned F) (given (take at s)) (roomFor (at + length (closing F at s)) s) ≡ v → Out v ≡ Out (closable F at s)
+    ruled : (v : Verdict) → judged (unsigned F) (given (take at s)) (roomFor (at + length (closing F at s)) s) ≡ v → Ruled v ≡ Ruled (closable F at s)
     unfolding closable
-    ruled v e = ap Out (sym (rw (le-leb at (length s) h) e))
+    ruled v e = ap Ruled (sym (rw (le-leb at (length s) h) e))
 
-    pub close-refused : (e : Refusal) → x ≡ U.Refused e → (P.Refused (refusal (e .number) 0), s) ≡ Out (closable F at s)
+    pub close-refused : (e : Refusal) → x ≡ U.Refused e → (P.Refused (refusal (e .rule) 0), s) ≡ Ruled (closable F at s)
     unfolding judged stored
-    close-refused e q = ruled (J.Refuse (e .number)) (sym (on-unsigned-refused (take at s) (J.Refuse (e .number)) (λ e. J.Refuse (e .number)) _ x p e q refl))
+    close-refused e q =
+        ruled (barred (e .rule)) (sym (on-unsigned-refused most (take at s) (barred (e .rule)) (λ e. barred (e .rule)) _ x p e q refl))
 
-    module _ (l : Layout) (n : ℕ) (q : x ≡ U.Whole l n) where
-      pub close-after : (n ≡ at → ⊥) → (P.Refused (refusal bytesAfterEnd 0), s) ≡ Out (closable F at s)
+    module _ (l : Layout) (q : x ≡ U.Whole l) (b : Slice s) where
+      front : Slice (take at s)
+      front = slice-of (take at s) (bytes-take at s (slice-bytes s b))
+
+      pub close-after : (l .«credentials_at» ≡ at → ⊥) → (P.Refused (refusal bytesAfterEnd 0), s) ≡ Ruled (closable F at s)
       unfolding judged stored
       close-after f =
-          ruled (J.Refuse bytesAfterEnd)
+          ruled (barred bytesAfterEnd)
           (sym
-          (on-unsigned (take at s) (J.Refuse bytesAfterEnd) (λ e. J.Refuse (e .number)) _ x p l n q (λ u i t.
-          rw (ne-eqb n (length (take at s)) (λ g. f (g ∙ length-take-le at s h))))))
+          (on-unsigned most (take at s) (barred bytesAfterEnd) (λ e. barred (e .rule)) _ x p l q (λ u n i t.
+          let place : n ≡ l .«credentials_at» = credentials-stand most (take at s) u n l front t i in
+          rw (ne-eqb n (length (take at s)) (λ g. f (sym place ∙ g ∙ length-take-le at s h))))))
 
-      unsigned-took : (u : Unsigned F) × (l ≡ A.layout u) × (read (unsigned F) (take at s) 0 ≡ took u n)
-      unsigned-took =
-          let (u, m, t, i) = answer-took (unsigned F) (take at s) 0 U.Refused (λ u n. U.Whole (A.layout u) n) x p (U.Whole l n) q (λ e i. let z : _≡_ {A = ℕ} 0 1 = cc in omega arith) in
-          let em : m ≡ n = cc in
-          let el : l ≡ A.layout u = cc in
-          (u, el, t ∙ ap (took u) em)
+      -- what was read, and what it wants
+      record Known : Type 0 where
+        u : Unsigned F
+        stands : read (unsigned F) (take at s) 0 ≡ took u (l .«credentials_at»)
+        asks : Wants most (take at s) (l .kind) (firstWanting l) (wants F u)
+        counts : length (wants F u) ≡ l .«credentials_count»
 
-      module _ (b : Slice s) where
-        front : Slice (take at s)
-        front = slice-of (take at s) (bytes-take at s (slice-bytes s b))
+      known : Known
+      unfolding wants
+      known =
+          let (u, n, t, i) =
+          answer-took (unsigned F) (take at s) 0 U.Refused (λ u n. U.Whole (layout most u)) x p (U.Whole l) q
+          (λ e i. let z : _≡_ {A = ℕ} 0 1 = cc in omega arith) in
+          let el : l ≡ layout most u = cc in
+          record {
+            u = u;
+            stands = t ∙ ap (took u) (credentials-stand most (take at s) u n l front t el);
+            asks =
+                subst (λ (w : Layout). Wants most (take at s) (w .kind) (firstWanting w) (wants F u)) (sym el)
+                (first-wants most (take at s) u n front t);
+            counts = sym (ap (λ (w : Layout). w .«credentials_count») el);
+          }
 
-        closing-is : closing F at s ≡ closingOf l (take at s)
-        unfolding closing
-        closing-is =
-            let (u, el, t) = unsigned-took in
-            ap (blankBehind F) t ∙ sym (closing-blank (take at s) u n front t .0) ∙ ap (λ (k : Layout). closingOf k (take at s)) (sym el)
+      pub close-ahead : (at ≤ length s) × AllAhead l (take at s)
+      close-ahead =
+          let k = known in
+          (h, record { most = most; all = wants F (k .u); wants = k .asks; counts = k .counts })
 
-        pub close-counts : (at ≤ length s) × (8 * counted l ≤ length (closingOf l (take at s)))
-        close-counts =
-            let (u, el, t) = unsigned-took in
-            (h, subst (λ (k : Layout). 8 * counted k ≤ length (closingOf k (take at s))) (sym el) (closing-blank (take at s) u n front t .1))
-
-        pub close-whole : n ≡ at → (z : Part × List ℕ)
-            → z ≡ stored (roomFor (at + length (closingOf l (take at s))) s) (at + length (closingOf l (take at s))) s (overwrite s at (closingOf l (take at s))) → z ≡ Out (closable F at s)
-        unfolding judged
-        close-whole f z ez =
-            let v : Verdict = roomFor (at + length (closing F at s)) s in
-            ez
-            ∙ ap (λ (ys : List ℕ). stored (roomFor (at + length ys) s) (at + length ys) s (overwrite s at ys)) (sym closing-is)
-            ∙ ruled v
-            (sym
-            (on-unsigned (take at s) v (λ e. J.Refuse (e .number)) _ x p l n q (λ u i t.
-            rw (eq-eqb n (length (take at s)) (f ∙ sym (length-take-le at s h))))))
+      pub close-whole : l .«credentials_at» ≡ at → (r : Part) (t : List ℕ)
+          → OfAll l (take at s) (λ ws. (r, t) ≡ closed s at ws) → (r, t) ≡ Ruled (closable F at s)
+      unfolding judged closing
+      close-whole f r t g =
+          let k = known in
+          let v : Verdict = roomFor (at + length (closing F at s)) s in
+          g most (wants F (k .u)) (k .asks) (k .counts)
+          ∙ ap (λ (ys : List ℕ). written (roomFor (at + length ys) s) s at ys) (sym (ap (blankBehind F) (k .stands)))
+          ∙ ruled v
+          (sym
+          (on-unsigned most (take at s) v (λ e. barred (e .rule)) _ x p l q (λ u n i t.
+          let place : n ≡ l .«credentials_at» = credentials-stand most (take at s) u n l front t i in
+          rw (eq-eqb n (length (take at s)) (place ∙ f ∙ sym (length-take-le at s h))))))

@@ -1,95 +1,87 @@
--- The blank credentials that finish writes: as code makes them, each from the element that wants it; and as the format has them. Assumes nothing.
-use Prim.Native.Nat.{ℕ, zero, suc, _+_, _*_, _^_, _≤_, _<_}
+-- The blank credentials that finish writes, the room that they need, and what bars them. Assumes nothing.
+use mathlib.Core.Path.{_≡_}
+use Prim.Native.Nat.{ℕ, _+_, _*_, _≤_}
 use mathlib.Core.List.{List, [], _++_}
 use lib.ListN.{length, take, replicate}
-use lib.Dec.{leb, ltb, eqb}
+use lib.Dec.{leb, ltb}
 use Rattle.wire.specs.Bytes.{digits, pick}
 use Rattle.wire.specs.Numbers.{refusal, noRoom}
-use Rattle.wire.specs.Fields.{number, blob}
-use Rattle.wire.specs.declared.Number.{Number}
-use Rattle.wire.specs.declared.Number.the-variants as N
 use Rattle.wire.specs.declared.Part.{Part}
 use Rattle.wire.specs.declared.Part.the-variants as P
 use Rattle.wire.specs.Format.{read, Result, took, refused}
-use Rattle.element.specs.Answer.{askedByOperation}
+use Rattle.transaction.specs.Slots.{signatureWidth}
 use Rattle.transaction.specs.Signed.{mostBytes}
-use Rattle.transaction.specs.Answer.{ownWants}
-use Rattle.transaction.specs.declared.Kind.{Kind}
-use Rattle.transaction.specs.declared.Kind.the-variants as K
 use Rattle.transaction.specs.declared.Layout.{Layout}
-use Rattle.transaction.specs.Credentials.{layout, credentials, blanks}
+use Rattle.transaction.specs.Credentials.{Want, each, pieces, layout, credentials, blanks}
 use Rattle.transaction.specs.Family.{Family, Unsigned, unsigned, wants}
+use Rattle.checker.specs.declared.Wanting.{Wanting}
+use Rattle.checker.specs.Wanted.{Wants, firstWanting}
 use Rattle.judge.specs.declared.Verdict.{Verdict}
-use Rattle.judge.specs.declared.Verdict.the-variants as J
 use Rattle.judge.specs.Given.{given}
-use Rattle.judge.specs.Judged.{judged}
-use Rattle.buffer.specs.Stores.{roomFor}
+use Rattle.judge.specs.Judged.{barred, judged}
+use Rattle.buffer.specs.Stores.{roomFor, overwrite, stored}
 
--- how many signatures the element at q wants, and where it ends. Behind the 80 bytes of an input's key, asset id, type and amount stand its
--- indices' count and these
-unfoldable pub askedByInput : List ℕ → ℕ → Number
-askedByInput s q =
-    blob 80 .run s q N.Refused λ front i.
-    number 4 .run s i N.Refused λ c first.
-    blob (4 * c) .run s first N.Refused λ list next.
-    N.Value c next
-
--- the credential's type tells what the element is
-unfoldable pub askedAt : ℕ → List ℕ → ℕ → Number
-unfolding askedByInput
-askedAt t s q = pick (eqb t 14) (askedByOperation s q) (askedByInput s q)
-
--- a credential of type t and n blank signatures
+-- a credential of type t and n blank signatures, and its bytes
 unfoldable pub blankCredential : ℕ → ℕ → List ℕ
-blankCredential t n = digits 4 t ++ (digits 4 n ++ replicate (65 * n) 0)
+blankCredential t n = digits 4 t ++ (digits 4 n ++ replicate (signatureWidth * n) 0)
 
-abbrev pub onNumber : {R : Type 0} → Number → R → (ℕ → ℕ → R) → R
-onNumber (N.Value c n) none go = go c n
-onNumber (N.Refused e) none go = none
+abbrev pub credentialWidth : ℕ → ℕ
+credentialWidth n = 8 + signatureWidth * n
 
--- one for each of the n elements from q on
-unfoldable pub blanksFrom : ℕ → ℕ → List ℕ → ℕ → List ℕ
-blanksFrom t zero s q = []
-blanksFrom t (suc n) s q = onNumber (askedAt t s q) [] λ c next. blankCredential t c ++ blanksFrom t n s next
+-- the blank credentials that are wanted; and their count before them
+unfoldable pub blankBytes : List Want → List ℕ
+blankBytes ws = pieces (each ws) .write (blanks (each ws))
 
--- the type of the credentials that the own part wants
-abbrev pub ownType : Kind → ℕ
-ownType K.Base = 9
-ownType K.CreateAsset = 9
-ownType K.Operation = 14
-ownType K.Import = 9
-ownType K.Export = 9
+abbrev pub closingBytes : List Want → List ℕ
+closingBytes ws = credentials ws .write (blanks (layout ws))
 
--- how many, those that the inputs want, those that the own part wants
-unfoldable pub closingOf : Layout → List ℕ → List ℕ
-closingOf l s =
-    digits 4 (l .«inputs_count» + ownWants (l .kind) (l .«own_count»))
-    ++ (blanksFrom 9 (l .«inputs_count») s (l .«inputs_at») ++ blanksFrom (ownType (l .kind)) (ownWants (l .kind) (l .«own_count»)) s (l .«own_at»))
-
--- the place behind n bytes from `at` on, which end by `most`
+-- the place behind n bytes from `at` on, which end by `limit`
 unfoldable pub fitted : ℕ → ℕ → ℕ → Part
-fitted at n most = pick (leb (at + n) most) (P.Next (at + n)) (P.Refused (refusal noRoom 0))
-
--- the credentials of n elements have room, in a buffer of k bytes, behind `at`, and the elements stand before these
-pub record Blanks (t n : ℕ) (s : List ℕ) (q end at k : ℕ) : Type 0 where
-  pub type : t < 256 ^ 4
-  pub behind : end ≤ at
-  pub room : at + length (blanksFrom t n s q) ≤ k
-  pub short : at + length (blanksFrom t n s q) ≤ mostBytes
-
--- how many the code counts
-abbrev pub counted : Layout → ℕ
-counted l = l .«inputs_count» + ownWants (l .kind) (l .«own_count»)
-
--- all credentials have room behind the unsigned part, which ends at `at`; and they are as many as are counted, so that the count has 32 bits
-pub record Room (l : Layout) (s : List ℕ) (at : ℕ) : Type 0 where
-  pub fits : at + length (closingOf l (take at s)) ≤ length s
-  pub short : at + length (closingOf l (take at s)) ≤ mostBytes
-  pub counts : 8 * counted l ≤ length (closingOf l (take at s))
+fitted at n limit = pick (leb (at + n) limit) (P.Next (at + n)) (P.Refused (refusal noRoom 0))
 
 -- the most bytes that a transaction has in a buffer of n
 abbrev pub mostIn : ℕ → ℕ
 mostIn n = pick (ltb n mostBytes) n mostBytes
+
+-- what the writing of ys from `at` on answers, and what it leaves in the buffer s; or what bars it
+abbrev pub written : Verdict → List ℕ → ℕ → List ℕ → Part × List ℕ
+written v s at ys = stored v (at + length ys) s (overwrite s at ys)
+
+-- the same of the credentials that are wanted, where only their room may bar them
+abbrev pub closed : List ℕ → ℕ → List Want → Part × List ℕ
+closed s at ws = written (roomFor (at + length (closingBytes ws)) s) s at (closingBytes ws)
+
+-- ---- what is wanted ahead of a cursor, in a transaction of that type, and is so much
+
+module _ (kind : ℕ) (s : List ℕ) (c : Wanting) (count : ℕ) where
+  pub record Ahead : Type 0 where
+    pub most : ℕ
+    pub all : List Want
+    pub wants : Wants most s kind c all
+    pub counts : length all ≡ count
+
+  -- P holds of it
+  abbrev pub OfAhead : (List Want → Type 0) → Type 0
+  OfAhead P = (most : ℕ) (ws : List Want) → Wants most s kind c ws → length ws ≡ count → P ws
+
+  -- the blank credentials have room in a buffer of k bytes from `at` on, and what asks for them stands before these
+  pub record Room (end at k : ℕ) : Type 0 where
+    pub ahead : Ahead
+    pub behind : end ≤ at
+    pub fits : at + length (blankBytes (ahead .all)) ≤ k
+    pub short : at + length (blankBytes (ahead .all)) ≤ mostBytes
+
+-- all that a layout wants
+module _ (l : Layout) (s : List ℕ) where
+  abbrev pub AllAhead : Type 0
+  AllAhead = Ahead (l .kind) s (firstWanting l) (l .«credentials_count»)
+
+  abbrev pub OfAll : (List Want → Type 0) → Type 0
+  OfAll = OfAhead (l .kind) s (firstWanting l) (l .«credentials_count»)
+
+  -- behind their count, which is behind the unsigned part
+  abbrev pub RoomForAll : ℕ → ℕ → Type 0
+  RoomForAll at k = Room (l .kind) s (firstWanting l) (l .«credentials_count») at (at + 4) k
 
 -- ---- what they are by the family's format, and what bars them
 
@@ -107,4 +99,4 @@ module _ (F : Family) where
   closing at s = blankBehind (read (unsigned F) (take at s) 0)
 
   unfoldable pub closable : ℕ → List ℕ → Verdict
-  closable at s = pick (leb at (length s)) (judged (unsigned F) (given (take at s)) (roomFor (at + length (closing at s)) s)) (J.Refuse noRoom)
+  closable at s = pick (leb at (length s)) (judged (unsigned F) (given (take at s)) (roomFor (at + length (closing at s)) s)) (barred noRoom)

@@ -1,56 +1,22 @@
-// The blank credentials that end a transaction: each input and each element of the own part wants one.
+// The blank credentials that end a transaction: one for each that the unsigned part wants, met by the iterator that the check goes by too.
 ghost use mathlib.Core.Path.{_≡_};
-ghost use Prim.Native.Nat.{_+_, _*_, _^_, _≤_, _<_};
+ghost use Prim.Native.Nat.{_+_, _^_, _≤_, _<_};
 ghost use lib.ListN.{length, take, replicate};
 ghost use Rattle.transaction.specs.Avm.{avm};
-ghost use Rattle.transaction.specs.Answer.{memoMost};
-ghost use Rattle.buffer.specs.Stores.{roomFor, overwrite, stored};
-ghost use Rattle.blank.specs.Closing.{Blanks, Room, askedByInput, askedAt, blankCredential, blanksFrom, ownType, closingOf, counted, fitted, mostIn, closing, closable};
-use transaction::Kind;
+ghost use Rattle.buffer.specs.Stores.{overwrite, stored};
+ghost use Rattle.blank.specs.Closing.{blankCredential, credentialWidth, blankBytes, closingBytes, fitted, mostIn, closed};
+ghost use Rattle.blank.specs.Closing.{OfAhead, Room, AllAhead, OfAll, RoomForAll, closing, closable};
+use checker::Wanted;
+use checker::Wanting;
+use checker::asking;
+use checker::credentials;
 use transaction::Layout;
 use transaction::UnsignedRead;
-use wire::Number;
 use wire::Part;
-use wire::Refusal;
+use wire::Rule;
 
-// How many indices the input at q has, and the place behind it.
-fn asked_by_input(s: &[u8], q: usize) -> Number
-    ensures { λ r. ⌜ r ≡ askedByInput (now (s .entry)) q ⌝ }
-{
-    let Part::Next(i) = wire::part_at(s, q, 80) else {
-        return Number::Refused(wire::cut(s, q, 80));
-    };
-    let Number::Value(count, first) = wire::u32_at(s, i) else {
-        return Number::Refused(wire::cut(s, i, 4));
-    };
-    let Part::Next(next) = wire::part_at(s, first, 4 * count as usize) else {
-        return Number::Refused(wire::cut(s, first, 4 * count as usize));
-    };
-    Number::Value(count, next)
-}
-
-// How many signatures the element at q wants, by the type of its credential.
-fn asked_at(s: &[u8], q: usize, kind: u64) -> Number
-    ensures { λ r. ⌜ r ≡ askedAt kind (now (s .entry)) q ⌝ }
-{
-    if kind == 14 {
-        return element::operations::asked_by_operation(s, q);
-    }
-    asked_by_input(s, q)
-}
-
-// The type of the credentials that the own part wants.
-fn own_type(kind: Kind) -> u64
-    ensures { λ r. ⌜ r ≡ ownType kind ⌝ }
-{
-    match kind {
-        Kind::Base => 9,
-        Kind::CreateAsset => 9,
-        Kind::Operation => 14,
-        Kind::Import => 9,
-        Kind::Export => 9,
-    }
-}
+// The bytes of a credential before its signatures: its type, and how many they are.
+const HEAD_WIDTH: usize = 8;
 
 // Fills room with zeros.
 fn clear(room: &mut [u8])
@@ -71,125 +37,118 @@ fn put_zeros(buf: &mut [u8], at: usize, count: usize)
     clear(&mut buf[at..at + count]);
 }
 
-// Writes a credential of blank signatures from at on.
-fn put_blank(buf: &mut [u8], at: usize, kind: u64, count: u64)
-    requires { ⌜ (kind < 256 ^ 4) × (count < 256 ^ 4) × (at + (8 + 65 * count) ≤ length (now buf)) ⌝ }
-    ensures { λ _. ⌜ now (buf .exit) ≡ overwrite (now (buf .entry)) at (blankCredential kind count) ⌝ }
+// Writes a credential of blank signatures from at on. Answers the place behind it.
+fn put_blank(buf: &mut [u8], at: usize, code: u64, count: u64) -> usize
+    requires { ⌜ (code < 256 ^ 4) × (count < 256 ^ 4) × (at + credentialWidth count ≤ length (now buf)) ⌝ }
+    ensures { λ r. ⌜ r ≡ at + credentialWidth count ⌝ }
+    ensures { λ _. ⌜ now (buf .exit) ≡ overwrite (now (buf .entry)) at (blankCredential code count) ⌝ }
 {
-    buffer::put_u32(buf, at, kind);
+    let first = at + HEAD_WIDTH;
+    let width = transaction::SIGNATURE_WIDTH * count as usize;
+    buffer::put_u32(buf, at, code);
     buffer::put_u32(buf, at + 4, count);
-    put_zeros(buf, at + 8, 65 * count as usize);
+    put_zeros(buf, first, width);
+    first + width
 }
 
-// The place behind a credential from at on, which ends by most.
-fn blank_end(at: usize, count: u64, most: usize) -> Part
-    ensures { λ r. ⌜ r ≡ fitted at (8 + 65 * count) most ⌝ }
+// The place behind a credential from at on, which ends by limit.
+fn blank_end(at: usize, count: u64, limit: usize) -> Part
+    ensures { λ r. ⌜ r ≡ fitted at (credentialWidth count) limit ⌝ }
 {
-    let full = Part::Refused(Refusal {
-        number: wire::numbers::NO_ROOM,
-        place: 0,
-    });
-    if most < at {
+    let full = Part::Refused(wire::refuse(Rule::NoRoom, 0));
+    if limit < at {
         return full;
     }
-    if most - at < 8 {
+    if limit - at < HEAD_WIDTH {
         return full;
     }
-    if (most - at - 8) as u64 / 65 < count {
+    if (limit - at - HEAD_WIDTH) / transaction::SIGNATURE_WIDTH < count as usize {
         return full;
     }
-    Part::Next(at + 8 + 65 * count as usize)
+    Part::Next(at + HEAD_WIDTH + transaction::SIGNATURE_WIDTH * count as usize)
 }
 
-// The place behind the credentials, from start on, that as many elements from first want.
-fn blanks_end(s: &[u8], kind: u64, count: u64, first: usize, start: usize, most: usize) -> Part
-    requires { ⌜ start ≤ most ⌝ }
-    ensures { λ r. ⌜ r ≡ fitted start (length (blanksFrom kind count (now (s .entry)) first)) most ⌝ }
+// The place behind the credentials, from start on, that are wanted ahead of a cursor, which are so many, and end by limit.
+fn blanks_end(s: &[u8], kind: u32, from: Wanting, count: u64, start: usize, limit: usize) -> Part
+    requires { ⌜ start ≤ limit ⌝ }
+    ensures { λ r. ⌜ OfAhead kind (now (s .entry)) from count (λ ws. r ≡ fitted start (length (blankBytes ws)) limit) ⌝ }
 {
+    let mut cursor = from;
     let mut left = count;
-    let mut q = first;
     let mut at = start;
     while 0 < left {
-        let Number::Value(signatures, next) = asked_at(s, q, kind) else {
-            return Part::Next(at);
-        };
-        match blank_end(at, signatures, most) {
-            Part::Refused(refusal) => {
-                return Part::Refused(refusal);
+        match asking::next_wanted(s, kind, cursor) {
+            Wanted::End => {
+                return Part::Next(at);
             }
-            Part::Next(m) => {
-                q = next;
-                at = m;
-                left -= 1;
-            }
+            Wanted::Credential(_, signatures, next) => match blank_end(at, signatures, limit) {
+                Part::Refused(refusal) => {
+                    return Part::Refused(refusal);
+                }
+                Part::Next(end) => {
+                    cursor = next;
+                    at = end;
+                    left -= 1;
+                }
+            },
         }
     }
     Part::Next(at)
 }
 
-// Writes from start on the credentials that as many elements from first want, which stand before end. Answers the place behind them.
-fn put_blanks(
-    buf: &mut [u8],
-    end: usize,
-    kind: u64,
-    count: u64,
-    first: usize,
-    start: usize,
-) -> usize
-    requires { ⌜ Blanks kind count (take end (now buf)) first end start (length (now buf)) ⌝ }
-    ensures { λ r. ⌜ r ≡ start + length (blanksFrom kind count (take end (now (buf .entry))) first) ⌝ }
-    ensures { λ _. ⌜ now (buf .exit) ≡ overwrite (now (buf .entry)) start (blanksFrom kind count (take end (now (buf .entry))) first) ⌝ }
+// Writes from start on the credentials that are wanted ahead of a cursor, which are so many. What asks for them stands before end.
+fn put_blanks(buf: &mut [u8], end: usize, kind: u32, from: Wanting, count: u64, start: usize)
+    requires { ⌜ Room kind (take end (now buf)) from count end start (length (now buf)) ⌝ }
+    ensures { λ _. ⌜ OfAhead kind (take end (now (buf .entry))) from count (λ ws. now (buf .exit) ≡ overwrite (now (buf .entry)) start (blankBytes ws)) ⌝ }
 {
+    let mut cursor = from;
     let mut owed = count;
-    let mut q = first;
     let mut at = start;
     while 0 < owed {
-        let Number::Value(signatures, next) = asked_at(&buf[..end], q, kind) else {
-            return at;
-        };
-        put_blank(buf, at, kind, signatures);
-        q = next;
-        at = at + 8 + 65 * signatures as usize;
-        owed -= 1;
-    }
-    at
-}
-
-// The place behind all credentials from at on, which end by most.
-fn closing_end(s: &[u8], layout: Layout, at: usize, most: usize) -> Part
-    ensures { λ r. ⌜ r ≡ fitted at (length (closingOf layout (now (s .entry)))) most ⌝ }
-{
-    let kind = layout.kind;
-    let full = Part::Refused(Refusal {
-        number: wire::numbers::NO_ROOM,
-        place: 0,
-    });
-    if most < at {
-        return full;
-    }
-    if most - at < 4 {
-        return full;
-    }
-    match blanks_end(s, 9, layout.inputs_count, layout.inputs_at, at + 4, most) {
-        Part::Refused(refusal) => Part::Refused(refusal),
-        Part::Next(m) => {
-            let wanted = checker::credentials::own_wants(kind, layout.own_count);
-            blanks_end(s, own_type(kind), wanted, layout.own_at, m, most)
+        match asking::next_wanted(&buf[..end], kind, cursor) {
+            Wanted::End => {
+                return;
+            }
+            Wanted::Credential(code, signatures, next) => {
+                at = put_blank(buf, at, code, signatures);
+                cursor = next;
+                owed -= 1;
+            }
         }
     }
 }
 
+// The place behind all credentials from at on, which end by limit.
+fn closing_end(s: &[u8], layout: Layout, at: usize, limit: usize) -> Part
+    ensures { λ r. ⌜ OfAll layout (now (s .entry)) (λ ws. r ≡ fitted at (length (closingBytes ws)) limit) ⌝ }
+{
+    let full = Part::Refused(wire::refuse(Rule::NoRoom, 0));
+    if limit < at {
+        return full;
+    }
+    if limit - at < 4 {
+        return full;
+    }
+    let from = credentials::first_wanting(layout);
+    blanks_end(
+        s,
+        layout.kind,
+        from,
+        layout.credentials_count,
+        at + 4,
+        limit,
+    )
+}
+
 // Writes all credentials behind the unsigned part, which ends at at.
 fn put_closing(buf: &mut [u8], at: usize, layout: Layout)
-    requires { ⌜ Room layout (now buf) at ⌝ }
-    ensures { λ _. ⌜ now (buf .exit) ≡ overwrite (now (buf .entry)) at (closingOf layout (take at (now (buf .entry)))) ⌝ }
+    requires { ⌜ RoomForAll layout (take at (now buf)) at (length (now buf)) ⌝ }
+    ensures { λ _. ⌜ OfAll layout (take at (now (buf .entry))) (λ ws. now (buf .exit) ≡ overwrite (now (buf .entry)) at (closingBytes ws)) ⌝ }
 {
-    let kind = layout.kind;
-    let inputs = layout.inputs_count;
-    let wanted = checker::credentials::own_wants(kind, layout.own_count);
-    buffer::put_u32(buf, at, inputs + wanted);
-    let m = put_blanks(buf, at, 9, inputs, layout.inputs_at, at + 4);
-    put_blanks(buf, at, own_type(kind), wanted, layout.own_at, m);
+    let count = layout.credentials_count;
+    let from = credentials::first_wanting(layout);
+    buffer::put_u32(buf, at, count);
+    put_blanks(buf, at, layout.kind, from, count, at + 4);
 }
 
 // The most bytes that a transaction has in a buffer of that length.
@@ -204,11 +163,11 @@ fn most_in(length: usize) -> usize
 
 // Writes all credentials of a layout, where there is room for them. Answers the place behind them.
 fn close_layout(buf: &mut [u8], at: usize, layout: Layout) -> Part
-    requires { ⌜ (at ≤ length (now buf)) × (8 * counted layout ≤ length (closingOf layout (take at (now buf)))) ⌝ }
-    ensures { λ r. ⌜ (r, now (buf .exit)) ≡ stored (roomFor (at + length (closingOf layout (take at (now (buf .entry))))) (now (buf .entry))) (at + length (closingOf layout (take at (now (buf .entry))))) (now (buf .entry)) (overwrite (now (buf .entry)) at (closingOf layout (take at (now (buf .entry))))) ⌝ }
+    requires { ⌜ (at ≤ length (now buf)) × AllAhead layout (take at (now buf)) ⌝ }
+    ensures { λ r. ⌜ OfAll layout (take at (now (buf .entry))) (λ ws. (r, now (buf .exit)) ≡ closed (now (buf .entry)) at ws) ⌝ }
 {
-    let most = most_in(buf.len());
-    match closing_end(&buf[..at], layout, at, most) {
+    let limit = most_in(buf.len());
+    match closing_end(&buf[..at], layout, at, limit) {
         Part::Refused(refusal) => Part::Refused(refusal),
         Part::Next(end) => {
             put_closing(buf, at, layout);
@@ -217,27 +176,21 @@ fn close_layout(buf: &mut [u8], at: usize, layout: Layout) -> Part
     }
 }
 
-// Reads the unsigned part back, which ends at a place, and writes its credentials behind it. Answers the place behind them.
-pub fn close(buf: &mut [u8], at: usize) -> Part
-    ensures { λ r. ⌜ (r, now (buf .exit)) ≡ stored (closable (avm memoMost) at (now (buf .entry))) (at + length (closing (avm memoMost) at (now (buf .entry)))) (now (buf .entry)) (overwrite (now (buf .entry)) at (closing (avm memoMost) at (now (buf .entry)))) ⌝ }
+// Reads the unsigned part back, which ends at a place, with memos of at most so many bytes, and writes its credentials behind it. Answers the
+// place behind them.
+pub fn close(buf: &mut [u8], at: usize, most: u64) -> Part
+    ensures { λ r. ⌜ (r, now (buf .exit))
+        ≡ stored (closable (avm most) at (now (buf .entry))) (at + length (closing (avm most) at (now (buf .entry)))) (now (buf .entry))
+        (overwrite (now (buf .entry)) at (closing (avm most) at (now (buf .entry)))) ⌝ }
 {
     if buf.len() < at {
-        return Part::Refused(Refusal {
-            number: wire::numbers::NO_ROOM,
-            place: 0,
-        });
+        return Part::Refused(wire::refuse(Rule::NoRoom, 0));
     }
-    match checker::body::unsigned_at(&buf[..at]) {
-        UnsignedRead::Refused(refusal) => Part::Refused(Refusal {
-            number: refusal.number,
-            place: 0,
-        }),
-        UnsignedRead::Whole(layout, end) => {
-            if end != at {
-                return Part::Refused(Refusal {
-                    number: wire::numbers::BYTES_AFTER_END,
-                    place: 0,
-                });
+    match checker::body::unsigned_at(&buf[..at], most) {
+        UnsignedRead::Refused(refusal) => Part::Refused(wire::without_place(refusal)),
+        UnsignedRead::Whole(layout) => {
+            if layout.credentials_at != at {
+                return Part::Refused(wire::refuse(Rule::BytesAfterEnd, 0));
             }
             close_layout(buf, at, layout)
         }

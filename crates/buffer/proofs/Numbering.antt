@@ -10,7 +10,8 @@ use lib.Seq.{drop-cons}
 use Rattle.wire.specs.Bytes.{digits, length-digits}
 use Rattle.transaction.specs.Signed.{mostBytes}
 use Rattle.judge.specs.declared.Verdict.{Verdict}
-use Rattle.judge.specs.declared.Verdict.the-variants as J
+use Rattle.wire.specs.Numbers.{noRoom}
+use Rattle.judge.specs.Judged.{barred}
 use Rattle.judge.specs.Elements.{numbersBytes}
 use Rattle.judge.proofs.Inputs.{Words, length-numbers}
 use Rattle.buffer.specs.Stores.{roomIn, overwrite, withNumber}
@@ -44,13 +45,13 @@ module _ (first second l : List ℕ) where
   length-all = omega (arith, length-append (first ++ second) (numbersBytes l), length-append first second, length-numbers l)
 
   module _ (at limit : ℕ) where
-    pub first-long : mostBytes < length first → J.Refuse 14 ≡ roomIn (at + length all) limit
+    pub first-long : mostBytes < length first → barred noRoom ≡ roomIn (at + length all) limit
     first-long h = too-many (at + length all) limit (omega (arith, length-all))
 
-    pub second-long : mostBytes < length second → J.Refuse 14 ≡ roomIn (at + length all) limit
+    pub second-long : mostBytes < length second → barred noRoom ≡ roomIn (at + length all) limit
     second-long h = too-many (at + length all) limit (omega (arith, length-all))
 
-    pub numbers-long : mostBytes < length l → J.Refuse 14 ≡ roomIn (at + length all) limit
+    pub numbers-long : mostBytes < length l → barred noRoom ≡ roomIn (at + length all) limit
     numbers-long h = too-many (at + length all) limit (omega (arith, length-all))
 
     pub room-all : (v : Verdict) → v ≡ roomIn (at + (length first + length second + 4 * length l)) limit → v ≡ roomIn (at + length all) limit

@@ -10,7 +10,7 @@ use lib.Seq.{length-take-le, take-at, drop-at, drop-length, take-length, drop-dr
 use lib.Dec.{leb}
 use borrow.Author.Tests.{leb-true, le-leb, lt-leb}
 use Rattle.wire.specs.Bytes.{pick, digits, length-digits}
-use Rattle.wire.specs.Numbers.{refusal, noRoom}
+use Rattle.wire.specs.Numbers.{noRoom}
 use Rattle.wire.specs.declared.Refusal.{Refusal}
 use Rattle.wire.specs.declared.Part.{Part}
 use Rattle.wire.specs.declared.Part.the-variants as P
@@ -18,7 +18,7 @@ use Rattle.transaction.specs.Signed.{mostBytes}
 use Rattle.judge.specs.declared.Verdict.{Verdict}
 use Rattle.judge.specs.declared.Verdict.the-variants as J
 use Rattle.judge.proofs.Verdicts.{pick-fine}
-use Rattle.judge.specs.Judged.{onFine}
+use Rattle.judge.specs.Judged.{barred, onFine}
 use Rattle.buffer.specs.Stores.{roomIn, roomFor, overwrite, withNumber, stored}
 
 -- ---- room
@@ -35,23 +35,23 @@ unfolding roomFor
 room-fine n s h k = rw (le-leb n (length s) h, le-leb n mostBytes k)
 
 -- there is room, or it is 14
-pub by-room : (n : ℕ) (s : List ℕ) (P : Verdict → Type 0) → (roomFor n s ≡ J.Fine → P J.Fine) → P (J.Refuse noRoom) → P (roomFor n s)
+pub by-room : (n : ℕ) (s : List ℕ) (P : Verdict → Type 0) → (roomFor n s ≡ J.Fine → P J.Fine) → P (barred noRoom) → P (roomFor n s)
 unfolding roomFor
 by-room n s P f r = go (leb n (length s)) (leb n mostBytes) f
   where
-    go : (a c : Bool) → (pick a (pick c J.Fine (J.Refuse noRoom)) (J.Refuse noRoom) ≡ J.Fine → P J.Fine) → P (pick a (pick c J.Fine (J.Refuse noRoom)) (J.Refuse noRoom))
+    go : (a c : Bool) → (pick a (pick c J.Fine (barred noRoom)) (barred noRoom) ≡ J.Fine → P J.Fine) → P (pick a (pick c J.Fine (barred noRoom)) (barred noRoom))
     go true true f = f refl
     go true false f = r
     go false c f = r
 
 module _ (n limit : ℕ) where
-  pub no-room : limit < n → J.Refuse 14 ≡ roomIn n limit
+  pub no-room : limit < n → barred noRoom ≡ roomIn n limit
   no-room h = rw (lt-leb n limit h)
 
-  pub too-many : mostBytes < n → J.Refuse 14 ≡ roomIn n limit
+  pub too-many : mostBytes < n → barred noRoom ≡ roomIn n limit
   too-many h = go (leb n limit)
     where
-      go : (t : Bool) → J.Refuse 14 ≡ pick t (pick (leb n mostBytes) J.Fine (J.Refuse 14)) (J.Refuse 14)
+      go : (t : Bool) → barred noRoom ≡ pick t (pick (leb n mostBytes) J.Fine (barred noRoom)) (barred noRoom)
       go true = rw (lt-leb n mostBytes h)
       go false = refl
 
@@ -163,14 +163,14 @@ module _ (s : List ℕ) (at n : ℕ) where
 -- ---- stores made whole or not at all
 
 module _ (v : Verdict) (m n : ℕ) (s t : List ℕ) where
-  pub rules-bar : (u : Verdict) (k : ℕ) → v ≡ J.Refuse k → (P.Refused (refusal k 0), s) ≡ stored (onFine v u) n s t
+  pub rules-bar : (u : Verdict) (d : Refusal) → v ≡ J.Refuse d → (P.Refused d, s) ≡ stored (onFine v u) n s t
   unfolding stored
-  rules-bar u k e = rw e
+  rules-bar u d e = rw e
 
   module _ (e : v ≡ J.Fine) (x : Verdict) (p : x ≡ roomIn m (length s)) where
-    pub room-bars : (k : ℕ) → x ≡ J.Refuse k → (P.Refused (refusal k 0), s) ≡ stored (onFine v (roomFor m s)) n s t
+    pub room-bars : (d : Refusal) → x ≡ J.Refuse d → (P.Refused d, s) ≡ stored (onFine v (roomFor m s)) n s t
     unfolding stored roomFor
-    room-bars k q = rw (e, sym p ∙ q)
+    room-bars d q = rw (e, sym p ∙ q)
 
     pub room-made : x ≡ J.Fine → m ≤ length s
     unfolding roomFor
@@ -182,13 +182,13 @@ module _ (v : Verdict) (m n : ℕ) (s t : List ℕ) where
 
 -- what its answer tells
 module _ (n : ℕ) (s t : List ℕ) (x : Part) (u : List ℕ) where
-  pub told-refused : (v : Verdict) → (x, u) ≡ stored v n s t → (e : Refusal) → x ≡ P.Refused e → (v ≡ J.Refuse (e .number)) × (u ≡ s)
+  pub told-refused : (v : Verdict) → (x, u) ≡ stored v n s t → (e : Refusal) → x ≡ P.Refused e → (v ≡ J.Refuse e) × (u ≡ s)
   unfolding stored
   told-refused J.Fine p e q = let i : x ≡ P.Next n = ap (λ (z : Part × List ℕ). z .0) p in let z : _≡_ {A = ℕ} 0 1 = cc in absurd (omega arith)
-  told-refused (J.Refuse k) p e q =
-      let i : x ≡ P.Refused (refusal k 0) = ap (λ (z : Part × List ℕ). z .0) p in
-      let j : refusal k 0 ≡ e = cc in
-      (ap (λ (r : Refusal). J.Refuse (r .number)) j, ap (λ (z : Part × List ℕ). z .1) p)
+  told-refused (J.Refuse d) p e q =
+      let i : x ≡ P.Refused d = ap (λ (z : Part × List ℕ). z .0) p in
+      let j : d ≡ e = cc in
+      (ap J.Refuse j, ap (λ (z : Part × List ℕ). z .1) p)
 
   pub told-next : (v : Verdict) → (x, u) ≡ stored v n s t → (m : ℕ) → x ≡ P.Next m → (v ≡ J.Fine) × (m ≡ n) × (u ≡ t)
   unfolding stored
@@ -196,4 +196,4 @@ module _ (n : ℕ) (s t : List ℕ) (x : Part) (u : List ℕ) where
       let i : x ≡ P.Next n = ap (λ (z : Part × List ℕ). z .0) p in
       let j : m ≡ n = cc in
       (refl, j, ap (λ (z : Part × List ℕ). z .1) p)
-  told-next (J.Refuse k) p m q = let i : x ≡ P.Refused (refusal k 0) = ap (λ (z : Part × List ℕ). z .0) p in let z : _≡_ {A = ℕ} 0 1 = cc in absurd (omega arith)
+  told-next (J.Refuse d) p m q = let i : x ≡ P.Refused d = ap (λ (z : Part × List ℕ). z .0) p in let z : _≡_ {A = ℕ} 0 1 = cc in absurd (omega arith)

@@ -5,16 +5,17 @@ use mathlib.Core.List.{List, [], _++_}
 use lib.ListN.{length, take, drop}
 use lib.Dec.{leb}
 use Rattle.wire.specs.Bytes.{digits, pick}
-use Rattle.wire.specs.Numbers.{refusal, noRoom}
+use Rattle.wire.specs.Numbers.{noRoom}
 use Rattle.wire.specs.declared.Part.{Part}
 use Rattle.wire.specs.declared.Part.the-variants as P
 use Rattle.transaction.specs.Signed.{mostBytes}
 use Rattle.judge.specs.declared.Verdict.{Verdict}
 use Rattle.judge.specs.declared.Verdict.the-variants as J
+use Rattle.judge.specs.Judged.{barred}
 
 -- n bytes in all pass neither the buffer's end nor 65,536
 abbrev pub roomIn : ℕ → ℕ → Verdict
-roomIn n length = pick (leb n length) (pick (leb n mostBytes) J.Fine (J.Refuse noRoom)) (J.Refuse noRoom)
+roomIn n length = pick (leb n length) (pick (leb n mostBytes) J.Fine (barred noRoom)) (barred noRoom)
 
 unfoldable pub roomFor : ℕ → List ℕ → Verdict
 roomFor n s = roomIn n (length s)
@@ -34,4 +35,4 @@ withNumber s at n = pick (leb (at + 4) (length s)) (overwrite s at (digits 4 (n 
 -- what a store answers, and what it leaves in the buffer s: the place n behind it, and t; or, where something bars it, why, and s
 unfoldable pub stored : Verdict → ℕ → List ℕ → List ℕ → Part × List ℕ
 stored J.Fine n s t = (P.Next n, t)
-stored (J.Refuse k) n s t = (P.Refused (refusal k 0), s)
+stored (J.Refuse e) n s t = (P.Refused e, s)

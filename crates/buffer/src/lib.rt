@@ -8,7 +8,7 @@ ghost use Rattle.judge.specs.Elements.{numbersBytes};
 ghost use Rattle.buffer.specs.Stores.{roomIn, roomFor, overwrite, withNumber, stored};
 use judge::Verdict;
 use wire::Part;
-use wire::Refusal;
+use wire::Rule;
 
 // Puts a number into the four bytes at a place, where these are there.
 pub fn put_u32(buf: &mut [u8], at: usize, value: u64)
@@ -60,16 +60,16 @@ fn room_for(at: usize, n: usize, limit: usize) -> Verdict
     ensures { λ r. ⌜ r ≡ roomIn (at + n) limit ⌝ }
 {
     if limit < at {
-        return Verdict::Refuse(wire::numbers::NO_ROOM);
+        return judge::bar(Rule::NoRoom);
     }
     if limit - at < n {
-        return Verdict::Refuse(wire::numbers::NO_ROOM);
+        return judge::bar(Rule::NoRoom);
     }
     if transaction::MOST_BYTES < at {
-        return Verdict::Refuse(wire::numbers::NO_ROOM);
+        return judge::bar(Rule::NoRoom);
     }
     if transaction::MOST_BYTES - at < n {
-        return Verdict::Refuse(wire::numbers::NO_ROOM);
+        return judge::bar(Rule::NoRoom);
     }
     Verdict::Fine
 }
@@ -79,13 +79,13 @@ fn room_of(at: usize, first: &[u8], second: &[u8], numbers: &[u32], limit: usize
     ensures { λ r. ⌜ r ≡ roomIn (at + length ((now (first .entry) ++ now (second .entry)) ++ numbersBytes (now (numbers .entry)))) limit ⌝ }
 {
     if transaction::MOST_BYTES < first.len() {
-        return Verdict::Refuse(wire::numbers::NO_ROOM);
+        return judge::bar(Rule::NoRoom);
     }
     if transaction::MOST_BYTES < second.len() {
-        return Verdict::Refuse(wire::numbers::NO_ROOM);
+        return judge::bar(Rule::NoRoom);
     }
     if transaction::MOST_BYTES < numbers.len() {
-        return Verdict::Refuse(wire::numbers::NO_ROOM);
+        return judge::bar(Rule::NoRoom);
     }
     room_for(at, first.len() + second.len() + 4 * numbers.len(), limit)
 }
@@ -102,9 +102,9 @@ pub fn put(
     ensures { λ r. ⌜ (r, now (buf .exit)) ≡ stored (onFine verdict (roomFor (at + length ((now (first .entry) ++ now (second .entry)) ++ numbersBytes (now (numbers .entry)))) (now (buf .entry)))) (at + length ((now (first .entry) ++ now (second .entry)) ++ numbersBytes (now (numbers .entry)))) (now (buf .entry)) (overwrite (now (buf .entry)) at ((now (first .entry) ++ now (second .entry)) ++ numbersBytes (now (numbers .entry)))) ⌝ }
 {
     match verdict {
-        Verdict::Refuse(number) => Part::Refused(Refusal { number, place: 0 }),
+        Verdict::Refuse(refusal) => Part::Refused(refusal),
         Verdict::Fine => match room_of(at, first, second, numbers, buf.len()) {
-            Verdict::Refuse(number) => Part::Refused(Refusal { number, place: 0 }),
+            Verdict::Refuse(refusal) => Part::Refused(refusal),
             Verdict::Fine => {
                 put_all(buf, at, first, second, numbers);
                 Part::Next(at + first.len() + second.len() + 4 * numbers.len())

@@ -1,40 +1,44 @@
 // The check of a whole transaction.
 ghost use mathlib.Core.Path.{_≡_};
-ghost use Rattle.transaction.specs.Answer.{checked};
+ghost use Rattle.transaction.specs.Answer.{memoMost, SignedAt, checked};
 use crate::body;
 use crate::credentials;
 use transaction::Checked;
+use transaction::Layout;
 use transaction::UnsignedRead;
 use wire::Part;
-use wire::Refusal;
+use wire::Rule;
 
-// Accepted, or the first broken rule and its place.
-pub fn check(s: &[u8]) -> Checked
-    ensures { λ r. ⌜ r ≡ checked (now (s .entry)) ⌝ }
+// The whole behind an unsigned part that is there.
+fn signed_at(s: &[u8], layout: Layout) -> Checked
+    ensures { λ r. ⌜ SignedAt layout (now (s .entry)) r ⌝ }
+{
+    match credentials::credentials_at(s, layout) {
+        Part::Refused(refusal) => Checked::Refused(refusal),
+        Part::Next(end) => {
+            if end != s.len() {
+                return Checked::Refused(wire::refuse(Rule::BytesAfterEnd, end));
+            }
+            Checked::Accepted(layout, end)
+        }
+    }
+}
+
+// Accepted, or the first broken rule and its place. A memo has at most so many bytes.
+pub fn check_within(s: &[u8], most: u64) -> Checked
+    ensures { λ r. ⌜ r ≡ checked most (now (s .entry)) ⌝ }
 {
     if transaction::MOST_BYTES < s.len() {
-        return Checked::Refused(Refusal {
-            number: wire::numbers::TOO_LONG,
-            place: 0,
-        });
+        return Checked::Refused(wire::refuse(Rule::TooLong, 0));
     }
-    match body::unsigned_at(s) {
-        UnsignedRead::Refused(refusal) => {
-            return Checked::Refused(refusal);
-        }
-        UnsignedRead::Whole(layout, at) => match credentials::credentials_at(s, at, layout) {
-            Part::Refused(refusal) => {
-                return Checked::Refused(refusal);
-            }
-            Part::Next(end) => {
-                if end != s.len() {
-                    return Checked::Refused(Refusal {
-                        number: wire::numbers::BYTES_AFTER_END,
-                        place: end,
-                    });
-                }
-                return Checked::Accepted(layout, end);
-            }
-        },
+    match body::unsigned_at(s, most) {
+        UnsignedRead::Refused(refusal) => Checked::Refused(refusal),
+        UnsignedRead::Whole(layout) => signed_at(s, layout),
     }
+}
+
+pub fn check(s: &[u8]) -> Checked
+    ensures { λ r. ⌜ r ≡ checked memoMost (now (s .entry)) ⌝ }
+{
+    check_within(s, transaction::MEMO_MOST)
 }

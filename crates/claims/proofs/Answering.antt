@@ -11,7 +11,7 @@ use lib.Seq.{drop-at}
 use lib.Dec.{leb}
 use borrow.Author.Tests.{leb-true, le-leb, lt-leb}
 use Rattle.wire.specs.Bytes.{pick}
-use Rattle.wire.specs.Numbers.{refusal, noRoom}
+use Rattle.wire.specs.Numbers.{refusal, numberOf, noRoom}
 use Rattle.wire.specs.declared.Refusal.{Refusal}
 use Rattle.wire.specs.Format.{Result, took, refused, onResult, verdict}
 use Rattle.wire.specs.Orders.{OneOf}
@@ -36,24 +36,24 @@ use Rattle.entry.specs.Entry.{refusedEntry, entryAnswer, entryOf, entryNumber}
 use Rattle.claims.specs.Answers.{checkNumbers, tableNumbers, entryNumbers, CheckAnswers, Lists, TableAnswers, SlotsAnswers, StandsAs, EntryAnswers}
 use Rattle.claims.proofs.Standing.{each-nth, inside-each, entries-stand-as}
 
-refused-listed : (s : List ℕ) (e : Refusal) → check (avm memoMost) s ≡ refused e → OneOf (e .number) checkNumbers
+refused-listed : (s : List ℕ) (e : Refusal) → check (avm memoMost) s ≡ refused e → OneOf (numberOf e) checkNumbers
 refused-listed s e h = inr (check-numbers (avm memoMost) s e h)
 
 -- ---- the check
 
 module _ (s : List ℕ) where
-  check-number : OneOf (checkedNumber (checked s)) checkNumbers
+  check-number : OneOf (checkedNumber (checked memoMost s)) checkNumbers
   check-number = go (check (avm memoMost) s) refl
     where
-      go : (o : Result (Signed (avm memoMost))) → check (avm memoMost) s ≡ o → OneOf (checkedNumber (onResult o C.Refused (λ v n. C.Accepted (layout (v .0)) n))) checkNumbers
+      go : (o : Result (Signed (avm memoMost))) → check (avm memoMost) s ≡ o → OneOf (checkedNumber (onResult o C.Refused (λ v n. C.Accepted (layout memoMost (v .0)) n))) checkNumbers
       go (took v n) h = inl refl
       go (refused e) h = refused-listed s e h
 
-  check-own : (checkedNumber (checked s), checkedPlace (checked s)) ≡ verdict (check (avm memoMost) s)
+  check-own : (checkedNumber (checked memoMost s), checkedPlace (checked memoMost s)) ≡ verdict (check (avm memoMost) s)
   check-own = go (check (avm memoMost) s)
     where
       go : (o : Result (Signed (avm memoMost)))
-          → let a = onResult o C.Refused (λ v n. C.Accepted (layout (v .0)) n) in (checkedNumber a, checkedPlace a) ≡ verdict o
+          → let a = onResult o C.Refused (λ v n. C.Accepted (layout memoMost (v .0)) n) in (checkedNumber a, checkedPlace a) ≡ verdict o
       go (took v n) = refl
       go (refused e) = refl
 
@@ -67,7 +67,7 @@ module _ (s : List ℕ) (n : ℕ) where
   abbrev answerOf : Result (Signed (avm memoMost)) → EntryRead
   answerOf o = onResult o refusedEntry (λ v end. entryAnswer end (entry (avm memoMost) v n))
 
-  entry-number : OneOf (entryNumber (entryOf s n .answer)) entryNumbers
+  entry-number : OneOf (entryNumber (entryOf memoMost s n .answer)) entryNumbers
   entry-number = go (check (avm memoMost) s) refl
     where
       reported : (bytes : ℕ) (o : Option EntryAt) → OneOf (entryNumber (entryAnswer bytes o .answer)) entryNumbers
@@ -87,7 +87,7 @@ entry-answers =
       inside = λ s n v bytes e b h q.
           let (w, m) = codec (avm memoMost) .write-after-read s v bytes b h in
           each-nth (λ e. (e .start ≤ e .end) × (e .end ≤ length s)) (entries (avm memoMost) v)
-          (inside-each (length s) (entries (avm memoMost) v) (entries-inside s v w)) n e q;
+          (inside-each (length s) (entries (avm memoMost) v) (entries-inside memoMost s v w)) n e q;
       stands = λ s n v bytes e b h q.
           let (w, m) = codec (avm memoMost) .write-after-read s v bytes b h in
           each-nth (StandsAs s) (entries (avm memoMost) v) (entries-stand-as s v w) n e q;
@@ -103,7 +103,7 @@ record Kept (t : List ℕ) (f : Filled) : Type 0 where
   beyond : drop (3 * tabledRows (f .answer)) (f .table) ≡ drop (3 * tabledRows (f .answer)) t
   length-kept : length (f .table) ≡ length t
 
-refused-kept : (t : List ℕ) (e : Refusal) → OneOf (e .number) tableNumbers → Kept t (filled (T.Refused e) t)
+refused-kept : (t : List ℕ) (e : Refusal) → OneOf (numberOf e) tableNumbers → Kept t (filled (T.Refused e) t)
 refused-kept t e h = record { number = h; unchanged = λ n. (refl, refl); beyond = refl; length-kept = refl }
 
 -- rows r, which are c, with room asked for n numbers
@@ -114,7 +114,7 @@ module _ (c : ℕ) (r : List ℕ) (n : ℕ) (asked : n ≡ 3 * c) (long : length
   room-listed : 3 * c ≤ length t → inRoom ≡ filled (T.Listed c end) (r ++ drop (3 * c) t)
   room-listed h = rw (le-leb n (length t) (omega arith)) (ap (λ (m : ℕ). filled (T.Listed c end) (r ++ drop m t)) asked)
 
-  room-none : length t < 3 * c → inRoom ≡ filled (T.Refused (refusal 14 0)) t
+  room-none : length t < 3 * c → inRoom ≡ filled (T.Refused (refusal noRoom 0)) t
   room-none h = rw (lt-leb n (length t) (omega arith))
 
   room-kept : Kept t inRoom
@@ -165,7 +165,7 @@ table-answers =
 pub slots-answers : SlotsAnswers
 slots-answers =
     record {
-      lists = lists (λ s v. length (slots s)) (λ s v. Slots.rows s (slots s)) (λ s v. 3 * length (slots s)) (λ s v. refl) (λ s v. SlotRows.length-rows s (slots s));
+      lists = lists (λ s v. length (slots memoMost s)) (λ s v. Slots.rows s (slots memoMost s)) (λ s v. 3 * length (slots memoMost s)) (λ s v. refl) (λ s v. SlotRows.length-rows s (slots memoMost s));
       places = reader-places (avm memoMost);
       empty = λ s p. (empty-filled s p, filled-empty s p);
       not-empty = filled-signed;

@@ -30,9 +30,9 @@ demand-1-holds =
       slots = slots-answers;
       merge-and-fill = avm-calls-owe;
       merge-and-fill-decide = avm-calls-decide;
-      writer = methods-owe;
+      writer = methods-owe memoMost;
       numbers-occur = numbers-occur;
-      writer-numbers-occur = writer-numbers-occur;
+      writer-numbers-occur = writer-numbers-occur memoMost;
       phone = unpacked;
       operator = unlisted;
     }
@@ -43,8 +43,8 @@ demand-2-holds =
       transactions = transactions;
       first-broken = first-broken (avm memoMost);
       lengths = lengths;
-      finished = methods-finish;
-      written = methods-round-trip;
+      finished = methods-finish memoMost;
+      written = methods-round-trip memoMost;
       round-trips = round-trips;
     }
 

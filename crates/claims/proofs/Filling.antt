@@ -13,7 +13,7 @@ use Rattle.claims.specs.RoundTrip.{RoundTrips}
 pub round-trips : RoundTrips
 round-trips d v n b e s room =
     record {
-      written = methods-round-trip .calls-done d v n b e s room;
-      finished = methods-round-trip .finish-done d v n b e s room;
-      filled = subst⁻¹ (λ (x : List ℕ). Fills (reader (avm memoMost)) 0 (v .1) x d) (blank-written d v n b e s room) (avm-reading-filled .filled d v n b e);
+      written = methods-round-trip memoMost .calls-done d v n b e s room;
+      finished = methods-round-trip memoMost .finish-done d v n b e s room;
+      filled = subst⁻¹ (λ (x : List ℕ). Fills (reader (avm memoMost)) 0 (v .1) x d) (blank-written memoMost d v n b e s room) (avm-reading-filled .filled d v n b e);
     }

@@ -18,7 +18,7 @@ use Rattle.element.specs.Outputs.{transferBody, transferableOutput}
 use Rattle.element.specs.Inputs.{key, spend, inputAfter}
 use Rattle.transaction.specs.Slots.{signatureWidth, blank, slotAt, put, putAll}
 use Rattle.transaction.specs.Credentials.{credentials, layout, places}
-use Rattle.transaction.specs.Plan.{atLeast, form, wanted, asked}
+use Rattle.transaction.specs.Form.{atLeast, form, asked, wanted}
 use Rattle.transaction.specs.Signed as Any
 use Rattle.transaction.specs.Family.{head, unsigned, wants}
 use Rattle.slot.specs.Joining.{same}

@@ -1,6 +1,6 @@
 -- Each number of a call's list occurs: calls that are computed. Assumes nothing.
 use Prim.Native.Nat.{ℕ, zero, suc, _<_}
-use mathlib.Core.Path.{_≡_, refl, sym, ap, subst}
+use mathlib.Core.Path.{_≡_, refl, sym, ap, _∙_, subst}
 use mathlib.Core.Logic.{⊎-elim}
 use mathlib.Core.Bool.{true}
 use mathlib.Core.List.{List, [], _∷_, _++_}
@@ -8,7 +8,9 @@ use native.Mathlib.Omega.{arith}
 use lib.ListN.{replicate, length-replicate}
 use Rattle.wire.specs.Bytes.{Bytes, value, digits, below}
 use Rattle.wire.specs.declared.Refusal.{Refusal}
-use Rattle.wire.specs.Numbers.{refusal}
+use Rattle.wire.specs.declared.Rule.{Rule}
+use Rattle.wire.specs.declared.Rule.the-variants as R
+use Rattle.wire.specs.Numbers.{ruleNumber, refusal, numberOf, tooLong}
 use Rattle.wire.specs.Format.{onResult, refused}
 use Rattle.wire.specs.Fields.{number, blobRun, constant}
 use Rattle.wire.specs.Sequence.{guard, tag}
@@ -21,10 +23,10 @@ use Rattle.element.specs.Inputs.{key, indices, spend, inputAfter}
 use Rattle.transaction.specs.Slots.{signatureWidth, blank, slotAt, put, putAll}
 use Rattle.transaction.specs.Credentials.{credentials, layout, places, size}
 use Rattle.transaction.specs.Entries.{rows, entriesFrom, credentialEntries, nth}
-use Rattle.transaction.specs.Plan.{atLeast, form, wanted, asked, planEntries}
+use Rattle.transaction.specs.Form.{atLeast, form, asked, wanted, planEntries}
+use Rattle.transaction.specs.Avm.{avm}
 use Rattle.transaction.specs.Signed as Any
 use Rattle.transaction.specs.Family.{head, unsigned, wants, check, entries}
-use Rattle.transaction.specs.Avm.{avm}
 use Rattle.transaction.specs.Answer.{memoMost, checked, checkedNumber}
 use Rattle.transaction.specs.Answer as Answer
 use Rattle.transaction.specs.declared.Checked.the-variants as C
@@ -46,7 +48,7 @@ use Rattle.claims.proofs.Answering.{table-answers, slots-answers, entry
 -- ---- bytes that the check refuses, by each of its numbers
 
 abbrev Refused : ℕ → Type 0
-Refused n = (s : List ℕ) × (p : ℕ) × Bytes s × (check (avm memoMost) s ≡ refused (refusal n p))
+Refused n = (s : List ℕ) × (e : Refusal) × Bytes s × (check (avm memoMost) s ≡ refused e) × (numberOf e ≡ n)
 
 -- rule 1 looks at nothing but the length
 zero-bytes : (n : ℕ) → Bytes (zeros n)
@@ -54,28 +56,29 @@ zero-bytes zero = tt
 zero-bytes (suc n) = (omega arith, zero-bytes n)
 
 too-long : (n : ℕ) → 65536 < n → Refused 1
-too-long n h = (zeros n, 0, zero-bytes n, first-broken (avm memoMost) .too-long (zeros n) 0 .1 (omega (arith, length-replicate {A = ℕ} n 0), refl))
+too-long n h =
+    (zeros n, refusal tooLong 0, zero-bytes n, first-broken (avm memoMost) .too-long (zeros n) 0 .1 (omega (arith, length-replicate {A = ℕ} n 0), refl), refl)
 
-abbrev refuses : (s : List ℕ) → eachByte s ≡ true → (n p : ℕ) → check (avm memoMost) s ≡ refused (refusal n p) → (n : ℕ) × Refused n
-refuses s h n p e = (n, (s, p, bytes-of s h, e))
+abbrev refuses : (s : List ℕ) → eachByte s ≡ true → (r : Rule) (p : ℕ) → check (avm memoMost) s ≡ refused (refusal r p) → (n : ℕ) × Refused n
+refuses s h r p e = (ruleNumber r, (s, refusal r p, bytes-of s h, e, refl))
 
 unfoldable refused-cases : List ((n : ℕ) × Refused n)
 unfolding Any.check unsigned head wants credentials owners amount transferBody output transferableOutput guard string text printable unprintable
     denomination constant tag counted number blobRun items listRun listWrite value digits below form wanted asked atLeast layout
 refused-cases =
     (1, too-long 65537 (omega arith))
-    ∷ refuses [] refl 2 0 refl
-    ∷ refuses (0 ∷ 1 ∷ []) refl 3 0 refl
-    ∷ refuses (zeros 2 ++ word 9) refl 4 2 refl
-    ∷ refuses (paid ++ zeros 8) refl 5 82 refl
-    ∷ refuses (paid ++ zeros 4 ++ word 1 ++ zeros 12 ++ word 2 ++ zeros 40) refl 6 126 refl
-    ∷ refuses (paid ++ zeros 4 ++ word 1 ++ zeros 8 ++ word 1 ++ word 0) refl 7 98 refl
-    ∷ refuses (zeros 50 ++ (0 ∷ 0 ∷ 1 ∷ 1 ∷ [])) refl 8 50 refl
-    ∷ refuses (typed 1 ++ (0 ∷ 1 ∷ 0 ∷ [])) refl 9 56 refl
-    ∷ refuses (typed 1 ++ (0 ∷ 1 ∷ 32 ∷ 0 ∷ 1 ∷ 32 ∷ 33 ∷ [])) refl 10 60 refl
-    ∷ refuses (typed 2 ++ word 0) refl 11 54 refl
-    ∷ refuses (zeros 54 ++ word 1) refl 12 54 refl
-    ∷ refuses (zeros 59) refl 13 58 refl
+    ∷ refuses [] refl R.CutShort 0 refl
+    ∷ refuses (0 ∷ 1 ∷ []) refl R.WrongCodec 0 refl
+    ∷ refuses (zeros 2 ++ word 9) refl R.UnknownType 2 refl
+    ∷ refuses (paid ++ zeros 8) refl R.ZeroAmount 82 refl
+    ∷ refuses (paid ++ zeros 4 ++ word 1 ++ zeros 12 ++ word 2 ++ zeros 40) refl R.OutOfOrder 126 refl
+    ∷ refuses (paid ++ zeros 4 ++ word 1 ++ zeros 8 ++ word 1 ++ word 0) refl R.BadThreshold 98 refl
+    ∷ refuses (zeros 50 ++ (0 ∷ 0 ∷ 1 ∷ 1 ∷ [])) refl R.BadLength 50 refl
+    ∷ refuses (typed 1 ++ (0 ∷ 1 ∷ 0 ∷ [])) refl R.NotPrintable 56 refl
+    ∷ refuses (typed 1 ++ (0 ∷ 1 ∷ 32 ∷ 0 ∷ 1 ∷ 32 ∷ 33 ∷ [])) refl R.BadDenomination 60 refl
+    ∷ refuses (typed 2 ++ word 0) refl R.EmptyList 54 refl
+    ∷ refuses (zeros 54 ++ word 1) refl R.WrongCount 54 refl
+    ∷ refuses (zeros 59) refl R.BytesAfterEnd 58 refl
     ∷ []
 
 abbrev refusals : List ℕ
@@ -91,21 +94,21 @@ refused-by = one-occurs Refused refused-cases
 abbrev empty : List ℕ
 empty = zeros 58
 
-empty-checked : checkedNumber (checked empty) ≡ 0
+empty-checked : checkedNumber (checked memoMost empty) ≡ 0
 unfolding Any.check unsigned head wants credentials constant tag counted number blobRun items listRun listWrite value digits form wanted asked atLeast string layout
 empty-checked = refl
 
-tables : (tabledNumber (tabled empty [] .answer) ≡ 0) × (tabledNumber (tabled A [] .answer) ≡ 14)
+tables : (tabledNumber (tabled memoMost empty [] .answer) ≡ 0) × (tabledNumber (tabled memoMost A [] .answer) ≡ 14)
 unfolding Any.check unsigned head wants credentials owners amount transferBody output transferableOutput key indices spend inputAfter guard string constant tag
     counted number blobRun items listRun listWrite value digits below form wanted asked atLeast layout signatureWidth entries planEntries entriesFrom credentialEntries rows
 tables = (refl, refl)
 
-slot-tables : (tabledNumber (tabledSlots empty [] .answer) ≡ 0) × (tabledNumber (tabledSlots A [] .answer) ≡ 14)
+slot-tables : (tabledNumber (tabledSlots memoMost empty [] .answer) ≡ 0) × (tabledNumber (tabledSlots memoMost A [] .answer) ≡ 14)
 unfolding Any.check unsigned head wants credentials owners amount transferBody output transferableOutput key indices spend inputAfter guard string constant tag
     counted number blobRun items listRun listWrite value digits below form wanted asked atLeast layout signatureWidth places size Slots.slotsFrom
 slot-tables = (refl, refl)
 
-read-entries : (entryNumber (entryOf A 0 .answer) ≡ 0) × (entryNumber (entryOf empty 0 .answer) ≡ 15)
+read-entries : (entryNumber (entryOf memoMost A 0 .answer) ≡ 0) × (entryNumber (entryOf memoMost empty 0 .answer) ≡ 15)
 unfolding Any.check unsigned head wants credentials owners amount transferBody output transferableOutput key indices spend inputAfter guard string constant tag
     counted number blobRun items listRun listWrite value digits below form wanted asked atLeast layout signatureWidth entries planEntries entriesFrom credentialEntries nth
 read-entries = (refl, refl)
@@ -117,10 +120,10 @@ A-bytes = bytes-of A refl
 behind : (P : ℕ → Type 0) (k n : ℕ) (l : List ℕ) → P k → (OneOf n l → P n) → OneOf n (k ∷ l) → P n
 behind P k n l p on = ⊎-elim (λ e. subst P (sym e) p) on
 
-check-occurs : (n : ℕ) → OneOf n checkNumbers → (s : List ℕ) × Bytes s × (checkedNumber (checked s) ≡ n)
+check-occurs : (n : ℕ) → OneOf n checkNumbers → (s : List ℕ) × Bytes s × (checkedNumber (checked memoMost s) ≡ n)
 check-occurs n =
-    behind (λ n. (s : List ℕ) × Bytes s × (checkedNumber (checked s) ≡ n)) 0 n refusals (empty, zero-bytes 58, empty-checked)
-    (λ r. let (s, p, b, e) = refused-by n r in (s, b, ap (λ o. checkedNumber (onResult o C.Refused (λ v m. C.Accepted (Answer.layout (v .0)) m))) e))
+    behind (λ n. (s : List ℕ) × Bytes s × (checkedNumber (checked memoMost s) ≡ n)) 0 n refusals (empty, zero-bytes 58, empty-checked)
+    (λ r. let (s, e, b, c, k) = refused-by n r in (s, b, ap (λ o. checkedNumber (onResult o C.Refused (λ v m. C.Accepted (Answer.layout memoMost (v .0)) m))) c ∙ k))
 
 module _ (call : List ℕ → List ℕ → Filled) (refuses-alike : (s t : List ℕ) (e : Refusal) → check (avm memoMost) s ≡ refused e → call s t ≡ filled (T.Refused e) t)
     (done : tabledNumber (call empty [] .answer) ≡ 0) (no-room : tabledNumber (call A [] .answer) ≡ 14) where
@@ -131,15 +134,15 @@ module _ (call : List ℕ → List ℕ → Filled) (refuses-alike : (s t : List 
   unfolding Listing
   listing-occurs n =
       behind Listing 14 n checkNumbers (A, [], A-bytes, no-room) (behind Listing 0 n refusals (empty, [], zero-bytes 58, done)
-      (λ r. let (s, p, b, e) = refused-by n r in (s, [], b, ap (λ f. tabledNumber (f .answer)) (refuses-alike s [] (refusal n p) e))))
+      (λ r. let (s, e, b, c, k) = refused-by n r in (s, [], b, ap (λ f. tabledNumber (f .answer)) (refuses-alike s [] e c) ∙ k)))
 
-entry-occurs : (n : ℕ) → OneOf n entryNumbers → (s : List ℕ) × (k : ℕ) × Bytes s × (entryNumber (entryOf s k .answer) ≡ n)
+entry-occurs : (n : ℕ) → OneOf n entryNumbers → (s : List ℕ) × (k : ℕ) × Bytes s × (entryNumber (entryOf memoMost s k .answer) ≡ n)
 entry-occurs n =
     behind EntryOf 15 n checkNumbers (empty, 0, zero-bytes 58, read-entries .1) (behind EntryOf 0 n refusals (A, 0, A-bytes, read-entries .0)
-    (λ r. let (s, p, b, e) = refused-by n r in (s, 0, b, ap entryNumber (entry-answers .refused-bytes s 0 (refusal n p) e))))
+    (λ r. let (s, e, b, c, k) = refused-by n r in (s, 0, b, ap entryNumber (entry-answers .refused-bytes s 0 e c) ∙ k)))
   where
     EntryOf : ℕ → Type 0
-    EntryOf n = (s : List ℕ) × (k : ℕ) × Bytes s × (entryNumber (entryOf s k .answer) ≡ n)
+    EntryOf n = (s : List ℕ) × (k : ℕ) × Bytes s × (entryNumber (entryOf memoMost s k .answer) ≡ n)
 
 -- ---- merge and fill
 
@@ -187,9 +190,9 @@ unfolding Listing merge-cases fill-cases
 numbers-occur =
     record {
       check = check-occurs;
-      check-with-table = listing-occurs tabled (table-answers .refused-bytes) (tables .0) (tables .1);
+      check-with-table = listing-occurs (tabled memoMost) (table-answers .refused-bytes) (tables .0) (tables .1);
       entry = entry-occurs;
-      slots = listing-occurs tabledSlots (slots-answers .lists .refused-bytes) (slot-tables .0) (slot-tables .1);
+      slots = listing-occurs (tabledSlots memoMost) (slots-answers .lists .refused-bytes) (slot-tables .0) (slot-tables .1);
       merge = one-occurs MergeOf merge-cases;
       fill = one-occurs FillOf fill-cases;
     }

@@ -23,16 +23,17 @@ use Rattle.element.proofs.Writing.{output-bytes, transferableOutput-bytes, inpu
 use Rattle.transaction.specs.Slots.{signatureWidth}
 use Rattle.transaction.specs.Credentials.{credentialCode, Want, Piece, signatures, each, layout, pieces, credentials}
 use Rattle.transaction.specs.Entries.{EntryAt, nth, stateOutputEntry, stateEntries, entriesFrom, credentialEntries}
-use Rattle.transaction.specs.Plan.{Plan, shut, end, field, many, Value, form, atLeast, planEntries}
+use Rattle.transaction.specs.Plan.{contentOf, elementsOf, Plan, shut, end, field, many, plan}
+use Rattle.transaction.specs.Form.{atLeast, listOf, Value, form, planEntries}
+use Rattle.transaction.specs.Avm.{avm}
 use Rattle.transaction.specs.Signed as Any
 use Rattle.transaction.specs.Family.{Signed, unsigned, head, wants, entries}
-use Rattle.transaction.specs.Avm.{ownPlan, plan, avm}
 use Rattle.transaction.specs.Answer.{memoMost}
 use Rattle.transaction.specs.Codec.{Writing}
-use Rattle.transaction.specs.declared.Kind.{Kind}
-use Rattle.transaction.specs.declared.Kind.the-variants as K
+use Rattle.transaction.specs.declared.ListName.{ListName}
+use Rattle.transaction.specs.declared.ListName.the-variants as L
 use Rattle.table.proofs.Inside.{Inside}
-use Rattle.entry.proofs.Standing.{Each, each-append}
+use Rattle.walk.proofs.Each.{Each, each-append}
 use Rattle.claims.specs.Answers.{StandsAs, anOutput, anInput, anOperation, anImportedInput, anExportedOutput, aStateOutput, aCredential}
 
 -- ---- one of the entries
@@ -105,28 +106,6 @@ module _ (s : List ℕ) where
       (λ prev at o k. (aStateOutput o refl (here-part s at (output (fxOutputs (v .fx)) .write o) k ∙ output-bytes (fxOutputs (v .fx)) o), tt))
       [] (at + 8) (v .outputs) (subst (λ (k : ℕ). Here s k w) place behind)
 
-  -- each list of a plan has elements that stand at their entries
-  abbrev Fair : Plan → Type 0
-  Fair shut = Unit {0}
-  Fair end = Unit {0}
-  Fair (field l F q) = Fair q
-  Fair (many l E q) =
-      ((prev : List ℕ) (at : ℕ) (a : E .Element) → Here s at (E .element prev .write a) → Stand (E .entries at (at + length (E .element prev .write a)) a))
-      × Fair q
-
-  plan-stands : (p : Plan) → Fair p → (v : Value p) (at : ℕ) → Here s at (form p .write v) → Stand (planEntries p v at)
-  unfolding form planEntries
-  plan-stands shut f v at h = tt
-  plan-stands end f v at h = tt
-  plan-stands (field l F q) f (x, v) at h =
-      let w : List ℕ = F .content .write x in
-      plan-stands q f v (at + length w) (here-second s at w (form q .write v) h)
-  plan-stands (many l E q) f (x, v) at h =
-      let w : List ℕ = atLeast (E .least) (E .element) .write x in
-      each-append (StandsAs s) (entriesFrom (E .element) (E .entries) [] (at + 4) x) (planEntries q v (at + length w))
-      (counted-stands (E .element) (E .entries) (f .0) (E .least) at x (here-first s at w (form q .write v) h))
-      (plan-stands q (f .1) v (at + length w) (here-second s at w (form q .write v) h))
-
   transferable-part : (at : ℕ) (o : TransferableOutput) → Here s at (transferableOutput .write o)
       → part at (at + length (transferableOutput .write o)) s ≡ transferableOutputBytes o
   transferable-part at o h = here-part s at (transferableOutput .write o) h ∙ transferableOutput-bytes o
@@ -134,18 +113,29 @@ module _ (s : List ℕ) where
   input-part : (prev : List ℕ) (at : ℕ) (i : Input) → Here s at (input prev .write i) → part at (at + length (input prev .write i)) s ≡ inputBytes i
   input-part prev at i h = here-part s at (input prev .write i) h ∙ input-bytes prev i
 
-  own-fair : (k : Kind) → Fair (ownPlan k)
+  -- an element of a list stands at its entry
+  element-stands : (l : ListName) (prev : List ℕ) (at : ℕ) (a : elementsOf l .Element) → Here s at (elementsOf l .element prev .write a)
+      → Stand (elementsOf l .entries at (at + length (elementsOf l .element prev .write a)) a)
   unfolding guard
-  own-fair K.Base = tt
-  own-fair K.CreateAsset = (state-stands, tt)
-  own-fair K.Operation = (λ prev at o h. (anOperation o refl (here-part s at (operation .write o) h ∙ operation-bytes o), tt), tt)
-  own-fair K.Import = (λ prev at i h. (anImportedInput i refl (input-part prev at i h), tt), tt)
-  own-fair K.Export = (λ prev at o h. (anExportedOutput o refl (transferable-part at o h), tt), tt)
+  element-stands L.Output prev at o h = (anOutput o refl (transferable-part at o h), tt)
+  element-stands L.Input prev at i h = (anInput i refl (input-part prev at i h), tt)
+  element-stands L.State prev at v h = state-stands prev at v h
+  element-stands L.Operation prev at o h = (anOperation o refl (here-part s at (operation .write o) h ∙ operation-bytes o), tt)
+  element-stands L.Imported prev at i h = (anImportedInput i refl (input-part prev at i h), tt)
+  element-stands L.Exported prev at o h = (anExportedOutput o refl (transferable-part at o h), tt)
 
-  fair : (k : Kind) → Fair (plan memoMost k)
-  unfolding guard
-  fair k =
-      (λ prev at o h. (anOutput o refl (transferable-part at o h), tt), (λ prev at i h. (anInput i refl (input-part prev at i h), tt), own-fair k))
+  plan-stands : (most : ℕ) (p : Plan) (v : Value p) (at : ℕ) → Here s at (form most p .write v) → Stand (planEntries most p v at)
+  unfolding form planEntries
+  plan-stands most shut v at h = tt
+  plan-stands most end v at h = tt
+  plan-stands most (field f q) (x, v) at h =
+      let w : List ℕ = contentOf most f .write x in
+      plan-stands most q v (at + length w) (here-second s at w (form most q .write v) h)
+  plan-stands most (many l least q) (x, v) at h =
+      let w : List ℕ = listOf l least .write x in
+      each-append (StandsAs s) (entriesFrom (elementsOf l .element) (elementsOf l .entries) [] (at + 4) x) (planEntries most q v (at + length w))
+      (counted-stands (elementsOf l .element) (elementsOf l .entries) (element-stands l) least at x (here-first s at w (form most q .write v) h))
+      (plan-stands most q v (at + length w) (here-second s at w (form most q .write v) h))
 
   -- ---- credentials
 
@@ -215,7 +205,7 @@ pub entries-stand-as : (s : List ℕ) (v : Signed (avm memoMost)) → Writing (a
 unfolding entries Any.signed unsigned credentials layout pieces
 entries-stand-as s (u, l) w =
     let h : List ℕ = head (avm memoMost) .write (u .0) in
-    let f : List ℕ = form (plan memoMost (u .0 .kind)) .write (u .1) in
+    let f : List ℕ = form memoMost (plan (u .0 .kind)) .write (u .1) in
     let ws : List Want = wants (avm memoMost) u in
     let n : List ℕ = number 4 .write (length ws) in
     let c : List ℕ = pieces (each ws) .write l in
@@ -223,6 +213,6 @@ entries-stand-as s (u, l) w =
     let own : Here s (length h) f = subst (λ (k : ℕ). Here s k f) (zero-add (length h)) (here-second s 0 h f (here-first s 0 (h ++ f) (n ++ c) whole)) in
     let behind : Here s (0 + length (h ++ f) + length n) c = here-second s (0 + length (h ++ f)) n c (here-second s 0 (h ++ f) (n ++ c) whole) in
     let place : 0 + length (h ++ f) + length n ≡ length (h ++ f) + 4 = omega (arith, length-number 4 (length ws)) in
-    each-append (StandsAs s) (planEntries (plan memoMost (u .0 .kind)) (u .1) (length h)) (credentialEntries ws (length (h ++ f) + 4))
-    (plan-stands s (plan memoMost (u .0 .kind)) (fair s (u .0 .kind)) (u .1) (length h) own)
+    each-append (StandsAs s) (planEntries memoMost (plan (u .0 .kind)) (u .1) (length h)) (credentialEntries ws (length (h ++ f) + 4))
+    (plan-stands s memoMost (plan (u .0 .kind)) (u .1) (length h) own)
     (credentials-stand s ws (length (h ++ f) + 4) l (w .good .1 .1) (subst (λ (k : ℕ). Here s k c) place behind))

@@ -9,7 +9,7 @@ use mathlib.Core.Option.{none, some}
 use lib.ListN.{length, drop}
 use Rattle.wire.specs.Bytes.{Bytes, part}
 use Rattle.wire.specs.declared.Refusal.{Refusal}
-use Rattle.wire.specs.Numbers.{refusal}
+use Rattle.wire.specs.Numbers.{refusal, noRoom, noEntry}
 use Rattle.wire.specs.Format.{took, refused, verdict}
 use Rattle.wire.specs.Orders.{All, OneOf}
 use Rattle.element.specs.Outputs.{Output, TransferableOutput}
@@ -48,9 +48,9 @@ entryNumbers = 15 ∷ checkNumbers
 -- ---- the check
 
 pub record CheckAnswers : Type 0 where
-  pub number : (s : List ℕ) → OneOf (checkedNumber (checked s)) checkNumbers
+  pub number : (s : List ℕ) → OneOf (checkedNumber (checked memoMost s)) checkNumbers
   -- number and place are those of the definition
-  pub own : (s : List ℕ) → (checkedNumber (checked s), checkedPlace (checked s)) ≡ verdict (check (avm memoMost) s)
+  pub own : (s : List ℕ) → (checkedNumber (checked memoMost s), checkedPlace (checked memoMost s)) ≡ verdict (check (avm memoMost) s)
 
 -- ---- the calls that list rows of three numbers in a lent table
 
@@ -64,7 +64,7 @@ pub record Lists (call : List ℕ → List ℕ → Filled) (count : List ℕ →
       → call s t ≡ filled (T.Listed (count s v) n) (rows s v ++ drop (3 * count s v) t)
   -- accepted bytes whose rows do not fit: 14 at 0
   pub no-room : (s t : List ℕ) (v : Signed (avm memoMost)) (n : ℕ) → check (avm memoMost) s ≡ took v n → length t < 3 * count s v
-      → call s t ≡ filled (T.Refused (refusal 14 0)) t
+      → call s t ≡ filled (T.Refused (refusal noRoom 0)) t
   -- a refusal has no rows and changes no number of the table
   pub unchanged : (s t : List ℕ) → (tabledNumber (call s t .answer) ≡ 0 → ⊥) → (tabledRows (call s t .answer) ≡ 0) × (call s t .table ≡ t)
   -- numbers beyond the rows stay
@@ -73,13 +73,13 @@ pub record Lists (call : List ℕ → List ℕ → Filled) (count : List ℕ →
 
 -- the check with a lent table: a row for each entry of the reading
 abbrev pub TableAnswers : Type 0
-TableAnswers = Lists tabled (λ s v. length (entries (avm memoMost) v)) (λ s v. Entries.rows (entries (avm memoMost) v))
+TableAnswers = Lists (tabled memoMost) (λ s v. length (entries (avm memoMost) v)) (λ s v. Entries.rows (entries (avm memoMost) v))
 
 -- the slots in a lent table: a row for each slot
 pub record SlotsAnswers : Type 0 where
-  pub lists : Lists tabledSlots (λ s v. length (slots s)) (λ s v. Slots.rows s (slots s))
+  pub lists : Lists (tabledSlots memoMost) (λ s v. length (slots memoMost s)) (λ s v. Slots.rows s (slots memoMost s))
   -- the places are those of the slots that demand 3 speaks of, in their order
-  pub places : (s : List ℕ) → map (λ x. x .place) (slots s) ≡ reader (avm memoMost) .slots s
+  pub places : (s : List ℕ) → map (λ x. x .place) (slots memoMost s) ≡ reader (avm memoMost) .slots s
   -- and a row's last number is 0 exactly where the slot is empty
   pub empty : (s : List ℕ) (p : ℕ) → (filledAt s p ≡ 0) ↔ (slotAt s p ≡ blank)
   -- and 1 where it is filled
@@ -103,12 +103,12 @@ pub data StandsAs (s : List ℕ) (e : EntryAt) : Type 0 where
       → part (e .start) (e .end) s ≡ u32 (credentialCode (w .type)) ++ listBytes (λ signature. signature) l → StandsAs s e
 
 pub record EntryAnswers : Type 0 where
-  pub number : (s : List ℕ) (n : ℕ) → OneOf (entryNumber (entryOf s n .answer)) entryNumbers
+  pub number : (s : List ℕ) (n : ℕ) → OneOf (entryNumber (entryOf memoMost s n .answer)) entryNumbers
   -- bytes that are not accepted get the check's own refusal first
-  pub refused-bytes : (s : List ℕ) (n : ℕ) (e : Refusal) → check (avm memoMost) s ≡ refused e → entryOf s n .answer ≡ E.Refused e
+  pub refused-bytes : (s : List ℕ) (n : ℕ) (e : Refusal) → check (avm memoMost) s ≡ refused e → entryOf memoMost s n .answer ≡ E.Refused e
   -- then the fields of entry n of the reading, with the bytes of the transaction as place
   pub found : (s : List ℕ) (n : ℕ) (v : Signed (avm memoMost)) (bytes : ℕ) (e : EntryAt) → check (avm memoMost) s ≡ took v bytes
-      → entry (avm memoMost) v n ≡ some e → entryOf s n ≡ foundEntry bytes e
+      → entry (avm memoMost) v n ≡ some e → entryOf memoMost s n ≡ foundEntry bytes e
   -- which lies inside the transaction, and is there
   pub inside : (s : List ℕ) (n : ℕ) (v : Signed (avm memoMost)) (bytes : ℕ) (e : EntryAt) → Bytes s → check (avm memoMost) s ≡ took v bytes
       → entry (avm memoMost) v n ≡ some e → (e .start ≤ e .end) × (e .end ≤ length s)
@@ -116,4 +116,4 @@ pub record EntryAnswers : Type 0 where
       → entry (avm memoMost) v n ≡ some e → StandsAs s e
   -- or 15 at 0 where the reading has no such entry
   pub missing : (s : List ℕ) (n : ℕ) (v : Signed (avm memoMost)) (bytes : ℕ) → check (avm memoMost) s ≡ took v bytes
-      → entry (avm memoMost) v n ≡ none → entryOf s n .answer ≡ E.Refused (refusal 15 0)
+      → entry (avm memoMost) v n ≡ none → entryOf memoMost s n .answer ≡ E.Refused (refusal noEntry 0)

@@ -16,10 +16,11 @@ use Rattle.element.specs.Operations.{terms, action, operation, fxId, stateOutpu
 use Rattle.transaction.specs.Slots.{signatureWidth, blank, slotAt, put, putAll}
 use Rattle.transaction.specs.Credentials.{credentials, layout, places}
 use Rattle.transaction.specs.Entries.{rows, entriesFrom, credentialEntries}
-use Rattle.transaction.specs.Plan.{atLeast, form, wanted, asked, planEntries}
+use Rattle.transaction.specs.Form.{atLeast, form, asked, wanted, planEntries}
+use Rattle.transaction.specs.Avm.{avm}
+use Rattle.transaction.specs.Answer.{memoMost}
 use Rattle.transaction.specs.Signed as Any
 use Rattle.transaction.specs.Family.{Signed, head, unsigned, wants, check, entries}
-use Rattle.transaction.specs.Avm.{avm}
 use Rattle.slot.specs.Joining.{same, clashes, join, firstClash}
 use Rattle.draft.specs.declared.Answer.{Answer}
 use Rattle.draft.specs.Reader.{reader, body, slotCount, slot}
@@ -115,19 +116,19 @@ pub data Case : Type 0 where
   -- a draft, a slot and a signature; number, place, and the draft afterwards
   fills : List ℕ → ℕ → List ℕ → ℕ → ℕ → List ℕ → Case
 
-abbrev rowsOf : Result (Signed (avm 256)) → List ℕ
-rowsOf (took v n) = rows (entries (avm 256) v)
+abbrev rowsOf : Result (Signed (avm memoMost)) → List ℕ
+rowsOf (took v n) = rows (entries (avm memoMost) v)
 rowsOf (refused e) = []
 
 abbrev told : Answer × List ℕ → (ℕ × ℕ) × List ℕ
 told (a, s) = ((answerNumber a, answerPlace a), s)
 
 abbrev pub Holds : Case → Type 0
-Holds (checks s n p) = verdict (check (avm 256) s) ≡ (n, p)
-Holds (lists s rs) = rowsOf (check (avm 256) s) ≡ rs
+Holds (checks s n p) = verdict (check (avm memoMost) s) ≡ (n, p)
+Holds (lists s rs) = rowsOf (check (avm memoMost) s) ≡ rs
 Holds (reads s n p) = verdict (read operation s 0) ≡ (n, p)
-Holds (merges d e out n p after) = told (mergeCall (reader (avm 256)) d e out) ≡ ((n, p), after)
-Holds (fills d k s n p after) = told (fillCall (reader (avm 256)) d k s) ≡ ((n, p), after)
+Holds (merges d e out n p after) = told (mergeCall (reader (avm memoMost)) d e out) ≡ ((n, p), after)
+Holds (fills d k s n p after) = told (fillCall (reader (avm memoMost)) d k s) ≡ ((n, p), after)
 
 abbrev pub AllHold : List Case → Type 0
 AllHold [] = Unit {0}

@@ -39,10 +39,10 @@ pub record Demand1 : Type 0 where
   pub merge-and-fill : CallsOwe (reader (avm memoMost))
   -- "checks 17, 18, 19, 20, 14 in that order"; fill "17, 15, 21, then 20"
   pub merge-and-fill-decide : CallsDecide (reader (avm memoMost))
-  pub writer : MethodsOwe
+  pub writer : MethodsOwe memoMost
   -- each number of a list is answered by some call, so that the lists are exact
   pub numbers-occur : NumbersOccur
-  pub writer-numbers-occur : WriterNumbersOccur
+  pub writer-numbers-occur : WriterNumbersOccur memoMost
   -- the answer to C is one number, from which number and place, or rows, are got back
   pub phone : Unpacked
   pub operator : Unlisted
@@ -55,9 +55,9 @@ pub record Demand2 : Type 0 where
   -- the lengths that document 01 gives
   pub lengths : Lengths
   -- "whatever the writer finishes, each step given the state and buffer the last one left, is accepted"
-  pub finished : MethodsFinish
+  pub finished : MethodsFinish memoMost
   -- "writing that reading, room given, then filling in its signatures": the calls that the reading spells are typed and done
-  pub written : MethodsRoundTrip
+  pub written : MethodsRoundTrip memoMost
   -- ".. gives the same bytes": calls of the writer's methods and of fill alone
   pub round-trips : RoundTrips
 

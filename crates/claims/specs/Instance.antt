@@ -5,13 +5,14 @@ use mathlib.Core.List.{List, [], _∷_}
 use Prim.Native.Nat.{ℕ, _<_}
 use lib.ListN.{length, replicate}
 use Rattle.transaction.specs.Avm.{avm}
+use Rattle.transaction.specs.Answer.{memoMost}
 use Rattle.draft.specs.Reader.{Reader, reader}
 use Rattle.grouping.specs.Groupings.{Drafts, Grouping, firstBefore, draft, call, Uses, Fits, result}
 use Rattle.grouping.specs.Demand.{Conflict, mergeOf}
 use Rattle.claims.specs.Cases.{A, edited, empty}
 
 abbrev pub Avm : Reader
-Avm = reader (avm 256)
+Avm = reader (avm memoMost)
 
 -- P13: A with slot 0 emptied, and A with slot 1 emptied
 abbrev pub halves : List (List ℕ)

@@ -16,10 +16,10 @@ use Rattle.grouping.specs.Answers.{mergeNumbers, fillNumbers}
 use Rattle.claims.specs.Answers.{checkNumbers, tableNumbers, entryNumbers}
 
 pub record NumbersOccur : Type 0 where
-  pub check : (n : ℕ) → OneOf n checkNumbers → (s : List ℕ) × Bytes s × (checkedNumber (checked s) ≡ n)
-  pub check-with-table : (n : ℕ) → OneOf n tableNumbers → (s t : List ℕ) × Bytes s × (tabledNumber (tabled s t .answer) ≡ n)
-  pub entry : (n : ℕ) → OneOf n entryNumbers → (s : List ℕ) × (k : ℕ) × Bytes s × (entryNumber (entryOf s k .answer) ≡ n)
-  pub slots : (n : ℕ) → OneOf n tableNumbers → (s t : List ℕ) × Bytes s × (tabledNumber (tabledSlots s t .answer) ≡ n)
+  pub check : (n : ℕ) → OneOf n checkNumbers → (s : List ℕ) × Bytes s × (checkedNumber (checked memoMost s) ≡ n)
+  pub check-with-table : (n : ℕ) → OneOf n tableNumbers → (s t : List ℕ) × Bytes s × (tabledNumber (tabled memoMost s t .answer) ≡ n)
+  pub entry : (n : ℕ) → OneOf n entryNumbers → (s : List ℕ) × (k : ℕ) × Bytes s × (entryNumber (entryOf memoMost s k .answer) ≡ n)
+  pub slots : (n : ℕ) → OneOf n tableNumbers → (s t : List ℕ) × Bytes s × (tabledNumber (tabledSlots memoMost s t .answer) ≡ n)
   pub merge : (n : ℕ) → OneOf n mergeNumbers
       → (d e out : List ℕ) × Bytes d × Bytes e × (answerNumber (mergeCall (reader (avm memoMost)) d e out .0) ≡ n)
   pub fill : (n : ℕ) → OneOf n fillNumbers

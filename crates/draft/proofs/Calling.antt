@@ -11,6 +11,7 @@ use lib.ListN.{length, take, drop, getD, drop-of-length-le}
 use lib.Seq.{take-all, length-take-le}
 use Rattle.wire.specs.Bytes.{part, pick}
 use Rattle.wire.specs.declared.Refusal.{Refusal}
+use Rattle.wire.specs.Numbers.{noRoom, noEntry, firstNotAccepted, secondNotAccepted, draftsDiffer, conflict, notASignature}
 use Rattle.wire.proofs.Bytes.{Slice, found}
 use Rattle.transaction.specs.Slots.{signatureWidth, slotAt, length-slotAt, put, putAll}
 use Rattle.transaction.specs.Answer.{checked}
@@ -26,7 +27,7 @@ use Rattle.slot.proofs.Comparing.{same-eq, length-join}
 use Rattle.slot.proofs.Putting.{spaced-at, length-putAll}
 use Rattle.slot.proofs.Walking.{found-none, found-some}
 use Rattle.slot.proofs.InPlace.{joined-put, joined-all}
-use Rattle.draft.specs.Reader.{body}
+use Rattle.draft.specs.Reader.{Reader, body}
 use Rattle.draft.specs.Calls.{refuse, merged, decideMerge, mergeCall, decideFill, fillCall}
 use Rattle.draft.specs.declared.Answer.{Answer}
 use Rattle.draft.specs.declared.Answer.the-variants as A
@@ -35,95 +36,6 @@ use Rattle.draft.proofs.Known.{avmReader, Known, known, not-accepted, k
 -- an answer beside the lent bytes
 beside : (r a : Answer) (s : List ℕ) (z : Answer × List ℕ) → r ≡ a → (a, s) ≡ z → (r, s) ≡ z
 beside r a s z h e = ap (λ (x : Answer). (x, s)) h ∙ e
-
--- ---- merge
-
-decided : (d e out : List ℕ) (a b c : Bool) (o : Option ℕ) (r : Bool) → avmReader .accepts d ≡ a → avmReader .accepts e ≡ b → same (body avmReader d) (body avmReader e) ≡ c
-    → firstClash 0 (avmReader .slots d) d e ≡ o → leb (length d) (length out) ≡ r → decideMerge a b c o r (merged avmReader d e) out ≡ mergeCall avmReader d e out
-unfolding mergeCall
-decided d e out a b c o r ha hb hc ho hr = sym (rw (ha, hb, hc, ho, hr))
-
-module _ (d e out : List ℕ) (x : Checked) (px : x ≡ checked d) where
-  pub merge-17 : (f : Refusal) → x ≡ C.Refused f → (r : Answer) → r ≡ refuse 17 0 → (r, out) ≡ mergeCall avmReader d e out
-  merge-17 f q r h = beside r (refuse 17 0) out _ h (decided d e out false _ _ _ _ (not-accepted d x f px q) refl refl refl refl)
-
-  module _ (w : Layout) (n : ℕ) (qx : x ≡ C.Accepted w n) (bd : Slice d) (y : Checked) (py : y ≡ checked e) where
-    first : Known d w n
-    first = known d bd x w n px qx
-
-    pub merge-18 : (f : Refusal) → y ≡ C.Refused f → (r : Answer) → r ≡ refuse 18 0 → (r, out) ≡ mergeCall avmReader d e out
-    merge-18 f q r h = beside r (refuse 18 0) out _ h (decided d e out true false _ _ _ (first .accepts) (not-accepted e y f py q) refl refl refl)
-
-    module _ (v : Layout) (m : ℕ) (qy : y ≡ C.Accepted v m) (be : Slice e) (a b : List ℕ) (ha : a ≡ part 0 (w .«credentials_at») d) (hb : b ≡ part 0 (v .«credentials_at») e)
-        (t : Bool) (ht : t ≡ same a b) where
-      second : Known e v m
-      second = known e be y v m py qy
-
-      bodies : same (body avmReader d) (body avmReader e) ≡ t
-      bodies = sym (ht ∙ ap₂ same (ha ∙ known-body d w n first) (hb ∙ known-body e v m second))
-
-      pub merge-19 : not t ≡ true → (r : Answer) → r ≡ refuse 19 0 → (r, out) ≡ mergeCall avmReader d e out
-      merge-19 q r h = beside r (refuse 19 0) out _ h (decided d e out true true false _ _ (first .accepts) (second .accepts) (bodies ∙ go t q) refl refl)
-        where
-          go : (t : Bool) → not t ≡ true → t ≡ false
-          go false q = refl
-          go true q = let z : _≡_ {A = ℕ} 0 1 = cc in absurd (omega arith)
-
-      module _ (z : Found) (hz : z ≡ Walk.found (firstClash 0 (walk d (w .«credentials_at»)) d e)) (q : not t ≡ false) where
-        same-bodies : same (body avmReader d) (body avmReader e) ≡ true
-        same-bodies = bodies ∙ go t q
-          where
-            go : (t : Bool) → not t ≡ false → t ≡ true
-            go true q = refl
-            go false q = let z : _≡_ {A = ℕ} 0 1 = cc in absurd (omega arith)
-
-        clash-of : Walk.found (firstClash 0 (avmReader .slots d) d e) ≡ z
-        clash-of = ap (λ (ps : List ℕ). Walk.found (firstClash 0 ps d e)) (sym (first .slots)) ∙ sym hz
-
-        pub merge-20 : (k : ℕ) → z ≡ F.At k → (r : Answer) → r ≡ refuse 20 k → (r, out) ≡ mergeCall avmReader d e out
-        merge-20 k i r h =
-            beside r (refuse 20 k) out _ h
-            (decided d e out true true true (some k) _ (first .accepts) (second .accepts) same-bodies (found-some (firstClash 0 (avmReader .slots d) d e) k (clash-of ∙ i)) refl)
-
-        module _ (i : z ≡ F.Nothing) where
-          no-clash : firstClash 0 (avmReader .slots d) d e ≡ none
-          no-clash = found-none (firstClash 0 (avmReader .slots d) d e) (clash-of ∙ i)
-
-          pub merge-14 : length out < n → (r : Answer) → r ≡ refuse 14 0 → (r, out) ≡ mergeCall avmReader d e out
-          merge-14 l r h =
-              let k : length out < length d = omega (arith, first .long) in
-              beside r (refuse 14 0) out _ h (decided d e out true true true none false (first .accepts) (second .accepts) same-bodies no-clash (lt-leb (length d) (length out) k))
-
-          both : (avmReader .slots e ≡ avmReader .slots d) × (length e ≡ length d) × (w .«credentials_at» ≡ v .«credentials_at»)
-          both = alike d e w v n m first second (same-eq (body avmReader d) (body avmReader e) same-bodies)
-
-          length-merged : length (merged avmReader d e) ≡ length d
-          unfolding merged
-          length-merged =
-              length-putAll (λ p. join (slotAt d p) (slotAt e p)) d 0 (avmReader .slots d) (first .spaced) (λ k b.
-              let fits = spaced-at 0 (avmReader .slots d) (length d) (first .spaced) k b .1 in
-              length-join (slotAt d _) (slotAt e _) (length-slotAt d _ fits) (length-slotAt e _ (omega (arith, both .1))))
-
-          -- what is lent of out comes back as the merge
-          lent-merge : (u : List ℕ) → n ≤ length out → u ≡ joinedWith e (w .«credentials_at») (take (length (take n out)) d ++ drop (length d) (take n out)) → u ≡ merged avmReader d e
-          unfolding merged
-          lent-merge u l h =
-              let k : length (take n out) ≡ n = length-take-le n out l in
-              let long : length (take n out) ≡ length d = omega (arith, first .long) in
-              let front : take (length (take n out)) d ++ drop (length d) (take n out) ≡ d =
-              ap₂ (λ (s t : List ℕ). s ++ t) (take-all (length (take n out)) d (omega arith)) (drop-of-length-le (take n out) {i = length d} (omega arith)) ∙ append-nil d in
-              let slots : walk e (w .«credentials_at») ≡ avmReader .slots d = ap (walk e) (both .2) ∙ second .slots ∙ both .0 in
-              h ∙ ap₂ (λ (ps s : List ℕ). joinAll ps e s) slots front ∙ joined-all e 0 (avmReader .slots d) d (first .spaced) (both .1)
-
-          pub merge-0 : (u : List ℕ) → n ≤ length out → u ≡ joinedWith e (w .«credentials_at») (take (length (take n out)) d ++ drop (length d) (take n out))
-              → (A.Done n, u ++ drop n out) ≡ mergeCall avmReader d e out
-          merge-0 u l h =
-              let k : length (merged avmReader d e) ≡ n = length-merged ∙ sym (first .long) in
-              let room : length d ≤ length out = omega (arith, first .long) in
-              ap₂ (λ (i : ℕ) (s : List ℕ). (A.Done i, s ++ drop i out)) (sym k) (lent-merge u l h)
-              ∙ decided d e out true true true none true (first .accepts) (second .accepts) same-bodies no-clash (le-leb (length d) (length out) room)
-
--- ---- fill
 
 placed-at : (ps : List ℕ) (k p : ℕ) → placed ps k ≡ F.At p → (ltb k (length ps) ≡ true) × (getD ps k 0 ≡ p)
 placed-at ps k p = go (ltb k (length ps))
@@ -139,46 +51,145 @@ placed-none ps k = go (ltb k (length ps))
     go true h = let z : _≡_ {A = ℕ} 0 1 = cc in absurd (omega arith)
     go false h = refl
 
-settled : (d : List ℕ) (k : ℕ) (s : List ℕ) (a b l c : Bool) → avmReader .accepts d ≡ a → ltb k (length (avmReader .slots d)) ≡ b → eqb (length s) 65 ≡ l
-    → clashes (slotAt d (getD (avmReader .slots d) k 0)) s ≡ c
-    → decideFill a b l c k (put (getD (avmReader .slots d) k 0) (join (slotAt d (getD (avmReader .slots d) k 0)) s) d) d ≡ fillCall avmReader d k s
-unfolding fillCall signatureWidth
-settled d k s a b l c ha hb hl hc = sym (rw (ha, hb, hl, hc))
-
 sixty-five : (n : ℕ) → n ≡ 65 → n ≡ signatureWidth
 unfolding signatureWidth
 sixty-five n h = h
 
-module _ (d : List ℕ) (k : ℕ) (s : List ℕ) (x : Checked) (px : x ≡ checked d) where
-  pub fill-17 : (f : Refusal) → x ≡ C.Refused f → (r : Answer) → r ≡ refuse 17 0 → (r, d) ≡ fillCall avmReader d k s
-  fill-17 f q r h = beside r (refuse 17 0) d _ h (settled d k s false _ _ _ (not-accepted d x f px q) refl refl refl)
+-- with memos of at most `most` bytes
+module _ (most : ℕ) where
+  abbrev R : Reader
+  R = avmReader most
 
-  module _ (w : Layout) (n : ℕ) (qx : x ≡ C.Accepted w n) (bd : Slice d) (z : Found) (hz : z ≡ placed (walk d (w .«credentials_at»)) k) where
-    draft : Known d w n
-    draft = known d bd x w n px qx
+  -- ---- merge
 
-    place : placed (avmReader .slots d) k ≡ z
-    place = ap (λ (ps : List ℕ). placed ps k) (sym (draft .slots)) ∙ sym hz
+  decided : (d e out : List ℕ) (a b c : Bool) (o : Option ℕ) (r : Bool) → R .accepts d ≡ a → R .accepts e ≡ b → same (body R d) (body R e) ≡ c
+      → firstClash 0 (R .slots d) d e ≡ o → leb (length d) (length out) ≡ r → decideMerge a b c o r (merged R d e) out ≡ mergeCall R d e out
+  unfolding mergeCall
+  decided d e out a b c o r ha hb hc ho hr = sym (rw (ha, hb, hc, ho, hr))
 
-    pub fill-15 : z ≡ F.Nothing → (r : Answer) → r ≡ refuse 15 0 → (r, d) ≡ fillCall avmReader d k s
-    fill-15 q r h = beside r (refuse 15 0) d _ h (settled d k s true false _ _ (draft .accepts) (placed-none (avmReader .slots d) k (place ∙ q)) refl refl)
+  module _ (d e out : List ℕ) (x : Checked) (px : x ≡ checked most d) where
+    pub merge-17 : (f : Refusal) → x ≡ C.Refused f → (r : Answer) → r ≡ refuse firstNotAccepted 0 → (r, out) ≡ mergeCall R d e out
+    merge-17 f q r h = beside r (refuse firstNotAccepted 0) out _ h (decided d e out false _ _ _ _ (not-accepted most d x f px q) refl refl refl refl)
 
-    module _ (p : ℕ) (qz : z ≡ F.At p) where
-      there : (ltb k (length (avmReader .slots d)) ≡ true) × (getD (avmReader .slots d) k 0 ≡ p)
-      there = placed-at (avmReader .slots d) k p (place ∙ qz)
+    module _ (w : Layout) (n : ℕ) (qx : x ≡ C.Accepted w n) (bd : Slice d) (y : Checked) (py : y ≡ checked most e) where
+      first : Known most d w n
+      first = known most d bd x w n px qx
 
-      pub fill-21 : (length s ≡ 65 → ⊥) → (r : Answer) → r ≡ refuse 21 0 → (r, d) ≡ fillCall avmReader d k s
-      fill-21 q r h = beside r (refuse 21 0) d _ h (settled d k s true true false _ (draft .accepts) (there .0) (ne-eqb (length s) 65 q) refl)
+      pub merge-18 : (f : Refusal) → y ≡ C.Refused f → (r : Answer) → r ≡ refuse secondNotAccepted 0 → (r, out) ≡ mergeCall R d e out
+      merge-18 f q r h = beside r (refuse secondNotAccepted 0) out _ h (decided d e out true false _ _ _ (first .accepts) (not-accepted most e y f py q) refl refl refl)
 
-      module _ (l : length s ≡ 65) (a : List ℕ) (ha : a ≡ slotAt d p) (t : Bool) (ht : t ≡ clashes a s) where
-        clash : clashes (slotAt d (getD (avmReader .slots d) k 0)) s ≡ t
-        clash = sym (ht ∙ ap (λ (y : List ℕ). clashes y s) (ha ∙ ap (slotAt d) (sym (there .1))))
+      module _ (v : Layout) (m : ℕ) (qy : y ≡ C.Accepted v m) (be : Slice e) (a b : List ℕ)
+          (ha : a ≡ part 0 (w .«credentials_at») d) (hb : b ≡ part 0 (v .«credentials_at») e) (t : Bool) (ht : t ≡ same a b) where
+        second : Known most e v m
+        second = known most e be y v m py qy
 
-        pub fill-20 : t ≡ true → (r : Answer) → r ≡ refuse 20 k → (r, d) ≡ fillCall avmReader d k s
-        fill-20 q r h = beside r (refuse 20 k) d _ h (settled d k s true true true true (draft .accepts) (there .0) (eq-eqb (length s) 65 l) (clash ∙ q))
+        bodies : same (body R d) (body R e) ≡ t
+        bodies = sym (ht ∙ ap₂ same (ha ∙ known-body most d w n first) (hb ∙ known-body most e v m second))
 
-        pub fill-0 : t ≡ false → (u : List ℕ) → u ≡ joinedAt p s d → (A.Done n, u) ≡ fillCall avmReader d k s
-        fill-0 q u h =
-            ap₂ (λ (i : ℕ) (y : List ℕ). (A.Done i, y)) (draft .long)
-            (h ∙ joined-put p s d (sixty-five (length s) l) ∙ ap (λ (i : ℕ). put i (join (slotAt d i) s) d) (sym (there .1)))
-            ∙ settled d k s true true true false (draft .accepts) (there .0) (eq-eqb (length s) 65 l) (clash ∙ q)
+        pub merge-19 : not t ≡ true → (r : Answer) → r ≡ refuse draftsDiffer 0 → (r, out) ≡ mergeCall R d e out
+        merge-19 q r h = beside r (refuse draftsDiffer 0) out _ h (decided d e out true true false _ _ (first .accepts) (second .accepts) (bodies ∙ go t q) refl refl)
+          where
+            go : (t : Bool) → not t ≡ true → t ≡ false
+            go false q = refl
+            go true q = let z : _≡_ {A = ℕ} 0 1 = cc in absurd (omega arith)
+
+        module _ (z : Found) (hz : z ≡ Walk.found (firstClash 0 (walk d (w .«credentials_at»)) d e)) (q : not t ≡ false) where
+          same-bodies : same (body R d) (body R e) ≡ true
+          same-bodies = bodies ∙ go t q
+            where
+              go : (t : Bool) → not t ≡ false → t ≡ true
+              go true q = refl
+              go false q = let z : _≡_ {A = ℕ} 0 1 = cc in absurd (omega arith)
+
+          clash-of : Walk.found (firstClash 0 (R .slots d) d e) ≡ z
+          clash-of = ap (λ (ps : List ℕ). Walk.found (firstClash 0 ps d e)) (sym (first .slots)) ∙ sym hz
+
+          pub merge-20 : (k : ℕ) → z ≡ F.At k → (r : Answer) → r ≡ refuse conflict k → (r, out) ≡ mergeCall R d e out
+          merge-20 k i r h =
+              beside r (refuse conflict k) out _ h
+              (decided d e out true true true (some k) _ (first .accepts) (second .accepts) same-bodies
+              (found-some (firstClash 0 (R .slots d) d e) k (clash-of ∙ i)) refl)
+
+          module _ (i : z ≡ F.Nothing) where
+            no-clash : firstClash 0 (R .slots d) d e ≡ none
+            no-clash = found-none (firstClash 0 (R .slots d) d e) (clash-of ∙ i)
+
+            pub merge-14 : length out < n → (r : Answer) → r ≡ refuse noRoom 0 → (r, out) ≡ mergeCall R d e out
+            merge-14 l r h =
+                let k : length out < length d = omega (arith, first .long) in
+                beside r (refuse noRoom 0) out _ h
+                (decided d e out true true true none false (first .accepts) (second .accepts) same-bodies no-clash (lt-leb (length d) (length out) k))
+
+            both : (R .slots e ≡ R .slots d) × (length e ≡ length d) × (w .«credentials_at» ≡ v .«credentials_at»)
+            both = alike most d e w v n m first second (same-eq (body R d) (body R e) same-bodies)
+
+            length-merged : length (merged R d e) ≡ length d
+            unfolding merged
+            length-merged =
+                length-putAll (λ p. join (slotAt d p) (slotAt e p)) d 0 (R .slots d) (first .spaced) (λ k b.
+                let fits = spaced-at 0 (R .slots d) (length d) (first .spaced) k b .1 in
+                length-join (slotAt d _) (slotAt e _) (length-slotAt d _ fits) (length-slotAt e _ (omega (arith, both .1))))
+
+            -- what is lent of out comes back as the merge
+            lent-merge : (u : List ℕ) → n ≤ length out
+                → u ≡ joinedWith e (w .«credentials_at») (take (length (take n out)) d ++ drop (length d) (take n out)) → u ≡ merged R d e
+            unfolding merged
+            lent-merge u l h =
+                let k : length (take n out) ≡ n = length-take-le n out l in
+                let long : length (take n out) ≡ length d = omega (arith, first .long) in
+                let front : take (length (take n out)) d ++ drop (length d) (take n out) ≡ d =
+                ap₂ (λ (s t : List ℕ). s ++ t) (take-all (length (take n out)) d (omega arith))
+                (drop-of-length-le (take n out) {i = length d} (omega arith)) ∙ append-nil d in
+                let slots : walk e (w .«credentials_at») ≡ R .slots d = ap (walk e) (both .2) ∙ second .slots ∙ both .0 in
+                h ∙ ap₂ (λ (ps s : List ℕ). joinAll ps e s) slots front ∙ joined-all e 0 (R .slots d) d (first .spaced) (both .1)
+
+            pub merge-0 : (u : List ℕ) → n ≤ length out
+                → u ≡ joinedWith e (w .«credentials_at») (take (length (take n out)) d ++ drop (length d) (take n out))
+                → (A.Done n, u ++ drop n out) ≡ mergeCall R d e out
+            merge-0 u l h =
+                let k : length (merged R d e) ≡ n = length-merged ∙ sym (first .long) in
+                let room : length d ≤ length out = omega (arith, first .long) in
+                ap₂ (λ (i : ℕ) (s : List ℕ). (A.Done i, s ++ drop i out)) (sym k) (lent-merge u l h)
+                ∙ decided d e out true true true none true (first .accepts) (second .accepts) same-bodies no-clash (le-leb (length d) (length out) room)
+
+  -- ---- fill
+
+  settled : (d : List ℕ) (k : ℕ) (s : List ℕ) (a b l c : Bool) → R .accepts d ≡ a → ltb k (length (R .slots d)) ≡ b → eqb (length s) 65 ≡ l
+      → clashes (slotAt d (getD (R .slots d) k 0)) s ≡ c
+      → decideFill a b l c k (put (getD (R .slots d) k 0) (join (slotAt d (getD (R .slots d) k 0)) s) d) d ≡ fillCall R d k s
+  unfolding fillCall signatureWidth
+  settled d k s a b l c ha hb hl hc = sym (rw (ha, hb, hl, hc))
+
+  module _ (d : List ℕ) (k : ℕ) (s : List ℕ) (x : Checked) (px : x ≡ checked most d) where
+    pub fill-17 : (f : Refusal) → x ≡ C.Refused f → (r : Answer) → r ≡ refuse firstNotAccepted 0 → (r, d) ≡ fillCall R d k s
+    fill-17 f q r h = beside r (refuse firstNotAccepted 0) d _ h (settled d k s false _ _ _ (not-accepted most d x f px q) refl refl refl)
+
+    module _ (w : Layout) (n : ℕ) (qx : x ≡ C.Accepted w n) (bd : Slice d) (z : Found) (hz : z ≡ placed (walk d (w .«credentials_at»)) k) where
+      draft : Known most d w n
+      draft = known most d bd x w n px qx
+
+      place : placed (R .slots d) k ≡ z
+      place = ap (λ (ps : List ℕ). placed ps k) (sym (draft .slots)) ∙ sym hz
+
+      pub fill-15 : z ≡ F.Nothing → (r : Answer) → r ≡ refuse noEntry 0 → (r, d) ≡ fillCall R d k s
+      fill-15 q r h = beside r (refuse noEntry 0) d _ h (settled d k s true false _ _ (draft .accepts) (placed-none (R .slots d) k (place ∙ q)) refl refl)
+
+      module _ (p : ℕ) (qz : z ≡ F.At p) where
+        there : (ltb k (length (R .slots d)) ≡ true) × (getD (R .slots d) k 0 ≡ p)
+        there = placed-at (R .slots d) k p (place ∙ qz)
+
+        pub fill-21 : (length s ≡ 65 → ⊥) → (r : Answer) → r ≡ refuse notASignature 0 → (r, d) ≡ fillCall R d k s
+        fill-21 q r h = beside r (refuse notASignature 0) d _ h (settled d k s true true false _ (draft .accepts) (there .0) (ne-eqb (length s) 65 q) refl)
+
+        module _ (l : length s ≡ 65) (a : List ℕ) (ha : a ≡ slotAt d p) (t : Bool) (ht : t ≡ clashes a s) where
+          clash : clashes (slotAt d (getD (R .slots d) k 0)) s ≡ t
+          clash = sym (ht ∙ ap (λ (y : List ℕ). clashes y s) (ha ∙ ap (slotAt d) (sym (there .1))))
+
+          pub fill-20 : t ≡ true → (r : Answer) → r ≡ refuse conflict k → (r, d) ≡ fillCall R d k s
+          fill-20 q r h = beside r (refuse conflict k) d _ h (settled d k s true true true true (draft .accepts) (there .0) (eq-eqb (length s) 65 l) (clash ∙ q))
+
+          pub fill-0 : t ≡ false → (u : List ℕ) → u ≡ joinedAt p s d → (A.Done n, u) ≡ fillCall R d k s
+          fill-0 q u h =
+              ap₂ (λ (i : ℕ) (y : List ℕ). (A.Done i, y)) (draft .long)
+              (h ∙ joined-put p s d (sixty-five (length s) l) ∙ ap (λ (i : ℕ). put i (join (slotAt d i) s) d) (sym (there .1)))
+              ∙ settled d k s true true true false (draft .accepts) (there .0) (eq-eqb (length s) 65 l) (clash ∙ q)

@@ -6,15 +6,15 @@ use Prim.Native.Nat.{ℕ, _-_}
 use native.Mathlib.Omega.{arith}
 use lib.ListN.{length, take}
 use Rattle.wire.specs.Bytes.{part}
+use Rattle.wire.specs.Format.{Format}
 use Rattle.wire.specs.declared.Refusal.{Refusal}
 use Rattle.wire.proofs.Bytes.{Slice, slice-bytes, found}
 use Rattle.transaction.specs.Slots.{Spaced}
-use Rattle.transaction.specs.Credentials.{layout}
-use Rattle.transaction.specs.Signed as Signed
+use Rattle.transaction.specs.Credentials.{Want}
 use Rattle.transaction.specs.Signed.{taken, endOf, Parts}
 use Rattle.transaction.specs.Family.{Unsigned, unsigned, wants}
 use Rattle.transaction.specs.Avm.{avm}
-use Rattle.transaction.specs.Answer.{memoMost, checked}
+use Rattle.transaction.specs.Answer.{checked}
 use Rattle.transaction.specs.declared.Layout.{Layout}
 use Rattle.transaction.specs.declared.Checked.{Checked}
 use Rattle.transaction.specs.declared.Checked.the-variants as C
@@ -24,57 +24,65 @@ use Rattle.slot.specs.Walk.{walk}
 use Rattle.draft.specs.Reader.{Reader, reader, body}
 use Rattle.draft.proofs.Walked.{walked}
 
-abbrev pub avmReader : Reader
-avmReader = reader (avm memoMost)
+-- with memos of at most `most` bytes
+module _ (most : ℕ) where
+  abbrev pub avmReader : Reader
+  avmReader = reader (avm most)
 
--- s is accepted: w tells where its parts are, and n its length
-pub record Known (s : List ℕ) (w : Layout) (n : ℕ) : Type 0 where
-  pub value : Unsigned (avm memoMost)
-  pub signatures : List (List ℕ)
-  pub parts : Parts (unsigned (avm memoMost)) (wants (avm memoMost)) s value signatures
-  pub accepts : avmReader .accepts s ≡ true
-  pub end : w .«credentials_at» ≡ length (unsigned (avm memoMost) .write value)
-  pub place : w .«credentials_at» ≡ avmReader .credentialsAt s
-  pub long : n ≡ length s
-  pub slots : walk s (w .«credentials_at») ≡ avmReader .slots s
-  pub spaced : Spaced 0 (avmReader .slots s) (length s)
+  abbrev U : Format (Unsigned (avm most))
+  U = unsigned (avm most)
 
-pub known : (s : List ℕ) → Slice s → (x : Checked) (w : Layout) (n : ℕ) → x ≡ checked s → x ≡ C.Accepted w n → Known s w n
-known s b x w n p q =
-    let (v, e, l) = checked-accepted s w n (found q p) in
-    let r = parts-took (unsigned (avm memoMost)) (wants (avm memoMost)) s v n (slice-bytes s b) e in
-    let f = check-of (unsigned (avm memoMost)) (wants (avm memoMost)) s (v .0) (v .1) r in
-    let at : w .«credentials_at» ≡ length (unsigned (avm memoMost) .write (v .0)) = ap (λ (z : Layout). z .«credentials_at») l ∙ layout-credentials (v .0) in
-    record {
-      value = v .0;
-      signatures = v .1;
-      parts = r;
-      accepts = ap taken e;
-      end = at;
-      place = at ∙ sym (ap endOf (read-body (unsigned (avm memoMost)) (wants (avm memoMost)) s (v .0) (v .1) r));
-      long = cc;
-      slots = ap (walk s) at ∙ walked (unsigned (avm memoMost)) (wants (avm memoMost)) s (v .0) (v .1) r ∙ sym (slots-eq (unsigned (avm memoMost)) (wants (avm memoMost)) s (v .0) (v .1) r);
-      spaced = spaced-slots (unsigned (avm memoMost)) (wants (avm memoMost)) s (v .0) (v .1) r;
-    }
+  abbrev W : Unsigned (avm most) → List Want
+  W = wants (avm most)
 
-pub not-accepted : (s : List ℕ) (x : Checked) (e : Refusal) → x ≡ checked s → x ≡ C.Refused e → avmReader .accepts s ≡ false
-not-accepted s x e p q = ap taken (refused-check s e (found q p))
+  -- s is accepted: w tells where its parts are, and n its length
+  pub record Known (s : List ℕ) (w : Layout) (n : ℕ) : Type 0 where
+    pub value : Unsigned (avm most)
+    pub signatures : List (List ℕ)
+    pub parts : Parts U W s value signatures
+    pub accepts : avmReader .accepts s ≡ true
+    pub end : w .«credentials_at» ≡ length (U .write value)
+    pub place : w .«credentials_at» ≡ avmReader .credentialsAt s
+    pub long : n ≡ length s
+    pub slots : walk s (w .«credentials_at») ≡ avmReader .slots s
+    pub spaced : Spaced 0 (avmReader .slots s) (length s)
 
--- the bytes before the credential count
-pub known-body : (s : List ℕ) (w : Layout) (n : ℕ) → Known s w n → part 0 (w .«credentials_at») s ≡ body avmReader s
-unfolding body
-known-body s w n k = let q : w .«credentials_at» - 0 ≡ avmReader .credentialsAt s = omega (arith, k .place) in ap (λ (i : ℕ). take i s) q
+  pub known : (s : List ℕ) → Slice s → (x : Checked) (w : Layout) (n : ℕ) → x ≡ checked most s → x ≡ C.Accepted w n → Known s w n
+  known s b x w n p q =
+      let (v, e, l) = checked-accepted most s w n (found q p) in
+      let r = parts-took U W s v n (slice-bytes s b) e in
+      let f = check-of U W s (v .0) (v .1) r in
+      let at : w .«credentials_at» ≡ length (U .write (v .0)) = ap (λ (z : Layout). z .«credentials_at») l ∙ layout-credentials most (v .0) in
+      record {
+        value = v .0;
+        signatures = v .1;
+        parts = r;
+        accepts = ap taken e;
+        end = at;
+        place = at ∙ sym (ap endOf (read-body U W s (v .0) (v .1) r));
+        long = cc;
+        slots = ap (walk s) at ∙ walked U W s (v .0) (v .1) r ∙ sym (slots-eq U W s (v .0) (v .1) r);
+        spaced = spaced-slots U W s (v .0) (v .1) r;
+      }
 
--- two drafts of one unsigned transaction have the same slots, are as long, and have their credentials at the same place
-pub alike : (d e : List ℕ) (v w : Layout) (m n : ℕ) → Known d v m → Known e w n → body avmReader d ≡ body avmReader e
-    → (avmReader .slots e ≡ avmReader .slots d) × (length e ≡ length d) × (v .«credentials_at» ≡ w .«credentials_at»)
-unfolding body
-alike d e v w m n h k q =
-    let F = unsigned (avm memoMost) in
-    let W = wants (avm memoMost) in
-    let p : Parts F W e (h .value) (k .signatures) = same-unsigned F W d e (h .value) (k .value) (h .signatures) (k .signatures) (h .parts) (k .parts) q in
-    let r : length (F .write (h .value)) ≡ length (F .write (k .value)) = ap endOf (sym (read-body F W e (h .value) (k .signatures) p) ∙ read-body F W e (k .value) (k .signatures) (k .parts)) in (
-      slots-eq F W e (h .value) (k .signatures) p ∙ sym (slots-eq F W d (h .value) (h .signatures) (h .parts)),
-      length-eq F W e (h .value) (k .signatures) p ∙ sym (length-eq F W d (h .value) (h .signatures) (h .parts)),
-      h .end ∙ r ∙ sym (k .end),
-    )
+  pub not-accepted : (s : List ℕ) (x : Checked) (e : Refusal) → x ≡ checked most s → x ≡ C.Refused e → avmReader .accepts s ≡ false
+  not-accepted s x e p q = ap taken (refused-check most s e (found q p))
+
+  -- the bytes before the credential count
+  pub known-body : (s : List ℕ) (w : Layout) (n : ℕ) → Known s w n → part 0 (w .«credentials_at») s ≡ body avmReader s
+  unfolding body
+  known-body s w n k = let q : w .«credentials_at» - 0 ≡ avmReader .credentialsAt s = omega (arith, k .place) in ap (λ (i : ℕ). take i s) q
+
+  -- two drafts of one unsigned transaction have the same slots, are as long, and have their credentials at the same place
+  pub alike : (d e : List ℕ) (v w : Layout) (m n : ℕ) → Known d v m → Known e w n → body avmReader d ≡ body avmReader e
+      → (avmReader .slots e ≡ avmReader .slots d) × (length e ≡ length d) × (v .«credentials_at» ≡ w .«credentials_at»)
+  unfolding body
+  alike d e v w m n h k q =
+      let p : Parts U W e (h .value) (k .signatures) =
+      same-unsigned U W d e (h .value) (k .value) (h .signatures) (k .signatures) (h .parts) (k .parts) q in
+      let r : length (U .write (h .value)) ≡ length (U .write (k .value)) =
+      ap endOf (sym (read-body U W e (h .value) (k .signatures) p) ∙ read-body U W e (k .value) (k .signatures) (k .parts)) in (
+        slots-eq U W e (h .value) (k .signatures) p ∙ sym (slots-eq U W d (h .value) (h .signatures) (h .parts)),
+        length-eq U W e (h .value) (k .signatures) p ∙ sym (length-eq U W d (h .value) (h .signatures) (h .parts)),
+        h .end ∙ r ∙ sym (k .end),
+      )

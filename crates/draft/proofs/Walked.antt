@@ -94,8 +94,10 @@ walk-each (w ∷ ws) l s q rest g h =
     let r : Split n (each ws) l = split n (each ws) l (g .1 .1) in
     let y : List ℕ = pieces (each ws) .write (r .others) ++ rest in
     let k : drop q s ≡ number 4 .write t ++ (number 4 .write n ++ (r .front ++ y)) =
-    h ∙ regroup (number 4 .write t) (number 4 .write n) (pieces (signatures n (each ws)) .write l) (r .front) (pieces (each ws) .write (r .others)) rest (r .written) in
-    ap (λ (u : Run). onRun u [] (λ first c next. slotRun c first ++ walkFrom (length ws) s next)) (run-there s q t n (r .front) y (g .0 .0) (g .1 .0 .0) (r .long) (r .bytes) k)
+    h ∙ regroup (number 4 .write t) (number 4 .write n) (pieces (signatures n (each ws)) .write l) (r .front) (pieces (each ws) .write (r .others)) rest
+    (r .written) in
+    ap (λ (u : Run). onRun u [] (λ first c next. slotRun c first ++ walkFrom (length ws) s next))
+    (run-there s q t n (r .front) y (g .0 .0) (g .1 .0 .0) (r .long) (r .bytes) k)
     ∙ ap (λ (ps : List ℕ). slotRun n (q + 4 + 4) ++ ps)
     (walk-each ws (r .others) s (q + 4 + 4 + 65 * n) rest (r .good) (behind-signatures s q t n (r .front) y (g .0 .0) (g .1 .0 .0) (r .long) (r .bytes) k))
     ∙ sym (places-run n (each ws) (q + 4 + 4))

@@ -6,7 +6,8 @@ use mathlib.Core.List.{List, _++_}
 use Prim.Native.Nat.{ℕ}
 use lib.Dec.{leb, ltb, eqb}
 use lib.ListN.{length, drop, getD}
-use Rattle.wire.specs.Numbers.{refusal, noRoom, noEntry, firstNotAccepted, secondNotAccepted, draftsDiffer, conflict, notASignature}
+use Rattle.wire.specs.declared.Rule.{Rule}
+use Rattle.wire.specs.Numbers.{refusal, numberOf, noRoom, noEntry, firstNotAccepted, secondNotAccepted, draftsDiffer, conflict, notASignature}
 use Rattle.transaction.specs.Slots.{signatureWidth, slotAt, put, putAll}
 use Rattle.slot.specs.Joining.{same, clashes, join, firstClash}
 use Rattle.draft.specs.Reader.{Reader, body, slotCount, slot}
@@ -16,14 +17,14 @@ use Rattle.draft.specs.declared.Answer.the-variants as A
 -- the number and the place that an answer reports
 abbrev pub answerNumber : Answer → ℕ
 answerNumber (A.Done n) = 0
-answerNumber (A.Refused e) = e .number
+answerNumber (A.Refused e) = numberOf e
 
 abbrev pub answerPlace : Answer → ℕ
 answerPlace (A.Done n) = n
 answerPlace (A.Refused e) = e .place
 
-abbrev pub refuse : ℕ → ℕ → Answer
-refuse n p = A.Refused (refusal n p)
+abbrev pub refuse : Rule → ℕ → Answer
+refuse r p = A.Refused (refusal r p)
 
 -- ---- merge
 

@@ -10,6 +10,7 @@ ghost use Rattle.draft.specs.Calls.{refuse, mergeCall, fillCall};
 use slot::Found;
 use transaction::Checked;
 use wire::Refusal;
+use wire::Rule;
 
 // Done, with the draft's length; or the refusal.
 pub enum Answer {
@@ -17,30 +18,36 @@ pub enum Answer {
     Refused(Refusal),
 }
 
-fn refused(number: u32, place: usize) -> Answer
-    ensures { λ r. ⌜ r ≡ refuse number place ⌝ }
+fn refused(rule: Rule, place: usize) -> Answer
+    ensures { λ r. ⌜ r ≡ refuse rule place ⌝ }
 {
-    Answer::Refused(Refusal { number, place })
+    Answer::Refused(wire::refuse(rule, place))
 }
 
-// Puts a signature into slot number k, if no other is there.
-pub fn fill(draft: &mut [u8], k: usize, signature: &[u8]) -> Answer
-    ensures { λ r. ⌜ (r, now (draft .exit)) ≡ fillCall (reader (avm memoMost)) (now (draft .entry)) k (now (signature .entry)) ⌝ }
+// Puts a signature into slot number k, if no other is there. A memo has at most so many bytes.
+pub fn fill_within(draft: &mut [u8], k: usize, signature: &[u8], most: u64) -> Answer
+    ensures { λ r. ⌜ (r, now (draft .exit)) ≡ fillCall (reader (avm most)) (now (draft .entry)) k (now (signature .entry)) ⌝ }
 {
-    let Checked::Accepted(layout, end) = checker::check::check(draft) else {
-        return refused(wire::numbers::FIRST_NOT_ACCEPTED, 0);
+    let Checked::Accepted(layout, end) = checker::check::check_within(draft, most) else {
+        return refused(Rule::FirstNotAccepted, 0);
     };
     let Found::At(at) = slot::walk::place_of(draft, layout.credentials_at, k) else {
-        return refused(wire::numbers::NO_ENTRY, 0);
+        return refused(Rule::NoEntry, 0);
     };
-    if signature.len() != 65 {
-        return refused(wire::numbers::NOT_A_SIGNATURE, 0);
+    if signature.len() != transaction::SIGNATURE_WIDTH {
+        return refused(Rule::NotASignature, 0);
     }
     if slot::compare::clash(slot::compare::slot_of(draft, at), signature) {
-        return refused(wire::numbers::CONFLICT, k);
+        return refused(Rule::Conflict, k);
     }
     slot::join::join_at(draft, at, signature);
     Answer::Done(end)
+}
+
+pub fn fill(draft: &mut [u8], k: usize, signature: &[u8]) -> Answer
+    ensures { λ r. ⌜ (r, now (draft .exit)) ≡ fillCall (reader (avm memoMost)) (now (draft .entry)) k (now (signature .entry)) ⌝ }
+{
+    fill_within(draft, k, signature, transaction::MEMO_MOST)
 }
 
 // The first draft's bytes, and what its empty slots take from the second.
@@ -51,29 +58,35 @@ fn put_merge(room: &mut [u8], first: &[u8], second: &[u8], at: usize)
     slot::join::join_slots(room, second, at);
 }
 
-// Joins the second draft's signatures to the first's, at the front of out.
-pub fn merge(first: &[u8], second: &[u8], out: &mut [u8]) -> Answer
-    ensures { λ r. ⌜ (r, now (out .exit)) ≡ mergeCall (reader (avm memoMost)) (now (first .entry)) (now (second .entry)) (now (out .entry)) ⌝ }
+// Joins the second draft's signatures to the first's, at the front of out. A memo has at most so many bytes.
+pub fn merge_within(first: &[u8], second: &[u8], out: &mut [u8], most: u64) -> Answer
+    ensures { λ r. ⌜ (r, now (out .exit)) ≡ mergeCall (reader (avm most)) (now (first .entry)) (now (second .entry)) (now (out .entry)) ⌝ }
 {
-    let Checked::Accepted(layout, end) = checker::check::check(first) else {
-        return refused(wire::numbers::FIRST_NOT_ACCEPTED, 0);
+    let Checked::Accepted(layout, end) = checker::check::check_within(first, most) else {
+        return refused(Rule::FirstNotAccepted, 0);
     };
-    let Checked::Accepted(other, _) = checker::check::check(second) else {
-        return refused(wire::numbers::SECOND_NOT_ACCEPTED, 0);
+    let Checked::Accepted(other, _) = checker::check::check_within(second, most) else {
+        return refused(Rule::SecondNotAccepted, 0);
     };
     let at = layout.credentials_at;
     if !slot::compare::same_bytes(
         wire::between(first, 0, at),
         wire::between(second, 0, other.credentials_at),
     ) {
-        return refused(wire::numbers::DRAFTS_DIFFER, 0);
+        return refused(Rule::DraftsDiffer, 0);
     }
     if let Found::At(k) = slot::walk::first_clash(first, second, at) {
-        return refused(wire::numbers::CONFLICT, k);
+        return refused(Rule::Conflict, k);
     }
     if out.len() < end {
-        return refused(wire::numbers::NO_ROOM, 0);
+        return refused(Rule::NoRoom, 0);
     }
     put_merge(&mut out[..end], first, second, at);
     Answer::Done(end)
+}
+
+pub fn merge(first: &[u8], second: &[u8], out: &mut [u8]) -> Answer
+    ensures { λ r. ⌜ (r, now (out .exit)) ≡ mergeCall (reader (avm memoMost)) (now (first .entry)) (now (second .entry)) (now (out .entry)) ⌝ }
+{
+    merge_within(first, second, out, transaction::MEMO_MOST)
 }

@@ -1,19 +1,31 @@
 -- What is due by a plan, once so many of its parts are begun; and what code is told of it. Assumes nothing.
+use mathlib.Core.Path.{_≡_}
 use Prim.Native.Nat.{ℕ, zero, suc}
 use mathlib.Core.Bool.{Bool, true, false}
+use mathlib.Core.List.{List}
+use mathlib.Core.Option.{Option, none, some}
 use lib.Dec.{eqb}
-use Rattle.transaction.specs.Plan.{Plan, shut, end, field, many}
-use Rattle.transaction.specs.Family.{Family}
-use Rattle.transaction.specs.declared.Segment.{Segment}
-use Rattle.transaction.specs.declared.Segment.the-variants as S
+use Rattle.wire.specs.declared.Part.{Part}
+use Rattle.wire.specs.declared.Part.the-variants as P
+use Rattle.wire.specs.declared.Number.{Number}
+use Rattle.wire.specs.declared.Number.the-variants as N
+use Rattle.wire.specs.Format.{took, read}
+use Rattle.wire.specs.Series.{seriesFrom}
+use Rattle.wire.specs.Answer.{Passes, Tells}
+use Rattle.transaction.specs.Credentials.{CredentialType, credentialCode}
+use Rattle.transaction.specs.Plan.{Content, contentOf, fieldSignatures, elementsOf, Plan, shut, end, field, many}
+use Rattle.transaction.specs.declared.FieldName.{FieldName}
+use Rattle.transaction.specs.declared.FieldName.the-variants as F
+use Rattle.transaction.specs.declared.ListName.{ListName}
+use Rattle.transaction.specs.declared.ListName.the-variants as L
 use Rattle.due.specs.declared.Due.{Due}
 use Rattle.due.specs.declared.Due.the-variants as D
 
 abbrev pub tail : Plan → Plan
 tail shut = shut
 tail end = shut
-tail (field l F q) = q
-tail (many l E q) = q
+tail (field f q) = q
+tail (many l least q) = q
 
 abbrev pub behind : ℕ → Plan → Plan
 behind zero p = p
@@ -24,24 +36,28 @@ abbrev pub due : ℕ → Plan → Plan
 due zero p = shut
 due (suc k) p = behind k p
 
--- the plan of the transaction type of a number
-module _ (F : Family) where
-  abbrev pub planOf : ℕ → Plan
-  planOf kind = F .plan (F .kind kind)
+-- something is due
+abbrev pub Live : Plan → Type 0
+Live shut = ⊥
+Live end = Unit {0}
+Live (field f q) = Unit {0}
+Live (many l least q) = Unit {0}
 
-abbrev pub segmentCode : Segment → ℕ
-segmentCode S.Output = 0
-segmentCode S.Input = 1
-segmentCode S.Memo = 2
-segmentCode S.Name = 3
-segmentCode S.Symbol = 4
-segmentCode S.Denomination = 5
-segmentCode S.State = 6
-segmentCode S.Operation = 7
-segmentCode S.Chain = 8
+abbrev pub fieldCode : FieldName → ℕ
+fieldCode F.Memo = 0
+fieldCode F.Name = 1
+fieldCode F.Symbol = 2
+fieldCode F.Denomination = 3
+fieldCode F.Chain = 4
 
-abbrev pub isSegment : Segment → Segment → Bool
-isSegment l m = eqb (segmentCode l) (segmentCode m)
+-- lists that are written by the same step have the same number
+abbrev pub listCode : ListName → ℕ
+listCode L.Output = 0
+listCode L.Input = 1
+listCode L.State = 2
+listCode L.Operation = 3
+listCode L.Imported = 1
+listCode L.Exported = 0
 
 -- ---- the first part of what is due
 
@@ -49,8 +65,8 @@ isSegment l m = eqb (segmentCode l) (segmentCode m)
 abbrev pub dueOf : Plan → Due
 dueOf shut = D.Nothing
 dueOf end = D.End
-dueOf (field l F q) = D.Field l
-dueOf (many l E q) = D.List l (E .least)
+dueOf (field f q) = D.Field f
+dueOf (many l least q) = D.List l least
 
 abbrev pub isList : Due → Bool
 isList D.Nothing = false
@@ -59,17 +75,17 @@ isList (D.Field l) = false
 isList (D.List l n) = true
 
 -- a field of that name is due; a list of that name is open
-abbrev pub isField : Segment → Due → Bool
+abbrev pub isField : FieldName → Due → Bool
 isField l D.Nothing = false
 isField l D.End = false
-isField l (D.Field m) = isSegment l m
+isField l (D.Field m) = eqb (fieldCode l) (fieldCode m)
 isField l (D.List m n) = false
 
-abbrev pub isOpen : Segment → Due → Bool
+abbrev pub isOpen : ListName → Due → Bool
 isOpen l D.Nothing = false
 isOpen l D.End = false
 isOpen l (D.Field m) = false
-isOpen l (D.List m n) = isSegment l m
+isOpen l (D.List m n) = eqb (listCode l) (listCode m)
 
 -- is the finish due?
 abbrev pub isEnd : Due → Bool
@@ -77,3 +93,46 @@ isEnd D.Nothing = false
 isEnd D.End = true
 isEnd (D.Field l) = false
 isEnd (D.List l n) = false
+
+-- ---- what a name tells
+
+-- the number of a credential's type; 0 where none is asked for
+abbrev pub credentialNumber : Option CredentialType → ℕ
+credentialNumber none = 0
+credentialNumber (some t) = credentialCode t
+
+-- the kind of an element's entry; an initial state's outputs are entries of this kind
+abbrev pub entryOf : ListName → ℕ
+entryOf L.Output = 1
+entryOf L.Input = 2
+entryOf L.State = 6
+entryOf L.Operation = 3
+entryOf L.Imported = 4
+entryOf L.Exported = 5
+
+abbrev pub placeOf : Part → ℕ → ℕ
+placeOf (P.Next n) other = n
+placeOf (P.Refused e) other = other
+
+abbrev pub silentOf : Part → Number
+silentOf (P.Next n) = N.Value 0 n
+silentOf (P.Refused e) = N.Refused e
+
+-- of a field that was read: the place behind it, and how many signatures it asks for
+abbrev pub FieldPast : FieldName → List ℕ → ℕ → ℕ → Type 0
+FieldPast f s at r = (most : ℕ) (v : Content f) (n : ℕ) → read (contentOf most f) s at ≡ took v n → r ≡ n
+
+abbrev pub FieldSigns : FieldName → List ℕ → ℕ → ℕ → Type 0
+FieldSigns f s at r = (most : ℕ) (v : Content f) (n : ℕ) → read (contentOf most f) s at ≡ took v n → r ≡ fieldSignatures f v
+
+-- of an element that was read: how many signatures it asks for, and the place behind it
+abbrev pub ElementTells : ListName → List ℕ → ℕ → Number → Type 0
+ElementTells l s at r = (prev : List ℕ) → Tells (elementsOf l .element prev) (elementsOf l .signatures) s at r
+
+-- of c elements that were read: the place behind them
+abbrev pub ElementsPast : ListName → ℕ → List ℕ → ℕ → Part → Type 0
+ElementsPast l c s at r = (prev : List ℕ) → Passes (seriesFrom (elementsOf l .element) prev c) s at r
+
+-- of an element that was read, and asks for a credential of the type c, whatever its list
+abbrev pub AskingTells : ℕ → List ℕ → ℕ → Number → Type 0
+AskingTells c s at r = (l : ListName) → c ≡ credentialNumber (elementsOf l .credential) → (c ≡ 0 → ⊥) → ElementTells l s at r

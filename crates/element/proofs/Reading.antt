@@ -5,7 +5,7 @@
 --   lists            what is left of a list, by what code keeps of the element before
 --   addresses .. initial states    for each part of a transaction: how the reading of what holds it goes on from its answer (`on-..`,
 --                    `on-..-refused`)
---   rulesets         a chain up to a refusal, and one that went through to its end
+--   rulesets         a chain up to a refusal or to an answer that is handed up
 -- Assumes nothing.
 use Prim.Native.Nat.{ℕ, zero, suc, _-_, _^_, _≤_, _<_}
 use mathlib.Core.Path.{_≡_, refl, sym, ap, _∙_}
@@ -34,10 +34,10 @@ use Rattle.wire.proofs.Orders.{empty-below}
 use Rattle.wire.proofs.Reading as W
 use Rattle.string.proofs.Reading as S
 use Rattle.element.specs.Owners.{Owners, owners, thresholdFits}
-use Rattle.element.specs.Outputs.{OutputType, Output, output, TransferableOutput, transferableOutput}
+use Rattle.element.specs.Outputs.{amount, OutputType, Output, output, TransferableOutput, transferableOutput}
 use Rattle.element.specs.Inputs.{key, Input, spend, inputAfter, input}
-use Rattle.element.specs.Operations.{OperationType, mintNft, transferNft, operationCode, operationType, operationType-code, OperationOwners, operationOwners, terms, Operation, operation, Fx, secpFx, nftFx, fxCode, fxOf, fxOutputs, fxId, stateOutputs, InitialState, initialStateAfter, initialState}
-use Rattle.element.specs.Answer.{Terms, termsAsked, askedByTerms, operationAsked, askedByOperation, inOrder}
+use Rattle.element.specs.Operations.{OperationType, mintNft, transferNft, operationCode, operationType, operationType-code, operationOwners, terms, Operation, operation, Fx, secpFx, nftFx, fxCode, fxOf, fxOutputs, fxId, stateOutputs, InitialState, initialStateAfter, initialState}
+use Rattle.element.specs.Answer.{Terms, inOrder}
 
 -- ---- answers: what an answer with a case for what is wholly read and one for a refusal says of the reading
 
@@ -192,8 +192,8 @@ module _ (s : List ℕ) (b : Slice s) where
       unfolding addressThen
       address-again g = sym (W.on-part 20 s at _ P.Refused (λ a q. ended (seriesFrom (above (blob 20)) a (n - 1)) s q) u m i j refl) ∙ rw g at compared
 
-      pub address-not : t ≡ false → P.Refused (by outOfOrder at) ≡ y
-      address-not g = rw g at compared
+      pub address-not : t ≡ false → (f : Refusal) → f ≡ by outOfOrder at → P.Refused f ≡ y
+      address-not g f h = ap P.Refused h ∙ rw g at compared
 
   -- the address before is not there, or was the last
   pub address-gone : (n prev : ℕ) (x : Part) (e f : Refusal) → x ≡ ended (blob 20) s prev → x ≡ P.Refused e → f ≡ cutAt 20 s prev → (y : Part) → addressThen n s prev ≡ y → P.Refused f ≡ y
@@ -226,6 +226,13 @@ module _ {R : Type 0} (s : List ℕ) (at : ℕ) (z : R) (stop : Refusal → R) (
   on-owners-refused = W.stops owners R s at z stop go x
 
 -- ---- outputs
+
+module _ {R : Type 0} (s : List ℕ) (at : ℕ) (z : R) (stop : Refusal → R) (go : ℕ → ℕ → R) (x : Part) where
+  pub on-amount : (n : ℕ) → x ≡ ended amount s at → x ≡ P.Next n → ((v : ℕ) → z ≡ go v n) → z ≡ amount .run s at stop go
+  on-amount = W.ends amount R s at z stop go x
+
+  pub on-amount-refused : (e : Refusal) → x ≡ ended amount s at → x ≡ P.Refused e → z ≡ stop e → z ≡ amount .run s at stop go
+  on-amount-refused = W.stops amount R s at z stop go x
 
 module _ {R : Type 0} (s : List ℕ) (at : ℕ) (z : R) (stop : Refusal → R) (x : Part) where
   module _ (go : TransferableOutput → ℕ → R) where
@@ -323,15 +330,12 @@ inputs-are s b n at = items-viewed inputAfter 36 inputKey input-front s (slice-b
 
 -- ---- operations
 
-pub value-made : (c d n : ℕ) → c ≡ d → N.Value c n ≡ N.Value d n
-value-made c d n e = rw e
+module _ {R : Type 0} (s : List ℕ) (at : ℕ) (z : R) (stop : Refusal → R) (go : Terms → ℕ → R) (x : Part) where
+  pub on-terms : (n : ℕ) → x ≡ ended terms s at → x ≡ P.Next n → ((v : Terms) → z ≡ go v n) → z ≡ terms .run s at stop go
+  on-terms = W.ends terms R s at z stop go x
 
-module _ {R : Type 0} (s : List ℕ) (at : ℕ) (z : R) (stop : Refusal → R) (go : Terms → ℕ → R) (x : Number) (p : x ≡ askedByTerms s at) where
-  pub on-terms : (c n : ℕ) → x ≡ N.Value c n → ((v : Terms) → c ≡ length (v .0) → z ≡ go v n) → z ≡ terms .run s at stop go
-  on-terms c n q e = on-whole terms N.Refused termsAsked s at z stop go x p (N.Value c n) n q (λ d i. cc) (λ v m i. cc) (λ v i t. e v (cc))
-
-  pub on-terms-refused : (e : Refusal) → x ≡ N.Refused e → z ≡ stop e → z ≡ terms .run s at stop go
-  on-terms-refused e q = on-refused terms N.Refused termsAsked s at z stop go x p e q (λ v m i. cc) (λ d i. cc)
+  pub on-terms-refused : (e : Refusal) → x ≡ ended terms s at → x ≡ P.Refused e → z ≡ stop e → z ≡ terms .run s at stop go
+  on-terms-refused = W.stops terms R s at z stop go x
 
 -- behind the terms: what the type has
 module _ (kind : ℕ) (s : List ℕ) (at : ℕ) (z : Part) where
@@ -340,13 +344,6 @@ module _ (kind : ℕ) (s : List ℕ) (at : ℕ) (z : Part) where
 
   pub if-transfer : (kind ≡ 12 → ⊥) → z ≡ ended owners s at → z ≡ ended (operationOwners (operationType kind)) s at
   if-transfer h e = rw (ne-eqb kind 12 h) e
-
-module _ {R : Type 0} (k : OperationType) (s : List ℕ) (at : ℕ) (z : R) (stop : Refusal → R) (go : OperationOwners k → ℕ → R) (x : Part) where
-  pub on-recipients : (n : ℕ) → x ≡ ended (operationOwners k) s at → x ≡ P.Next n → ((v : OperationOwners k) → z ≡ go v n) → z ≡ operationOwners k .run s at stop go
-  on-recipients = W.ends (operationOwners k) R s at z stop go x
-
-  pub on-recipients-refused : (e : Refusal) → x ≡ ended (operationOwners k) s at → x ≡ P.Refused e → z ≡ stop e → z ≡ operationOwners k .run s at stop go
-  on-recipients-refused = W.stops (operationOwners k) R s at z stop go x
 
 -- the type of an operation, where the code has compared it with 12 and 13
 abbrev operationTag : Format OperationType
@@ -381,12 +378,12 @@ module _ {R : Type 0} (s : List ℕ) (at : ℕ) (z : R) (stop : Refusal → R) (
   pub on-operation-type-short : (e : Refusal) → x ≡ N.Refused e → (f : Refusal) → f ≡ cutAt 4 s at → z ≡ stop f → z ≡ operationTag .run s at stop go
   on-operation-type-short e q f g r = W.on-short 4 s at z stop _ x e p q f g r ∙ sym (operation-type-run s at stop go)
 
-module _ {R : Type 0} (s : List ℕ) (at : ℕ) (z : R) (stop : Refusal → R) (go : Operation → ℕ → R) (x : Number) (p : x ≡ askedByOperation s at) where
-  pub on-asked : (c n : ℕ) → x ≡ N.Value c n → ((v : Operation) → c ≡ length (v .terms .0) → z ≡ go v n) → z ≡ operation .run s at stop go
-  on-asked c n q e = on-whole operation N.Refused operationAsked s at z stop go x p (N.Value c n) n q (λ d i. cc) (λ v m i. cc) (λ v i t. e v (cc))
+module _ {R : Type 0} (s : List ℕ) (at : ℕ) (z : R) (stop : Refusal → R) (go : Operation → ℕ → R) (x : Part) where
+  pub on-operation : (n : ℕ) → x ≡ ended operation s at → x ≡ P.Next n → ((v : Operation) → z ≡ go v n) → z ≡ operation .run s at stop go
+  on-operation = W.ends operation R s at z stop go x
 
-  pub on-asked-refused : (e : Refusal) → x ≡ N.Refused e → z ≡ stop e → z ≡ operation .run s at stop go
-  on-asked-refused e q = on-refused operation N.Refused operationAsked s at z stop go x p e q (λ v m i. cc) (λ d i. cc)
+  pub on-operation-refused : (e : Refusal) → x ≡ ended operation s at → x ≡ P.Refused e → z ≡ stop e → z ≡ operation .run s at stop go
+  on-operation-refused = W.stops operation R s at z stop go x
 
 -- ---- initial states
 
@@ -461,11 +458,10 @@ module _ {R : Type 0} (k : Fx) (s : List ℕ) (at : ℕ) (z : R) (stop : Refusal
   pub on-state-outputs-refused : (e : Refusal) → x ≡ ended (stateOutputs k) s at → x ≡ P.Refused e → z ≡ stop e → z ≡ stateOutputs k .run s at stop go
   on-state-outputs-refused e p q r = W.stops (stateOutputs k) R s at z stop go x e p q r
 
--- ---- rulesets: a chain up to a refusal or to an answer that is handed up, and one that went through to its end
+-- ---- rulesets: a chain up to a refusal or to an answer that is handed up
 
-pub ruleset reading = (W.on-value, W.on-short, W.on-part, W.on-cut, W.on-part-refused, W.on-list, W.on-list-refused, W.tests, on-owners, on-owners-refused, S.on-string, S.on-string-refused)
-
-pub ruleset wholly = (W.on-value, W.on-part, W.on-numbers, W.tests, S.on-string, on-owners, value-made)
+pub ruleset reading = (W.reading, S.on-string, S.on-string-refused, on-owners, on-owners-refused, on-amount, on-amount-refused)
 
 -- an operation behind its pairs
-pub ruleset acting = (on-operation-type, on-operation-type-below, on-operation-type-above, on-operation-type-short, on-terms, on-terms-refused, on-recipients, on-recipients-refused, value-made)
+pub ruleset acting =
+    (on-operation-type, on-operation-type-below, on-operation-type-above, on-operation-type-short, on-terms, on-terms-refused, W.part-made)

@@ -1,16 +1,16 @@
--- By which numbers the parts of a transaction are refused. Assumes nothing.
+-- By which rules the parts of a transaction are refused. Assumes nothing.
 use Prim.Native.Nat.{ℕ}
 use mathlib.Core.Path.{refl}
 use mathlib.Core.List.{List, [], _∷_}
 use lib.ListN.{take}
 use lib.Dec.{ltb}
-use Rattle.wire.specs.Numbers.{ruleNumber, cutShort, unknownType, zeroAmount, outOfOrder, badThreshold, badLength}
+use Rattle.wire.specs.declared.Rule.{Rule}
+use Rattle.wire.specs.Numbers.{ruleOf, cutShort, unknownType, zeroAmount, outOfOrder, badThreshold, badLength}
 use Rattle.wire.specs.Format.{Format}
 use Rattle.wire.specs.Fields.{number, blob, constant}
 use Rattle.wire.specs.Sequence.{andThen, guard, tag}
 use Rattle.wire.specs.Series.{above, notBelow, counted, increasing}
-use Rattle.wire.specs.Orders.{OneOf}
-use Rattle.wire.proofs.Refusing.{RefusesBy, one-of, blob-refuses, number-refuses, constant-refuses, then-refuses, guard-refuses, mapped-refuses, tag-refuses, series-refuses, above-refuses, notBelow-refuses, counted-refuses}
+use Rattle.wire.proofs.Refusing.{RefusesBy, NumberIn, one-of, blob-refuses, number-refuses, constant-refuses, then-refuses, guard-refuses, mapped-refuses, tag-refuses, series-refuses, above-refuses, notBelow-refuses, counted-refuses}
 use Rattle.string.specs.Strings.{payload}
 use Rattle.string.proofs.Refusing.{string-refuses}
 use Rattle.element.specs.Owners.{addressWidth, thresholdFits, owners}
@@ -18,14 +18,14 @@ use Rattle.element.specs.Outputs.{amount, OutputType, secpMint, secpTran
 use Rattle.element.specs.Inputs.{key, indices, spend, inputAfter}
 use Rattle.element.specs.Operations.{OperationType, mintNft, transferNft, operationCode, operationType, operationType-code, operationOwners, terms, action, operation, Fx, secpFx, nftFx, fxCode, fxOf, fxOf-code, fxOutputs, fxId, stateOutputs, initialStateAfter, initialState}
 
-module _ (P : ℕ → Type 0) (short : P (ruleNumber cutShort)) where
+module _ (P : Rule → Type 0) (short : P (ruleOf cutShort)) where
   id-refuses : RefusesBy (blob 32) P
   id-refuses = blob-refuses P 32 short
 
   four-refuses : RefusesBy (number 4) P
   four-refuses = number-refuses P 4 short
 
-  amount-refuses : P (ruleNumber zeroAmount) → RefusesBy amount P
+  amount-refuses : P (ruleOf zeroAmount) → RefusesBy amount P
   unfolding amount
   amount-refuses h = guard-refuses P (number 8) (λ n. ltb 0 n) zeroAmount (number-refuses P 8 short) h
 
@@ -33,14 +33,14 @@ module _ (P : ℕ → Type 0) (short : P (ruleNumber cutShort)) where
   unfolding key
   key-refuses = then-refuses P (blob 32) (λ id. number 4) id-refuses (λ id. four-refuses)
 
-  module _ (order : P (ruleNumber outOfOrder)) where
+  module _ (order : P (ruleOf outOfOrder)) where
     indices-refuses : RefusesBy indices P
     unfolding indices
     indices-refuses = counted-refuses P (number 4) (above (number 4)) four-refuses (λ prev. above-refuses P (number 4) prev four-refuses order)
 
     -- ---- owners and outputs
 
-    module _ (threshold : P (ruleNumber badThreshold)) where
+    module _ (threshold : P (ruleOf badThreshold)) where
       owners-refuses : RefusesBy owners P
       unfolding owners
       owners-refuses =
@@ -54,12 +54,12 @@ module _ (P : ℕ → Type 0) (short : P (ruleNumber cutShort)) where
           (λ v. series-refuses P (above (blob addressWidth)) [] (v .1)
           (λ prev. above-refuses P (blob addressWidth) prev (blob-refuses P addressWidth short) order)))
 
-      transfer-refuses : P (ruleNumber zeroAmount) → RefusesBy transferBody P
+      transfer-refuses : P (ruleOf zeroAmount) → RefusesBy transferBody P
       unfolding transferBody
       transfer-refuses h = then-refuses P amount (λ n. owners) (amount-refuses h) (λ n. owners-refuses)
 
-      module _ (type : P (ruleNumber unknownType)) where
-        module _ (zero : P (ruleNumber zeroAmount)) (long : P (ruleNumber badLength)) where
+      module _ (type : P (ruleOf unknownType)) where
+        module _ (zero : P (ruleOf zeroAmount)) (long : P (ruleOf badLength)) where
           body-refuses : (k : OutputType) → RefusesBy (outputBody k) P
           body-refuses secpMint = owners-refuses
           body-refuses secpTransfer = transfer-refuses zero
@@ -100,7 +100,7 @@ module _ (P : ℕ → Type 0) (short : P (ruleNumber cutShort)) where
 
         -- ---- operations
 
-        module _ (long : P (ruleNumber badLength)) where
+        module _ (long : P (ruleOf badLength)) where
           terms-refuse : RefusesBy terms P
           unfolding terms
           terms-refuse =
@@ -130,14 +130,14 @@ module _ (P : ℕ → Type 0) (short : P (ruleNumber cutShort)) where
 
     -- ---- inputs
 
-    spend-refuses : P (ruleNumber unknownType) → P (ruleNumber zeroAmount) → RefusesBy spend P
+    spend-refuses : P (ruleOf unknownType) → P (ruleOf zeroAmount) → RefusesBy spend P
     unfolding spend
     spend-refuses type zero =
         then-refuses P (blob 32) (λ asset. andThen (constant 4 5 unknownType) (λ type. andThen amount (λ n. indices))) id-refuses λ asset.
         then-refuses P (constant 4 5 unknownType) (λ type. andThen amount (λ n. indices)) (constant-refuses P 4 5 unknownType short type) λ u.
         then-refuses P amount (λ n. indices) (amount-refuses zero) (λ n. indices-refuses)
 
-    pub input-refuses : P (ruleNumber unknownType) → P (ruleNumber zeroAmount) → (before : List ℕ) → RefusesBy (inputAfter before) P
+    pub input-refuses : P (ruleOf unknownType) → P (ruleOf zeroAmount) → (before : List ℕ) → RefusesBy (inputAfter before) P
     unfolding inputAfter
     input-refuses type zero before =
         mapped-refuses P (andThen (above key before) (λ k. spend))
@@ -149,17 +149,17 @@ module _ (P : ℕ → Type 0) (short : P (ruleNumber cutShort)) where
 abbrev pub operationNumbers : List ℕ
 operationNumbers = 2 ∷ 4 ∷ 6 ∷ 7 ∷ 8 ∷ []
 
-pub operation-numbers : RefusesBy operation (λ n. OneOf n operationNumbers)
+pub operation-numbers : RefusesBy operation (NumberIn operationNumbers)
 operation-numbers =
     let in-list = one-of operationNumbers in
-    operation-refuses (λ n. OneOf n operationNumbers) (in-list 2 refl) (in-list 6 refl) (in-list 7 refl) (in-list 4 refl) (in-list 8 refl)
+    operation-refuses (NumberIn operationNumbers) (in-list 2 refl) (in-list 6 refl) (in-list 7 refl) (in-list 4 refl) (in-list 8 refl)
 
 -- 5 too: its outputs have amounts
 abbrev pub stateNumbers : List ℕ
 stateNumbers = 2 ∷ 4 ∷ 5 ∷ 6 ∷ 7 ∷ 8 ∷ []
 
-pub state-numbers : (prev : List ℕ) → RefusesBy (initialState prev) (λ n. OneOf n stateNumbers)
+pub state-numbers : (prev : List ℕ) → RefusesBy (initialState prev) (NumberIn stateNumbers)
 state-numbers prev =
     let in-list = one-of stateNumbers in
-    state-refuses (λ n. OneOf n stateNumbers) (in-list 2 refl) (in-list 6 refl) (in-list 7 refl) (in-list 4 refl) (in-list 5 refl)
+    state-refuses (NumberIn stateNumbers) (in-list 2 refl) (in-list 6 refl) (in-list 7 refl) (in-list 4 refl) (in-list 5 refl)
     (in-list 8 refl) (take 4 prev)

@@ -2,42 +2,19 @@
 use Prim.Native.Nat.{ℕ}
 use mathlib.Core.Bool.{Bool, true}
 use mathlib.Core.List.{List}
-use lib.ListN.{length}
 use lib.Dec.{ltb}
 use Rattle.wire.specs.Bytes.{pick, part, below}
 use Rattle.wire.specs.Numbers.{by, outOfOrder}
 use Rattle.wire.specs.Order.{keyBelow}
-use Rattle.wire.specs.declared.Number.{Number}
-use Rattle.wire.specs.declared.Number.the-variants as N
 use Rattle.wire.specs.declared.Part.{Part}
 use Rattle.wire.specs.declared.Part.the-variants as P
-use Rattle.element.specs.Operations.{OperationType, OperationOwners, terms, action, Operation, operation}
-
--- ---- how many address indices there are, and where it ends: terms, what follows an operation's pairs, and an operation
+use Rattle.element.specs.Operations.{OperationType, OperationOwners}
 
 abbrev pub Terms : Type 0
 Terms = List ℕ × (ℕ × List ℕ)
 
 abbrev pub Action : Type 0
 Action = (k : OperationType) × (Terms × OperationOwners k)
-
-abbrev pub termsAsked : Terms → ℕ → Number
-termsAsked v n = N.Value (length (v .0)) n
-
-abbrev pub askedByTerms : List ℕ → ℕ → Number
-askedByTerms s at = terms .run s at N.Refused termsAsked
-
-abbrev pub actionAsked : Action → ℕ → Number
-actionAsked v n = N.Value (length (v .1 .0 .0)) n
-
-abbrev pub askedByAction : List ℕ → ℕ → Number
-askedByAction s at = action .run s at N.Refused actionAsked
-
-abbrev pub operationAsked : Operation → ℕ → Number
-operationAsked v n = N.Value (length (v .terms .0)) n
-
-abbrev pub askedByOperation : List ℕ → ℕ → Number
-askedByOperation s at = operation .run s at N.Refused operationAsked
 
 -- ---- orders as code keeps them: the first of a list has none before it
 

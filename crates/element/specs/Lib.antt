@@ -6,3 +6,4 @@ pub mod Operations
 pub mod Layout
 pub mod Good
 pub mod Answer
+pub mod Lengths

@@ -5,9 +5,10 @@ ghost use Rattle.wire.specs.Series.{increasing, series};
 ghost use Rattle.wire.specs.Answer.{ended};
 ghost use Rattle.element.specs.Inputs.{input, spend};
 ghost use Rattle.element.specs.Answer.{numberFollows, keyFollows};
+use crate::outputs;
 use wire::Number;
 use wire::Part;
-use wire::Refusal;
+use wire::Rule;
 
 // May this number stand behind the one before, if there is any?
 pub(crate) fn number_follows(any: bool, prev: u64, number: u64) -> bool
@@ -47,10 +48,7 @@ pub(crate) fn indices_from(s: &[u8], start: usize, count: u64) -> Part
             at = next;
             left -= 1;
         } else {
-            return Part::Refused(Refusal {
-                number: wire::numbers::OUT_OF_ORDER,
-                place: at,
-            });
+            return Part::Refused(wire::refuse(Rule::OutOfOrder, at));
         }
     }
     Part::Next(at)
@@ -67,24 +65,17 @@ fn spend_at(s: &[u8], at: usize) -> Part
         return Part::Refused(wire::cut(s, k, 4));
     };
     if kind != 5 {
-        return Part::Refused(Refusal {
-            number: wire::numbers::UNKNOWN_TYPE,
-            place: k,
-        });
+        return Part::Refused(wire::refuse(Rule::UnknownType, k));
     }
-    let Number::Value(amount, n) = wire::u64_at(s, a) else {
-        return Part::Refused(wire::cut(s, a, 8));
-    };
-    if amount == 0 {
-        return Part::Refused(Refusal {
-            number: wire::numbers::ZERO_AMOUNT,
-            place: a,
-        });
+    match outputs::amount_at(s, a) {
+        Part::Refused(refusal) => Part::Refused(refusal),
+        Part::Next(n) => {
+            let Number::Value(count, first) = wire::u32_at(s, n) else {
+                return Part::Refused(wire::cut(s, n, 4));
+            };
+            indices_from(s, first, count)
+        }
     }
-    let Number::Value(count, first) = wire::u32_at(s, n) else {
-        return Part::Refused(wire::cut(s, n, 4));
-    };
-    indices_from(s, first, count)
 }
 
 // So many inputs from start.
@@ -118,10 +109,7 @@ pub fn inputs_from(s: &[u8], start: usize, count: u64) -> Part
                 }
             }
         } else {
-            return Part::Refused(Refusal {
-                number: wire::numbers::OUT_OF_ORDER,
-                place: at,
-            });
+            return Part::Refused(wire::refuse(Rule::OutOfOrder, at));
         }
     }
     Part::Next(at)

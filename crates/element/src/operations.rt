@@ -3,14 +3,13 @@ ghost use mathlib.Core.Path.{_≡_};
 ghost use Rattle.wire.specs.Series.{increasing, series, unordered};
 ghost use Rattle.wire.specs.Answer.{ended};
 ghost use Rattle.element.specs.Inputs.{key};
-ghost use Rattle.element.specs.Operations.{operation, operationOwners, operationType, fxOf, stateOutputs, initialState};
-ghost use Rattle.element.specs.Answer.{askedByTerms, askedByAction, askedByOperation};
+ghost use Rattle.element.specs.Operations.{terms, action, operation, operationOwners, operationType, fxOf, stateOutputs, initialState};
 use crate::inputs;
 use crate::outputs;
 use crate::owners;
 use wire::Number;
 use wire::Part;
-use wire::Refusal;
+use wire::Rule;
 
 // So many (id, index) pairs from start, each above the one before.
 fn pairs_from(s: &[u8], start: usize, count: u64) -> Part
@@ -36,32 +35,26 @@ fn pairs_from(s: &[u8], start: usize, count: u64) -> Part
             at = next;
             left -= 1;
         } else {
-            return Part::Refused(Refusal {
-                number: wire::numbers::OUT_OF_ORDER,
-                place: at,
-            });
+            return Part::Refused(wire::refuse(Rule::OutOfOrder, at));
         }
     }
     Part::Next(at)
 }
 
-// Address indices, group, payload: how many indices there are, and where the payload ends.
-fn asked_by_terms(s: &[u8], at: usize) -> Number
-    ensures { λ r. ⌜ r ≡ askedByTerms (now (s .entry)) at ⌝ }
+// Address indices, group, payload.
+fn terms_at(s: &[u8], at: usize) -> Part
+    ensures { λ r. ⌜ r ≡ ended terms (now (s .entry)) at ⌝ }
 {
-    let Number::Value(asked, first) = wire::u32_at(s, at) else {
-        return Number::Refused(wire::cut(s, at, 4));
+    let Number::Value(count, first) = wire::u32_at(s, at) else {
+        return Part::Refused(wire::cut(s, at, 4));
     };
-    match inputs::indices_from(s, first, asked) {
-        Part::Refused(refusal) => Number::Refused(refusal),
+    match inputs::indices_from(s, first, count) {
+        Part::Refused(refusal) => Part::Refused(refusal),
         Part::Next(g) => {
             let Number::Value(_, p) = wire::u32_at(s, g) else {
-                return Number::Refused(wire::cut(s, g, 4));
+                return Part::Refused(wire::cut(s, g, 4));
             };
-            match string::string_at(s, p, 1024) {
-                Part::Refused(refusal) => Number::Refused(refusal),
-                Part::Next(next) => Number::Value(asked, next),
-            }
+            string::string_at(s, p, string::PAYLOAD_MOST)
         }
     }
 }
@@ -80,46 +73,37 @@ fn recipients_at(s: &[u8], at: usize, kind: u64) -> Part
 }
 
 // What follows an operation's pairs: type, terms, and what the type has.
-fn asked_by_action(s: &[u8], at: usize) -> Number
-    ensures { λ r. ⌜ r ≡ askedByAction (now (s .entry)) at ⌝ }
+fn action_at(s: &[u8], at: usize) -> Part
+    ensures { λ r. ⌜ r ≡ ended action (now (s .entry)) at ⌝ }
 {
     let Number::Value(kind, i) = wire::u32_at(s, at) else {
-        return Number::Refused(wire::cut(s, at, 4));
+        return Part::Refused(wire::cut(s, at, 4));
     };
     if kind < 12 {
-        return Number::Refused(Refusal {
-            number: wire::numbers::UNKNOWN_TYPE,
-            place: at,
-        });
+        return Part::Refused(wire::refuse(Rule::UnknownType, at));
     }
     if 13 < kind {
-        return Number::Refused(Refusal {
-            number: wire::numbers::UNKNOWN_TYPE,
-            place: at,
-        });
+        return Part::Refused(wire::refuse(Rule::UnknownType, at));
     }
-    match asked_by_terms(s, i) {
-        Number::Refused(refusal) => Number::Refused(refusal),
-        Number::Value(asked, o) => match recipients_at(s, o, kind) {
-            Part::Refused(refusal) => Number::Refused(refusal),
-            Part::Next(next) => Number::Value(asked, next),
-        },
+    match terms_at(s, i) {
+        Part::Refused(refusal) => Part::Refused(refusal),
+        Part::Next(o) => recipients_at(s, o, kind),
     }
 }
 
-// Asset id, (id, index) pairs, action: how many address indices there are, and where the operation ends.
-pub fn asked_by_operation(s: &[u8], at: usize) -> Number
-    ensures { λ r. ⌜ r ≡ askedByOperation (now (s .entry)) at ⌝ }
+// Asset id, (id, index) pairs, action.
+pub fn operation_at(s: &[u8], at: usize) -> Part
+    ensures { λ r. ⌜ r ≡ ended operation (now (s .entry)) at ⌝ }
 {
     let Part::Next(p) = wire::part_at(s, at, 32) else {
-        return Number::Refused(wire::cut(s, at, 32));
+        return Part::Refused(wire::cut(s, at, 32));
     };
     let Number::Value(count, first) = wire::u32_at(s, p) else {
-        return Number::Refused(wire::cut(s, p, 4));
+        return Part::Refused(wire::cut(s, p, 4));
     };
     match pairs_from(s, first, count) {
-        Part::Refused(refusal) => Number::Refused(refusal),
-        Part::Next(t) => asked_by_action(s, t),
+        Part::Refused(refusal) => Part::Refused(refusal),
+        Part::Next(t) => action_at(s, t),
     }
 }
 
@@ -130,11 +114,11 @@ pub fn operations_from(s: &[u8], start: usize, count: u64) -> Part
     let mut left = count;
     let mut at = start;
     while 0 < left {
-        match asked_by_operation(s, at) {
-            Number::Refused(refusal) => {
+        match operation_at(s, at) {
+            Part::Refused(refusal) => {
                 return Part::Refused(refusal);
             }
-            Number::Value(_, next) => {
+            Part::Next(next) => {
                 at = next;
                 left -= 1;
             }
@@ -169,10 +153,7 @@ pub fn states_from(s: &[u8], start: usize, count: u64) -> Part
             return Part::Refused(wire::cut(s, at, 4));
         };
         if 1 < fx {
-            return Part::Refused(Refusal {
-                number: wire::numbers::UNKNOWN_TYPE,
-                place: at,
-            });
+            return Part::Refused(wire::refuse(Rule::UnknownType, at));
         }
         if inputs::number_follows(any, last, fx) {
             match state_outputs_at(s, o, fx) {
@@ -187,10 +168,7 @@ pub fn states_from(s: &[u8], start: usize, count: u64) -> Part
                 }
             }
         } else {
-            return Part::Refused(Refusal {
-                number: wire::numbers::OUT_OF_ORDER,
-                place: at,
-            });
+            return Part::Refused(wire::refuse(Rule::OutOfOrder, at));
         }
     }
     Part::Next(at)

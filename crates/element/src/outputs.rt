@@ -2,28 +2,35 @@
 ghost use mathlib.Core.Path.{_≡_};
 ghost use Rattle.wire.specs.Series.{nondecreasing};
 ghost use Rattle.wire.specs.Answer.{ended};
-ghost use Rattle.element.specs.Outputs.{transferBody, output, transferableOutput};
+ghost use Rattle.element.specs.Outputs.{amount, transferBody, output, transferableOutput};
 ghost use Rattle.element.specs.Operations.{secpFx, nftFx, fxOutputs};
 ghost use Rattle.element.specs.Answer.{inOrder};
 use crate::owners;
 use wire::Number;
 use wire::Part;
-use wire::Refusal;
+use wire::Rule;
+
+// An amount, which is not 0.
+pub(crate) fn amount_at(s: &[u8], at: usize) -> Part
+    ensures { λ r. ⌜ r ≡ ended amount (now (s .entry)) at ⌝ }
+{
+    let Number::Value(amount, next) = wire::u64_at(s, at) else {
+        return Part::Refused(wire::cut(s, at, 8));
+    };
+    if amount == 0 {
+        return Part::Refused(wire::refuse(Rule::ZeroAmount, at));
+    }
+    Part::Next(next)
+}
 
 // Type 7 behind its type: amount, owners.
 fn transfer_body_at(s: &[u8], at: usize) -> Part
     ensures { λ r. ⌜ r ≡ ended transferBody (now (s .entry)) at ⌝ }
 {
-    let Number::Value(amount, o) = wire::u64_at(s, at) else {
-        return Part::Refused(wire::cut(s, at, 8));
-    };
-    if amount == 0 {
-        return Part::Refused(Refusal {
-            number: wire::numbers::ZERO_AMOUNT,
-            place: at,
-        });
+    match amount_at(s, at) {
+        Part::Refused(refusal) => Part::Refused(refusal),
+        Part::Next(o) => owners::owners_at(s, o),
     }
-    owners::owners_at(s, o)
 }
 
 // Under FxID 0: type 6, owners; or type 7.
@@ -37,10 +44,7 @@ pub fn secp_at(s: &[u8], at: usize) -> Part
         return owners::owners_at(s, a);
     }
     if kind != 7 {
-        return Part::Refused(Refusal {
-            number: wire::numbers::UNKNOWN_TYPE,
-            place: at,
-        });
+        return Part::Refused(wire::refuse(Rule::UnknownType, at));
     }
     transfer_body_at(s, a)
 }
@@ -59,15 +63,12 @@ pub fn nft_at(s: &[u8], at: usize) -> Part
         return owners::owners_at(s, o);
     }
     if kind != 11 {
-        return Part::Refused(Refusal {
-            number: wire::numbers::UNKNOWN_TYPE,
-            place: at,
-        });
+        return Part::Refused(wire::refuse(Rule::UnknownType, at));
     }
     let Number::Value(_, p) = wire::u32_at(s, g) else {
         return Part::Refused(wire::cut(s, g, 4));
     };
-    match string::string_at(s, p, 1024) {
+    match string::string_at(s, p, string::PAYLOAD_MOST) {
         Part::Refused(refusal) => Part::Refused(refusal),
         Part::Next(o) => owners::owners_at(s, o),
     }
@@ -84,10 +85,7 @@ pub fn transferable_at(s: &[u8], at: usize) -> Part
         return Part::Refused(wire::cut(s, k, 4));
     };
     if kind != 7 {
-        return Part::Refused(Refusal {
-            number: wire::numbers::UNKNOWN_TYPE,
-            place: k,
-        });
+        return Part::Refused(wire::refuse(Rule::UnknownType, k));
     }
     transfer_body_at(s, a)
 }
@@ -100,10 +98,7 @@ fn in_order(s: &[u8], prev: usize, at: usize, read: Part) -> Part
         Part::Refused(refusal) => Part::Refused(refusal),
         Part::Next(next) => {
             if wire::parts_below(s, prev, at, next) {
-                return Part::Refused(Refusal {
-                    number: wire::numbers::OUT_OF_ORDER,
-                    place: at,
-                });
+                return Part::Refused(wire::refuse(Rule::OutOfOrder, at));
             }
             Part::Next(next)
         }

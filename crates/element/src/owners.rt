@@ -6,7 +6,7 @@ ghost use Rattle.wire.specs.Answer.{ended};
 ghost use Rattle.element.specs.Owners.{owners, thresholdFits};
 use wire::Number;
 use wire::Part;
-use wire::Refusal;
+use wire::Rule;
 
 // So many addresses from start, each strictly above the one before. That the one before is there is asked again in each turn: the compiler then
 // knows it of both addresses, and hands them over with no further test.
@@ -32,10 +32,7 @@ pub fn addresses_from(s: &[u8], start: usize, count: u64) -> Part
             prev = at;
             left -= 1;
         } else {
-            return Part::Refused(Refusal {
-                number: wire::numbers::OUT_OF_ORDER,
-                place: at,
-            });
+            return Part::Refused(wire::refuse(Rule::OutOfOrder, at));
         }
     }
     wire::part_at(s, prev, 20)
@@ -62,10 +59,7 @@ pub(crate) fn owners_at(s: &[u8], at: usize) -> Part
         return Part::Refused(wire::cut(s, n, 4));
     };
     if !threshold_fits(threshold, count) {
-        return Part::Refused(Refusal {
-            number: wire::numbers::BAD_THRESHOLD,
-            place: t,
-        });
+        return Part::Refused(wire::refuse(Rule::BadThreshold, t));
     }
     addresses_from(s, first, count)
 }

@@ -42,7 +42,8 @@ fn print_rows(rows: &[u32], count: usize) {
 }
 
 fn print_refusal(refusal: Refusal) {
-    io::print_decimal(STDOUT_FILENO, refusal.number as u64);
+    let rule = refusal.rule;
+    io::print_decimal(STDOUT_FILENO, wire::number_of(rule) as u64);
     io::write_all(STDOUT_FILENO, b" ");
     io::print_decimal(STDOUT_FILENO, refusal.place as u64);
     io::write_all(STDOUT_FILENO, b"\n");

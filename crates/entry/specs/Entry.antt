@@ -2,13 +2,12 @@
 use Prim.Native.Nat.{ℕ}
 use mathlib.Core.List.{List}
 use mathlib.Core.Option.{Option, none, some}
-use Rattle.wire.specs.Numbers.{refusal, noEntry}
+use Rattle.wire.specs.Numbers.{refusal, numberOf, noEntry}
 use Rattle.wire.specs.Format.{onResult}
 use Rattle.wire.specs.declared.Refusal.{Refusal}
 use Rattle.transaction.specs.Entries.{EntryAt, noId}
 use Rattle.transaction.specs.Family.{check, entry}
 use Rattle.transaction.specs.Avm.{avm}
-use Rattle.transaction.specs.Answer.{memoMost}
 use Rattle.entry.specs.declared.EntryRead.{EntryRead}
 use Rattle.entry.specs.declared.EntryAnswer.{EntryAnswer}
 use Rattle.entry.specs.declared.EntryAnswer.the-variants as A
@@ -27,14 +26,14 @@ abbrev pub entryAnswer : ℕ → Option EntryAt → EntryRead
 entryAnswer bytes none = missingEntry
 entryAnswer bytes (some e) = foundEntry bytes e
 
--- the check's own refusal comes first
-abbrev pub entryOf : List ℕ → ℕ → EntryRead
-entryOf s n = onResult (check (avm memoMost) s) refusedEntry (λ v end. entryAnswer end (entry (avm memoMost) v n))
+-- with memos of at most `most` bytes; the check's own refusal comes first
+abbrev pub entryOf : ℕ → List ℕ → ℕ → EntryRead
+entryOf most s n = onResult (check (avm most) s) refusedEntry (λ v end. entryAnswer end (entry (avm most) v n))
 
 -- the number and the place that an answer reports: done is 0, with the bytes of the transaction
 abbrev pub entryNumber : EntryAnswer → ℕ
 entryNumber (A.Found fields start end bytes) = 0
-entryNumber (A.Refused e) = e .number
+entryNumber (A.Refused e) = numberOf e
 
 abbrev pub entryPlace : EntryAnswer → ℕ
 entryPlace (A.Found fields start end bytes) = bytes

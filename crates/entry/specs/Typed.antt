@@ -1,4 +1,5 @@
--- What stands at a row, as typed fields by its kind alone. In an accepted transaction it is the row's entry (`entries-stand`, of proofs/Standing). Assumes nothing.
+-- What stands at a row, as typed fields by its kind alone. In an accepted transaction it is the row's entry (`entries-stand`, of
+-- proofs/Standing). Assumes nothing.
 use Prim.Native.Nat.{ℕ}
 use mathlib.Core.List.{List}
 use lib.Dec.{eqb}

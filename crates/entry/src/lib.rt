@@ -1,7 +1,9 @@
 // Entry n of an accepted transaction, as typed fields: its row is found by the walk, and its fields by their places.
 ghost use mathlib.Core.Path.{_≡_};
+ghost use Rattle.transaction.specs.Answer.{memoMost};
 ghost use Rattle.entry.specs.Entry.{refusedEntry, missingEntry, entryOf};
-ghost use Rattle.entry.specs.Typed.{outputTyped, stateOutputTyped, inputTyped, operationTyped, credentialTyped, typedAt, behindKey, assetAt, txidAt, rowEntry};
+ghost use Rattle.entry.specs.Typed.{outputTyped, stateOutputTyped, inputTyped, operationTyped, credentialTyped};
+ghost use Rattle.entry.specs.Typed.{typedAt, behindKey, assetAt, txidAt, rowEntry};
 use fields::InputFound;
 use fields::OperationFound;
 use fields::OutputFound;
@@ -13,6 +15,7 @@ use walk::Row;
 use wire::Number;
 use wire::Part;
 use wire::Refusal;
+use wire::Rule;
 
 // An entry with its start, its end, and the bytes of the whole transaction.
 pub enum EntryAnswer {
@@ -178,10 +181,7 @@ fn refused(refusal: Refusal) -> EntryRead
 fn missing() -> EntryRead
     ensures { λ r. ⌜ r ≡ missingEntry ⌝ }
 {
-    refused(Refusal {
-        number: wire::numbers::NO_ENTRY,
-        place: 0,
-    })
+    refused(wire::refuse(Rule::NoEntry, 0))
 }
 
 // The entry of a row, in a transaction of so many bytes.
@@ -198,15 +198,21 @@ fn row_entry(s: &[u8], row: Row, bytes: usize) -> EntryRead
     }
 }
 
-// Reads entry n, from 0. Bytes that are not accepted get the check's own refusal.
-pub fn entry(s: &[u8], n: u64) -> EntryRead
-    ensures { λ r. ⌜ r ≡ entryOf (now (s .entry)) n ⌝ }
+// Reads entry n, from 0, where a memo has at most so many bytes. Bytes that are not accepted get the check's own refusal.
+pub fn entry_within(s: &[u8], n: u64, most: u64) -> EntryRead
+    ensures { λ r. ⌜ r ≡ entryOf most (now (s .entry)) n ⌝ }
 {
-    match checker::check::check(s) {
+    match checker::check::check_within(s, most) {
         Checked::Refused(refusal) => refused(refusal),
-        Checked::Accepted(layout, bytes) => match table::rows::find(s, layout, n) {
+        Checked::Accepted(layout, bytes) => match table::rows::find(s, layout.kind, n) {
             Nth::Missing => missing(),
             Nth::Entry(row) => row_entry(s, row, bytes),
         },
     }
+}
+
+pub fn entry(s: &[u8], n: u64) -> EntryRead
+    ensures { λ r. ⌜ r ≡ entryOf memoMost (now (s .entry)) n ⌝ }
+{
+    entry_within(s, n, transaction::MEMO_MOST)
 }

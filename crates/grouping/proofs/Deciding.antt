@@ -6,6 +6,7 @@ use mathlib.Core.List.{List, _++_}
 use Prim.Native.Nat.{ℕ, _≤_, _<_}
 use lib.ListN.{length, drop}
 use borrow.Author.Tests.{le-leb, lt-leb, lt-ltb, le-ltb, ne-eqb}
+use Rattle.wire.specs.Numbers.{noRoom, noEntry, firstNotAccepted, secondNotAccepted, draftsDiffer, conflict, notASignature}
 use Rattle.transaction.specs.Slots.{signatureWidth}
 use Rattle.slot.specs.Joining.{firstClash}
 use Rattle.slot.proofs.Comparing.{same-no, first-some}
@@ -24,13 +25,13 @@ module _ (R : Reader) (L : Laws R) (d e out : List ℕ) (hd : Draft R d) (he : D
   first-is : (j : ℕ) → firstClash 0 (R .slots d) d e ≡ some j → FirstClash R d e j
   first-is j h = first-clash R L d hd d e (like-self R d hd) (le R L d e out hd he same-body) j (first-some 0 (R .slots d) d e j h)
 
-  clash-refused : (k : ℕ) → FirstClash R d e k → mergeCall R d e out ≡ (refuse 20 k, out)
+  clash-refused : (k : ℕ) → FirstClash R d e k → mergeCall R d e out ≡ (refuse conflict k, out)
   clash-refused k f = go (firstClash 0 (R .slots d) d e) refl
     where
-      go : (o : Option ℕ) → firstClash 0 (R .slots d) d e ≡ o → mergeCall R d e out ≡ (refuse 20 k, out)
+      go : (o : Option ℕ) → firstClash 0 (R .slots d) d e ≡ o → mergeCall R d e out ≡ (refuse conflict k, out)
       go none h = absurd (no-first R L d e out hd he same-body h k f)
       go (some j) h =
-          call-is R L d e out hd he same-body (some j) h ∙ ap (λ (i : ℕ). (refuse 20 i, out)) (first-one R d e j k (first-is j h) f)
+          call-is R L d e out hd he same-body (some j) h ∙ ap (λ (i : ℕ). (refuse conflict i, out)) (first-one R d e j k (first-is j h) f)
 
   module _ (free : (k : ℕ) → FirstClash R d e k → ⊥) where
     none-first : firstClash 0 (R .slots d) d e ≡ none
@@ -40,7 +41,7 @@ module _ (R : Reader) (L : Laws R) (d e out : List ℕ) (hd : Draft R d) (he : D
         go none h = h
         go (some j) h = absurd (free j (first-is j h))
 
-    room-missing : length out < length d → mergeCall R d e out ≡ (refuse 14 0, out)
+    room-missing : length out < length d → mergeCall R d e out ≡ (refuse noRoom 0, out)
     room-missing h =
         called R L d hd d e (like-self R d hd) (le R L d e out hd he same-body) none false out none-first (lt-leb (length d) (length out) h)
 
@@ -52,28 +53,28 @@ module _ (R : Reader) (L : Laws R) (d e out : List ℕ) (hd : Draft R d) (he : D
 -- ---- what is not accepted, or not of one unsigned transaction; a slot that is not there, bytes that are no signature
 
 module _ (R : Reader) where
-  first-not : (d e out : List ℕ) → R .accepts d ≡ false → mergeCall R d e out ≡ (refuse 17 0, out)
+  first-not : (d e out : List ℕ) → R .accepts d ≡ false → mergeCall R d e out ≡ (refuse firstNotAccepted 0, out)
   unfolding mergeCall
   first-not d e out h = rw h
 
-  second-not : (d e out : List ℕ) → R .accepts d ≡ true → R .accepts e ≡ false → mergeCall R d e out ≡ (refuse 18 0, out)
+  second-not : (d e out : List ℕ) → R .accepts d ≡ true → R .accepts e ≡ false → mergeCall R d e out ≡ (refuse secondNotAccepted 0, out)
   unfolding mergeCall
   second-not d e out h k = rw (h, k)
 
-  unlike : (d e out : List ℕ) → R .accepts d ≡ true → R .accepts e ≡ true → (body R d ≡ body R e → ⊥) → mergeCall R d e out ≡ (refuse 19 0, out)
+  unlike : (d e out : List ℕ) → R .accepts d ≡ true → R .accepts e ≡ true → (body R d ≡ body R e → ⊥) → mergeCall R d e out ≡ (refuse draftsDiffer 0, out)
   unfolding mergeCall
   unlike d e out h k n = rw (h, k, same-no (body R d) (body R e) n)
 
   module _ (d : List ℕ) (k : ℕ) (s : List ℕ) where
-    draft-not : R .accepts d ≡ false → fillCall R d k s ≡ (refuse 17 0, d)
+    draft-not : R .accepts d ≡ false → fillCall R d k s ≡ (refuse firstNotAccepted 0, d)
     unfolding fillCall
     draft-not h = rw h
 
-    slot-not : R .accepts d ≡ true → slotCount R d ≤ k → fillCall R d k s ≡ (refuse 15 0, d)
+    slot-not : R .accepts d ≡ true → slotCount R d ≤ k → fillCall R d k s ≡ (refuse noEntry 0, d)
     unfolding fillCall
     slot-not h b = rw (h, le-ltb k (slotCount R d) b)
 
-    signature-not : R .accepts d ≡ true → k < slotCount R d → (length s ≡ signatureWidth → ⊥) → fillCall R d k s ≡ (refuse 21 0, d)
+    signature-not : R .accepts d ≡ true → k < slotCount R d → (length s ≡ signatureWidth → ⊥) → fillCall R d k s ≡ (refuse notASignature 0, d)
     unfolding fillCall
     signature-not h b n = rw (h, lt-ltb k (slotCount R d) b, ne-eqb (length s) signatureWidth n)
 

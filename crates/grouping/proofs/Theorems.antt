@@ -41,26 +41,30 @@ module _ (F : Family) where
 
 -- ---- the AVM
 
+-- with the memo's limit of the base: that is said here only
+abbrev base : Family
+base = avm memoMost
+
 abbrev Avm : Reader
-Avm = reader (avm memoMost)
+Avm = reader base
 
 pub avm-demand-3 : Demand3 Avm
-avm-demand-3 = demand-3 (avm memoMost)
+avm-demand-3 = demand-3 base
 
 pub avm-orders : Orders Avm
-avm-orders = orders (avm memoMost)
+avm-orders = orders base
 
 pub avm-filling : Filling Avm
-avm-filling = filling (avm memoMost)
+avm-filling = filling base
 
-pub avm-reading-filled : ReadingFilled (avm memoMost)
-avm-reading-filled = reading-filled (avm memoMost)
+pub avm-reading-filled : ReadingFilled base
+avm-reading-filled = reading-filled base
 
-pub avm-slots-of-reading : SlotsOfReading (avm memoMost)
-avm-slots-of-reading = slots-of-reading (avm memoMost)
+pub avm-slots-of-reading : SlotsOfReading base
+avm-slots-of-reading = slots-of-reading base
 
 pub avm-calls-owe : CallsOwe Avm
-avm-calls-owe = calls-owe (avm memoMost)
+avm-calls-owe = calls-owe base
 
 pub avm-calls-decide : CallsDecide Avm
-avm-calls-decide = calls-decide (avm memoMost)
+avm-calls-decide = calls-decide base

@@ -6,6 +6,7 @@ use mathlib.Core.Bool.{true, false}
 use mathlib.Core.List.{List, [], _∷_, _++_}
 use Prim.Native.Nat.{ℕ, _≤_, _<_}
 use lib.ListN.{length, drop}
+use Rattle.wire.specs.Numbers.{noRoom, noEntry, firstNotAccepted, secondNotAccepted, draftsDiffer, conflict, notASignature}
 use Rattle.wire.specs.Orders.{OneOf}
 use Rattle.transaction.specs.Slots.{signatureWidth}
 use Rattle.draft.specs.declared.Answer.{Answer}
@@ -37,17 +38,17 @@ pub record CallsOwe (R : Reader) : Type 0 where
 
 pub record CallsDecide (R : Reader) : Type 0 where
   -- merge: "checks 17, 18, 19, 20, 14 in that order"
-  pub first-refused : (d e out : List ℕ) → R .accepts d ≡ false → mergeCall R d e out ≡ (refuse 17 0, out)
-  pub second-refused : (d e out : List ℕ) → R .accepts d ≡ true → R .accepts e ≡ false → mergeCall R d e out ≡ (refuse 18 0, out)
-  pub differ : (d e out : List ℕ) → R .accepts d ≡ true → R .accepts e ≡ true → (body R d ≡ body R e → ⊥) → mergeCall R d e out ≡ (refuse 19 0, out)
+  pub first-refused : (d e out : List ℕ) → R .accepts d ≡ false → mergeCall R d e out ≡ (refuse firstNotAccepted 0, out)
+  pub second-refused : (d e out : List ℕ) → R .accepts d ≡ true → R .accepts e ≡ false → mergeCall R d e out ≡ (refuse secondNotAccepted 0, out)
+  pub differ : (d e out : List ℕ) → R .accepts d ≡ true → R .accepts e ≡ true → (body R d ≡ body R e → ⊥) → mergeCall R d e out ≡ (refuse draftsDiffer 0, out)
   pub conflict : (d e out : List ℕ) → Draft R d → Draft R e → body R d ≡ body R e
-      → (k : ℕ) → FirstClash R d e k → mergeCall R d e out ≡ (refuse 20 k, out)
+      → (k : ℕ) → FirstClash R d e k → mergeCall R d e out ≡ (refuse conflict k, out)
   pub no-room : (d e out : List ℕ) → Draft R d → Draft R e → body R d ≡ body R e → ((k : ℕ) → FirstClash R d e k → ⊥)
-      → length out < length d → mergeCall R d e out ≡ (refuse 14 0, out)
+      → length out < length d → mergeCall R d e out ≡ (refuse noRoom 0, out)
   pub done : (d e out : List ℕ) → Draft R d → Draft R e → body R d ≡ body R e → ((k : ℕ) → FirstClash R d e k → ⊥)
       → length d ≤ length out → mergeCall R d e out ≡ (A.Done (length d), merged R d e ++ drop (length d) out)
   -- fill: "17, 15, 21, then 20"; when it answers 20 and when it is done is said by `refused` and `done` of specs/Filling
-  pub fill-refused : (d : List ℕ) (k : ℕ) (s : List ℕ) → R .accepts d ≡ false → fillCall R d k s ≡ (refuse 17 0, d)
-  pub no-slot : (d : List ℕ) (k : ℕ) (s : List ℕ) → R .accepts d ≡ true → slotCount R d ≤ k → fillCall R d k s ≡ (refuse 15 0, d)
+  pub fill-refused : (d : List ℕ) (k : ℕ) (s : List ℕ) → R .accepts d ≡ false → fillCall R d k s ≡ (refuse firstNotAccepted 0, d)
+  pub no-slot : (d : List ℕ) (k : ℕ) (s : List ℕ) → R .accepts d ≡ true → slotCount R d ≤ k → fillCall R d k s ≡ (refuse noEntry 0, d)
   pub not-a-signature : (d : List ℕ) (k : ℕ) (s : List ℕ) → R .accepts d ≡ true → k < slotCount R d → (length s ≡ signatureWidth → ⊥)
-      → fillCall R d k s ≡ (refuse 21 0, d)
+      → fillCall R d k s ≡ (refuse notASignature 0, d)

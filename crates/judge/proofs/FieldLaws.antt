@@ -1,7 +1,7 @@
 -- What reading a field back comes to, as tests on what was given. Assumes nothing.
 use Prim.Native.Nat.{ℕ, zero, suc, _+_, _*_, _%_, _^_, _≤_, _<_}
 use mathlib.Core.Path.{_≡_, refl, sym, ap, ap₂, _∙_}
-use mathlib.Core.Bool.{Bool}
+use mathlib.Core.Bool.{Bool, true, false}
 use mathlib.Core.List.{List, [], _∷_, _++_, append-nil}
 use native.Mathlib.Omega.{arith}
 use native.Mathlib.Nat.{mod-eq-of-lt, mul-assoc, add-mul, add-assoc}
@@ -11,17 +11,17 @@ use lib.Seq.{drop-at}
 use lib.Dec.{ltb, leb, eqb}
 use borrow.Author.Tests.{eq-eqb, ne-eqb, lt-ltb, le-ltb, le-leb}
 use Rattle.wire.specs.Bytes.{pick, drop-step, Bytes, bytes-append, value, digits, length-digits, bytes-digits, value-digits, digits-value}
-use Rattle.wire.specs.Numbers.{ruleNumber, unknownType, badLength, notPrintable, badDenomination, bytesAfterEnd}
+use Rattle.wire.specs.Numbers.{ruleOf, unknownType, badLength, notPrintable, badDenomination, bytesAfterEnd}
 use Rattle.wire.specs.Fields.{number, blob, constant}
-use Rattle.wire.specs.Sequence.{andThen, guard, guardAt, named, tag}
+use Rattle.wire.specs.Sequence.{andThen, guard, guardAt, named, tag, find, find-is}
 use Rattle.wire.specs.declared.Refusal.{Refusal}
 use Rattle.string.specs.Strings.{string, text, unprintable, printable, denomination}
 use Rattle.transaction.specs.Family.{head}
+use Rattle.transaction.specs.Plan.{kindCode, kindOf, kindOf-code, kinds, isKind}
 use Rattle.transaction.specs.Avm.{avm}
-use Rattle.transaction.specs.Answer.{memoMost}
 use Rattle.judge.specs.declared.Verdict.{Verdict}
 use Rattle.judge.specs.declared.Verdict.the-variants as J
-use Rattle.judge.specs.Judged.{judged}
+use Rattle.judge.specs.Judged.{barred, judged}
 use Rattle.judge.specs.Given.{headBytes, given}
 use Rattle.judge.specs.Texts.{kindRules, textRules, denominationRules}
 use Rattle.judge.proofs.Judging.{number-back, blob-back}
@@ -49,7 +49,7 @@ module _ {X : Type 0} (w n : ℕ) (b : List ℕ) (stop : Refusal → X) where
       bytes-at (digits (suc w) n ++ b) (0 + suc w) stop (length b) b go refl (drop-at (digits (suc w) n) b (0 + suc w) (omega arith)) ∙ ap (go b) there
 
 -- nothing is left over behind all bytes
-all-read : (ys : List ℕ) → pick (eqb (length ys) (length ys)) J.Fine (J.Refuse bytesAfterEnd) ≡ J.Fine
+all-read : (ys : List ℕ) → pick (eqb (length ys) (length ys)) J.Fine (barred bytesAfterEnd) ≡ J.Fine
 all-read ys = rw (eq-eqb (length ys) (length ys) refl)
 
 -- ---- strings
@@ -62,18 +62,18 @@ pub text-write : (most : ℕ) (b : List ℕ) → text most .write b ≡ digits 2
 unfolding text named andThen guard printable guardAt number blob
 text-write most b = refl
 
-pub string-judged : (most : ℕ) (b : List ℕ) → judged (string 4 most) (given (digits 4 (length b) ++ b)) J.Fine ≡ pick (leb (length b) most) J.Fine (J.Refuse (ruleNumber badLength))
+pub string-judged : (most : ℕ) (b : List ℕ) → judged (string 4 most) (given (digits 4 (length b) ++ b)) J.Fine ≡ pick (leb (length b) most) J.Fine (barred (ruleOf badLength))
 unfolding judged string named andThen guard
 string-judged most b =
     number-front 3 (length b) b _ _
-    ∙ ap (λ (x : Verdict). pick (leb (length b) most) x (J.Refuse (ruleNumber badLength))) (bytes-behind 3 (length b) b _ _ ∙ all-read (digits 4 (length b) ++ b))
+    ∙ ap (λ (x : Verdict). pick (leb (length b) most) x (barred (ruleOf badLength))) (bytes-behind 3 (length b) b _ _ ∙ all-read (digits 4 (length b) ++ b))
 
 pub text-judged : (most : ℕ) (b : List ℕ) → judged (text most) (given (digits 2 (length b) ++ b)) J.Fine ≡ textRules most b
 unfolding judged text named andThen guard printable guardAt
 text-judged most b =
     number-front 1 (length b) b _ _
-    ∙ ap (λ (x : Verdict). pick (ltb 0 (length b)) (pick (leb (length b) most) x (J.Refuse (ruleNumber badLength))) (J.Refuse (ruleNumber badLength)))
-    (bytes-behind 1 (length b) b _ _ ∙ ap (λ (x : Verdict). pick (eqb (unprintable b) (length b)) x (J.Refuse (ruleNumber notPrintable))) (all-read (digits 2 (length b) ++ b)))
+    ∙ ap (λ (x : Verdict). pick (ltb 0 (length b)) (pick (leb (length b) most) x (barred (ruleOf badLength))) (barred (ruleOf badLength)))
+    (bytes-behind 1 (length b) b _ _ ∙ ap (λ (x : Verdict). pick (eqb (unprintable b) (length b)) x (barred (ruleOf notPrintable))) (all-read (digits 2 (length b) ++ b)))
 
 -- ---- numbers and identifiers
 
@@ -85,7 +85,7 @@ pub denomination-judged : (n : ℕ) → judged denomination (given (digits 1 n +
 unfolding judged denomination guard
 denomination-judged n =
     number-front 0 n [] _ _
-    ∙ ap (λ (t : Bool). pick (leb n 32) (pick t J.Fine (J.Refuse bytesAfterEnd)) (J.Refuse (ruleNumber badDenomination))) (eq-eqb (0 + 1) (length (digits 1 n ++ [])) (omega (arith, length-append (digits 1 n) [], length-digits 1 n)))
+    ∙ ap (λ (t : Bool). pick (leb n 32) (pick t J.Fine (barred bytesAfterEnd)) (barred (ruleOf badDenomination))) (eq-eqb (0 + 1) (length (digits 1 n ++ [])) (omega (arith, length-append (digits 1 n) [], length-digits 1 n)))
 
 pub id-judged : (c : List ℕ) → length c ≡ 32 → judged (blob 32) (given c) J.Fine ≡ J.Fine
 unfolding judged
@@ -97,26 +97,23 @@ module _ (most : ℕ) (b : List ℕ) (x : ℕ) (p : x ≡ unprintable b) (some :
   pub text-fine : x ≡ length b → J.Fine ≡ textRules most b
   text-fine e = rw (lt-ltb 0 (length b) (omega arith), le-leb (length b) most few, eq-eqb (unprintable b) (length b) (sym p ∙ e))
 
-  pub text-unprintable : (x ≡ length b → ⊥) → J.Refuse 9 ≡ textRules most b
-  text-unprintable e = rw (lt-ltb 0 (length b) (omega arith), le-leb (length b) most few, ne-eqb (unprintable b) (length b) (λ i. e (p ∙ i)))
+  pub text-unprintable : (x ≡ length b → ⊥) → (v : Verdict) → v ≡ barred (ruleOf notPrintable) → v ≡ textRules most b
+  text-unprintable e v h = h ∙ rw (lt-ltb 0 (length b) (omega arith), le-leb (length b) most few, ne-eqb (unprintable b) (length b) (λ i. e (p ∙ i)))
 
 -- ---- the head
 
-one-of-five : (k : ℕ) (x y : Verdict) → pick (eqb k 0) x (pick (eqb k 1) x (pick (eqb k 2) x (pick (eqb k 3) x (pick (eqb k 4) x y)))) ≡ pick (ltb k 5) x y
-one-of-five zero x y = refl
-one-of-five (suc zero) x y = refl
-one-of-five (suc (suc zero)) x y = refl
-one-of-five (suc (suc (suc zero))) x y = refl
-one-of-five (suc (suc (suc (suc zero)))) x y = refl
-one-of-five (suc (suc (suc (suc (suc k))))) x y =
-    let n : ℕ = suc (suc (suc (suc (suc k)))) in
-    rw (ne-eqb n 0 (λ z. omega arith), ne-eqb n 1 (λ z. omega arith), ne-eqb n 2 (λ z. omega arith), ne-eqb n 3 (λ z. omega arith), ne-eqb n 4 (λ z. omega arith), le-ltb n 5 (omega arith))
+module _ (kind : ℕ) (b : Bool) (p : b ≡ isKind kind) where
+  pub kind-known : b ≡ true → J.Fine ≡ kindRules kind
+  kind-known h = rw (sym p ∙ h)
 
-module _ (kind network : ℕ) (chain : List ℕ) (long : length chain ≡ 32) where
+  pub kind-unknown : b ≡ false → (v : Verdict) → v ≡ barred (ruleOf unknownType) → v ≡ kindRules kind
+  kind-unknown h v e = e ∙ rw (sym p ∙ h)
+
+module _ (most kind network : ℕ) (chain : List ℕ) (long : length chain ≡ 32) where
   abbrev headed : List ℕ
   headed = headBytes kind network chain
 
-  pub head-judged : judged (head (avm memoMost)) (given headed) J.Fine ≡ kindRules kind
+  pub head-judged : judged (head (avm most)) (given headed) J.Fine ≡ kindRules kind
   unfolding judged head named andThen constant guard tag digits
   head-judged =
       let e₂ : drop (0 + 2) headed ≡ digits 4 kind ++ (digits 4 network ++ chain) = drop-at (digits 2 0) (digits 4 kind ++ (digits 4 network ++ chain)) (0 + 2) (length-digits 2 0) in
@@ -126,9 +123,9 @@ module _ (kind network : ℕ) (chain : List ℕ) (long : length chain ≡ 32) wh
       omega (arith, length-append (digits 2 0) (digits 4 kind ++ (digits 4 network ++ chain)), length-append (digits 4 kind) (digits 4 network ++ chain), length-append (digits 4 network) chain, length-digits 2 0, length-digits 4 kind, length-digits 4 network) in
       number-at headed 0 _ 1 0 (digits 4 kind ++ (digits 4 network ++ chain)) _ refl
       ∙ number-at headed (0 + 2) _ 3 kind (digits 4 network ++ chain) _ e₂
-      ∙ ap (λ (x : Verdict). pick (eqb kind 0) x (pick (eqb kind 1) x (pick (eqb kind 2) x (pick (eqb kind 3) x (pick (eqb kind 4) x (J.Refuse (ruleNumber unknownType)))))))
+      ∙ ap (λ (x : Verdict). find kindCode kinds kind (λ k. x) (barred (ruleOf unknownType)))
       (number-at headed (0 + 2 + 4) _ 3 network chain _ e₆ ∙ bytes-at headed (0 + 2 + 4 + 4) _ 32 chain _ long e₁₀ ∙ rw (eq-eqb (0 + 2 + 4 + 4 + 32) (length headed) (sym whole)))
-      ∙ one-of-five kind J.Fine (J.Refuse (ruleNumber unknownType))
+      ∙ find-is kindCode kindOf kindOf-code kinds kind (λ k. J.Fine) (barred (ruleOf unknownType))
 
 -- ---- codec, type and network as one number of ten bytes
 

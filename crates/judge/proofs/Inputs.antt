@@ -10,7 +10,7 @@ use lib.Seq.{take-at, drop-cons}
 use lib.Dec.{ltb, eqb}
 use borrow.Author.Tests.{eq-eqb, lt-ltb, le-ltb, not-true, not-false}
 use Rattle.wire.specs.Bytes.{pick, part, digits, length-digits, below}
-use Rattle.wire.specs.Numbers.{zeroAmount, outOfOrder, bytesAfterEnd}
+use Rattle.wire.specs.Numbers.{ruleOf, zeroAmount, outOfOrder, bytesAfterEnd}
 use Rattle.wire.specs.Fields.{blob, number, constant}
 use Rattle.wire.specs.Sequence.{guard}
 use Rattle.wire.specs.Series.{listWrite, items, counted}
@@ -23,10 +23,10 @@ use Rattle.element.specs.Inputs as Inputs
 use Rattle.element.specs.Inputs.{input, inputAfter, key, spend}
 use Rattle.judge.specs.declared.Verdict.{Verdict}
 use Rattle.judge.specs.declared.Verdict.the-variants as J
-use Rattle.judge.specs.Judged.{judged}
+use Rattle.judge.specs.Judged.{barred, judged}
 use Rattle.judge.specs.Given.{inputOf, inputGiven}
 use Rattle.judge.specs.Elements.{inputHead, numbersBytes, rising, eachAbove}
-use Rattle.judge.proofs.Judging.{barred, blob-back, number-back, rest-all, rest-as, field-back, test-alike, listBytes, list-back}
+use Rattle.judge.proofs.Judging.{blob-back, number-back, rest-all, rest-as, field-back, test-alike, listBytes, list-back}
 use mir.Val.{Fits}
 use mir.Syntax.{w32}
 
@@ -111,10 +111,10 @@ module _ (txid : List ℕ) (index : ℕ) (asset : List ℕ) (amount : ℕ) (indi
         (pick (ltb 0 amount)
         (pick ordered
         J.Fine
-        (barred outOfOrder)) (barred zeroAmount)) (barred outOfOrder)
+        (barred (ruleOf outOfOrder))) (barred (ruleOf zeroAmount))) (barred (ruleOf outOfOrder))
 
     input-run : length txid ≡ 32 → length asset ≡ 32 → All Narrow indices
-        → input prev .run written 0 (λ e. J.Refuse (e .number)) (λ a m. pick (eqb m (length written)) J.Fine (J.Refuse bytesAfterEnd)) ≡ rules (key .write (txid, index)) (eachAbove (number 4) [] indices)
+        → input prev .run written 0 (λ e. barred (e .rule)) (λ a m. pick (eqb m (length written)) J.Fine (barred bytesAfterEnd)) ≡ rules (key .write (txid, index)) (eachAbove (number 4) [] indices)
     unfolding inputAfter key spend constant Outputs.amount Inputs.indices counted guard
     input-run h k narrow =
         let count : ℕ = length indices in
@@ -128,7 +128,7 @@ module _ (txid : List ℕ) (index : ℕ) (asset : List ℕ) (amount : ℕ) (indi
         test-alike (ltb 0 amount) _ _ _
         (field-back (number 4) count (number-back 3 count) written _ w _ _ _ r₅ λ r₆.
         let (p, e) = list-back (number 4) Narrow (λ v h. number-back 3 v) [] indices written _ [] _ _ narrow (r₆ .there ∙ sym (append-nil w)) in
-        e ∙ test-alike (eachAbove (number 4) [] indices) _ _ _ (ap (λ b. pick b J.Fine (J.Refuse bytesAfterEnd)) (eq-eqb _ _ (r₆ .ends)))))
+        e ∙ test-alike (eachAbove (number 4) [] indices) _ _ _ (ap (λ b. pick b J.Fine (barred bytesAfterEnd)) (eq-eqb _ _ (r₆ .ends)))))
 
     -- the verdict z, by the tests of the code
     pub as-input : (z : Verdict) → length txid ≡ 32 → length asset ≡ 32 → Words indices → z ≡ rules (txid ++ digits 4 index) (rising indices)

@@ -11,19 +11,13 @@ use lib.Seq.{take-at}
 use borrow.Author.Tests.{le-leb}
 use Rattle.wire.specs.declared.Refusal.{Refusal}
 use Rattle.wire.specs.Bytes.{pick, value, digits, length-digits, value-digits, pow-positive, drop-step, below}
-use Rattle.wire.specs.Numbers.{Rule, by, outOfOrder, ruleNumber}
+use Rattle.wire.specs.Numbers.{by, outOfOrder}
 use Rattle.wire.specs.Format.{Format}
 use Rattle.wire.specs.Fields.{blob, blobRun, number}
 use Rattle.wire.specs.Sequence.{guard}
 use Rattle.wire.specs.Series.{listRun, listWrite, items, left, above}
 use Rattle.wire.specs.Orders.{All}
-use Rattle.judge.specs.declared.Verdict.{Verdict}
-use Rattle.judge.specs.declared.Verdict.the-variants as J
 use Rattle.judge.specs.Elements.{eachAbove}
-
--- refused by a rule
-abbrev pub barred : Rule → Verdict
-barred x = J.Refuse (ruleNumber x)
 
 -- ---- F reads a back wherever it is written
 

@@ -13,7 +13,7 @@ use Rattle.wire.specs.declared.Refusal.{Refusal}
 use Rattle.wire.specs.declared.Part.{Part}
 use Rattle.wire.specs.declared.Part.the-variants as P
 use Rattle.wire.specs.Bytes.{pick, below}
-use Rattle.wire.specs.Numbers.{by, cutShort, zeroAmount, outOfOrder, badThreshold, bytesAfterEnd}
+use Rattle.wire.specs.Numbers.{ruleOf, by, cutShort, zeroAmount, outOfOrder, badThreshold, bytesAfterEnd}
 use Rattle.wire.specs.Fields.{blob, number}
 use Rattle.wire.specs.Sequence.{guard}
 use Rattle.wire.specs.Series.{listWrite, items, notBelow, increasing}
@@ -27,10 +27,10 @@ use Rattle.element.specs.Outputs as Outputs
 use Rattle.element.specs.Outputs.{transferBody, output, transferableOutput}
 use Rattle.judge.specs.declared.Verdict.{Verdict}
 use Rattle.judge.specs.declared.Verdict.the-variants as J
-use Rattle.judge.specs.Judged.{judged}
+use Rattle.judge.specs.Judged.{barred, judged}
 use Rattle.judge.specs.Given.{addressesOf, outputOf, outputGiven}
 use Rattle.judge.specs.Elements.{outputFront, outputHead, eachAbove}
-use Rattle.judge.proofs.Judging.{barred, blob-back, number-back, rest-all, rest-as, field-back, test-alike, listBytes, list-back}
+use Rattle.judge.proofs.Judging.{blob-back, number-back, rest-all, rest-as, field-back, test-alike, listBytes, list-back}
 
 -- ---- addresses, one behind the other
 
@@ -113,9 +113,10 @@ module _ (asset : List ℕ) (amount locktime threshold : ℕ) (addresses : List 
         (pick (eachAbove (blob 20) [] (listOf addresses))
         (pick (not (below ys prev))
         J.Fine
-        (barred outOfOrder)) (barred outOfOrder)) (barred badThreshold)) (barred zeroAmount)
+        (barred (ruleOf outOfOrder))) (barred (ruleOf outOfOrder))) (barred (ruleOf badThreshold))) (barred (ruleOf zeroAmount))
 
-    output-run : length asset ≡ 32 → notBelow transferableOutput prev .run written 0 (λ e. J.Refuse (e .number)) (λ a m. pick (eqb m (length written)) J.Fine (J.Refuse bytesAfterEnd))
+    output-run : length asset ≡ 32
+        → notBelow transferableOutput prev .run written 0 (λ e. barred (e .rule)) (λ a m. pick (eqb m (length written)) J.Fine (barred bytesAfterEnd))
         ≡ rules (length (listOf addresses)) written
     unfolding transferableOutput output transferBody Outputs.amount owners guard
     output-run h =
@@ -132,20 +133,22 @@ module _ (asset : List ℕ) (amount locktime threshold : ℕ) (addresses : List 
         (let sized = addresses-sized _ addresses (omega (arith, div-add-mod' (length addresses) 20)) in
         let (p, e) = list-back (blob 20) (λ b. length b ≡ 20) (blob-back 20) [] (listOf addresses) written _ [] _ _ sized (r₆ .there ∙ sym (append-nil w)) in
         e ∙ test-alike (eachAbove (blob 20) [] (listOf addresses)) _ _ _
-        (test-alike (not (below written prev)) _ _ _ (ap (λ b. pick b J.Fine (J.Refuse bytesAfterEnd)) (eq-eqb _ _ (r₆ .ends))))))
+        (test-alike (not (below written prev)) _ _ _ (ap (λ b. pick b J.Fine (barred bytesAfterEnd)) (eq-eqb _ _ (r₆ .ends))))))
 
     output-judged : length asset ≡ 32 → judged (notBelow transferableOutput prev) (outputGiven asset amount locktime threshold addresses) J.Fine
-        ≡ pick (eqb (length addresses % 20) 0) (rules (length addresses / 20) built) (barred cutShort)
+        ≡ pick (eqb (length addresses % 20) 0) (rules (length addresses / 20) built) (barred (ruleOf cutShort))
     unfolding judged
-    output-judged h = ap (λ v. pick (eqb (length addresses % 20) 0) v (barred cutShort)) (output-run h) ∙ whole (eqb (length addresses % 20) 0) refl
+    output-judged h = ap (λ v. pick (eqb (length addresses % 20) 0) v (barred (ruleOf cutShort))) (output-run h) ∙ whole (eqb (length addresses % 20) 0) refl
       where
         whole : (b : Bool) → eqb (length addresses % 20) 0 ≡ b
-            → pick b (rules (length (listOf addresses)) written) (barred cutShort) ≡ pick b (rules (length addresses / 20) built) (barred cutShort)
+            → pick b (rules (length (listOf addresses)) written) (barred (ruleOf cutShort))
+            ≡ pick b (rules (length addresses / 20) built) (barred (ruleOf cutShort))
         whole true e = rw (length-addressesOf (length addresses / 20) addresses, built-written (eqb-true (length addresses % 20) 0 e))
         whole false e = refl
 
     -- the verdict z, by the tests of the code
-    pub as-output : (z : Verdict) → length asset ≡ 32 → z ≡ pick (eqb (length addresses % 20) 0) (rules (length addresses / 20) built) (barred cutShort)
+    pub as-output : (z : Verdict) → length asset ≡ 32
+        → z ≡ pick (eqb (length addresses % 20) 0) (rules (length addresses / 20) built) (barred (ruleOf cutShort))
         → z ≡ judged (notBelow transferableOutput prev) (outputGiven asset amount locktime threshold addresses) J.Fine
     as-output z h e = e ∙ sym (output-judged h)
 

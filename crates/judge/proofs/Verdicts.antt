@@ -10,19 +10,21 @@ use lib.Seq.{drop-length}
 use lib.Dec.{eqb}
 use borrow.Author.Tests.{eqb-true, eq-eqb}
 use Rattle.wire.specs.Bytes.{Bytes, pick}
-use Rattle.wire.specs.Numbers.{ruleNumber, cutShort, bytesAfterEnd}
+use Rattle.wire.specs.declared.Rule.{Rule}
+use Rattle.wire.specs.declared.Refusal.{Refusal}
+use Rattle.wire.specs.Numbers.{refusal, ruleOf, cutShort, bytesAfterEnd}
 use Rattle.wire.specs.Format.{Format, Result, took, refused, onResult, read}
 use Rattle.judge.specs.Given.{Given, given}
-use Rattle.judge.specs.Judged.{judged, onFine}
+use Rattle.judge.specs.Judged.{barred, judged, onFine}
 use Rattle.judge.specs.declared.Verdict.{Verdict}
 use Rattle.judge.specs.declared.Verdict.the-variants as J
 
-pub not-fine : {P : Type 0} (n : ℕ) → J.Refuse n ≡ J.Fine → P
-not-fine n e = let z : _≡_ {A = ℕ} 0 1 = cc in absurd (omega arith)
+pub not-fine : {P : Type 0} (d : Refusal) → J.Refuse d ≡ J.Fine → P
+not-fine d e = let z : _≡_ {A = ℕ} 0 1 = cc in absurd (omega arith)
 
-pub pick-fine : (t : Bool) (v : Verdict) (n : ℕ) → pick t v (J.Refuse n) ≡ J.Fine → (t ≡ true) × (v ≡ J.Fine)
-pick-fine true v n e = (refl, e)
-pick-fine false v n e = not-fine n e
+pub pick-fine : (t : Bool) (v : Verdict) (x : Rule) → pick t v (barred x) ≡ J.Fine → (t ≡ true) × (v ≡ J.Fine)
+pick-fine true v x e = (refl, e)
+pick-fine false v x e = not-fine (refusal x 0) e
 
 pub both-true : (a b : Bool) → (a && b) ≡ true → (a ≡ true) × (b ≡ true)
 both-true true b e = (refl, e)
@@ -33,23 +35,23 @@ both-true false b e = let z : _≡_ {A = ℕ} 0 1 = cc in absurd (omega arith)
 module _ {A : Type 0} (F : Format A) (g : Given) (v : Verdict) where
   -- what a result comes to
   abbrev pub verdictOf : Result A → Verdict
-  verdictOf o = onResult o (λ e. J.Refuse (e .number)) (λ a m. pick (eqb m (length (g .bytes))) v (J.Refuse bytesAfterEnd))
+  verdictOf o = onResult o (λ e. barred (e .rule)) (λ a m. pick (eqb m (length (g .bytes))) v (barred bytesAfterEnd))
 
-  pub judged-read : judged F g v ≡ pick (g .whole) (verdictOf (read F (g .bytes) 0)) (J.Refuse (ruleNumber cutShort))
+  pub judged-read : judged F g v ≡ pick (g .whole) (verdictOf (read F (g .bytes) 0)) (barred (ruleOf cutShort))
   unfolding judged
-  judged-read = ap (λ x. pick (g .whole) x (J.Refuse (ruleNumber cutShort))) (F .same (g .bytes) 0 (λ e. J.Refuse (e .number)) (λ a m. pick (eqb m (length (g .bytes))) v (J.Refuse bytesAfterEnd)))
+  judged-read = ap (λ x. pick (g .whole) x (barred (ruleOf cutShort))) (F .same (g .bytes) 0 (λ e. barred (e .rule)) (λ a m. pick (eqb m (length (g .bytes))) v (barred bytesAfterEnd)))
 
   result-fine : (o : Result A) → verdictOf o ≡ J.Fine → (a : A) × (o ≡ took a (length (g .bytes))) × (v ≡ J.Fine)
   result-fine (took a m) e =
       let (t, h) = pick-fine (eqb m (length (g .bytes))) v bytesAfterEnd e in
       (a, ap (took a) (eqb-true m (length (g .bytes)) t), h)
-  result-fine (refused d) e = not-fine (d .number) e
+  result-fine (refused d) e = not-fine (refusal (d .rule) 0) e
 
   took-fine : judged F g v ≡ J.Fine → (a : A) × (read F (g .bytes) 0 ≡ took a (length (g .bytes))) × (v ≡ J.Fine)
-  took-fine e = result-fine (read F (g .bytes) 0) (pick-fine (g .whole) _ (ruleNumber cutShort) (sym judged-read ∙ e) .1)
+  took-fine e = result-fine (read F (g .bytes) 0) (pick-fine (g .whole) _ (ruleOf cutShort) (sym judged-read ∙ e) .1)
 
   pub judged-whole : judged F g v ≡ J.Fine → g .whole ≡ true
-  judged-whole e = pick-fine (g .whole) _ (ruleNumber cutShort) (sym judged-read ∙ e) .0
+  judged-whole e = pick-fine (g .whole) _ (ruleOf cutShort) (sym judged-read ∙ e) .0
 
   pub judged-then : judged F g v ≡ J.Fine → v ≡ J.Fine
   judged-then e = took-fine e .2
@@ -70,12 +72,12 @@ judged-own F a v h =
 pub judged-on : {A : Type 0} (F : Format A) (g : Given) (u : Verdict) → judged F g u ≡ onFine (judged F g J.Fine) u
 judged-on {A} F g u = judged-read F g u ∙ go (g .whole) (read F (g .bytes) 0) ∙ ap (λ (v : Verdict). onFine v u) (sym (judged-read F g J.Fine))
   where
-    left-over : (b : Bool) → pick b u (J.Refuse bytesAfterEnd) ≡ onFine (pick b J.Fine (J.Refuse bytesAfterEnd)) u
+    left-over : (b : Bool) → pick b u (barred bytesAfterEnd) ≡ onFine (pick b J.Fine (barred bytesAfterEnd)) u
     left-over true = refl
     left-over false = refl
 
-    go : (t : Bool) (o : Result A) → pick t (onResult o (λ e. J.Refuse (e .number)) (λ a m. pick (eqb m (length (g .bytes))) u (J.Refuse bytesAfterEnd))) (J.Refuse (ruleNumber cutShort))
-        ≡ onFine (pick t (onResult o (λ e. J.Refuse (e .number)) (λ a m. pick (eqb m (length (g .bytes))) J.Fine (J.Refuse bytesAfterEnd))) (J.Refuse (ruleNumber cutShort))) u
+    go : (t : Bool) (o : Result A) → pick t (onResult o (λ e. barred (e .rule)) (λ a m. pick (eqb m (length (g .bytes))) u (barred bytesAfterEnd))) (barred (ruleOf cutShort))
+        ≡ onFine (pick t (onResult o (λ e. barred (e .rule)) (λ a m. pick (eqb m (length (g .bytes))) J.Fine (barred bytesAfterEnd))) (barred (ruleOf cutShort))) u
     go true (took a m) = left-over (eqb m (length (g .bytes)))
     go true (refused e) = refl
     go false o = refl

@@ -2,20 +2,25 @@
 use lib.ListN.{length}
 use lib.Dec.{eqb}
 use Rattle.wire.specs.Bytes.{pick}
-use Rattle.wire.specs.Numbers.{ruleNumber, cutShort, bytesAfterEnd}
+use Rattle.wire.specs.declared.Rule.{Rule}
+use Rattle.wire.specs.Numbers.{refusal, ruleOf, cutShort, bytesAfterEnd}
 use Rattle.wire.specs.Format.{Format}
 use Rattle.judge.specs.declared.Verdict.{Verdict}
 use Rattle.judge.specs.declared.Verdict.the-variants as J
 use Rattle.judge.specs.Given.{Given}
 
+-- refused by a rule. What a step would add has no place in the bytes yet: the place is 0
+abbrev pub barred : Rule → Verdict
+barred x = J.Refuse (refusal x 0)
+
 -- the rules are those of the format; and no byte may be left over
 unfoldable pub judged : {A : Type 0} → Format A → Given → Verdict → Verdict
 judged F g v =
     pick (g .whole)
-    (F .run (g .bytes) 0 (λ e. J.Refuse (e .number)) λ a m. pick (eqb m (length (g .bytes))) v (J.Refuse bytesAfterEnd))
-    (J.Refuse (ruleNumber cutShort))
+    (F .run (g .bytes) 0 (λ e. barred (e .rule)) λ a m. pick (eqb m (length (g .bytes))) v (barred bytesAfterEnd))
+    (barred (ruleOf cutShort))
 
 -- v, and then u
 abbrev pub onFine : Verdict → Verdict → Verdict
 onFine J.Fine u = u
-onFine (J.Refuse n) u = J.Refuse n
+onFine (J.Refuse e) u = J.Refuse e

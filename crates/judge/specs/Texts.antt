@@ -5,26 +5,28 @@ use mathlib.Core.List.{List}
 use lib.ListN.{length}
 use lib.Dec.{ltb, leb, eqb}
 use Rattle.wire.specs.Bytes.{pick}
-use Rattle.wire.specs.Numbers.{ruleNumber, unknownType, badLength, emptyList, notPrintable, badDenomination}
+use Rattle.wire.specs.Numbers.{ruleOf, unknownType, badLength, emptyList, notPrintable, badDenomination}
 use Rattle.string.specs.Strings.{unprintable}
-use Rattle.transaction.specs.Answer.{memoMost}
 use Rattle.judge.specs.declared.Verdict.{Verdict}
 use Rattle.judge.specs.declared.Verdict.the-variants as J
+use Rattle.transaction.specs.Plan.{isKind}
+use Rattle.judge.specs.Judged.{barred}
 
 abbrev pub kindRules : ℕ → Verdict
-kindRules kind = pick (ltb kind 5) J.Fine (J.Refuse (ruleNumber unknownType))
+kindRules kind = pick (isKind kind) J.Fine (barred (ruleOf unknownType))
 
 abbrev pub listRules : ℕ → ℕ → Verdict
-listRules count least = pick (leb least count) J.Fine (J.Refuse (ruleNumber emptyList))
+listRules count least = pick (leb least count) J.Fine (barred (ruleOf emptyList))
 
-abbrev pub memoRules : ℕ → Verdict
-memoRules n = pick (leb n memoMost) J.Fine (J.Refuse (ruleNumber badLength))
+-- a memo of n bytes, of at most `most`
+abbrev pub memoRules : ℕ → ℕ → Verdict
+memoRules most n = pick (leb n most) J.Fine (barred (ruleOf badLength))
 
 abbrev pub textRules : ℕ → List ℕ → Verdict
 textRules most b =
     pick (ltb 0 (length b))
-    (pick (leb (length b) most) (pick (eqb (unprintable b) (length b)) J.Fine (J.Refuse (ruleNumber notPrintable))) (J.Refuse (ruleNumber badLength)))
-    (J.Refuse (ruleNumber badLength))
+    (pick (leb (length b) most) (pick (eqb (unprintable b) (length b)) J.Fine (barred (ruleOf notPrintable))) (barred (ruleOf badLength)))
+    (barred (ruleOf badLength))
 
 abbrev pub denominationRules : ℕ → Verdict
-denominationRules n = pick (leb n 32) J.Fine (J.Refuse (ruleNumber badDenomination))
+denominationRules n = pick (leb n 32) J.Fine (barred (ruleOf badDenomination))

@@ -6,17 +6,18 @@ ghost use Rattle.judge.specs.Given.{given};
 use crate::Verdict;
 use wire::Number;
 use wire::Part;
+use wire::Rule;
 
 pub fn operation_rules(bytes: &[u8]) -> Verdict
     ensures { λ r. ⌜ r ≡ judged operation (given (now (bytes .entry))) Verdict.Fine ⌝ }
 {
-    match element::operations::asked_by_operation(bytes, 0) {
-        Number::Refused(refusal) => Verdict::Refuse(refusal.number),
-        Number::Value(_, end) => {
+    match element::operations::operation_at(bytes, 0) {
+        Part::Refused(refusal) => Verdict::Refuse(wire::without_place(refusal)),
+        Part::Next(end) => {
             if end == bytes.len() {
                 return Verdict::Fine;
             }
-            Verdict::Refuse(wire::numbers::BYTES_AFTER_END)
+            crate::bar(Rule::BytesAfterEnd)
         }
     }
 }
@@ -26,23 +27,23 @@ pub fn state_rules(last: &[u8], bytes: &[u8]) -> Verdict
     ensures { λ r. ⌜ r ≡ judged (initialState (now (last .entry))) (given (now (bytes .entry))) Verdict.Fine ⌝ }
 {
     let Number::Value(fx, first) = wire::u32_at(bytes, 0) else {
-        return Verdict::Refuse(wire::numbers::CUT_SHORT);
+        return crate::bar(Rule::CutShort);
     };
     if 1 < fx {
-        return Verdict::Refuse(wire::numbers::UNKNOWN_TYPE);
+        return crate::bar(Rule::UnknownType);
     }
     if wire::is_below(wire::between(last, 0, 4), wire::between(bytes, 0, 4)) {
         match element::operations::state_outputs_at(bytes, first, fx) {
             Part::Refused(refusal) => {
-                return Verdict::Refuse(refusal.number);
+                return Verdict::Refuse(wire::without_place(refusal));
             }
             Part::Next(end) => {
                 if end == bytes.len() {
                     return Verdict::Fine;
                 }
-                return Verdict::Refuse(wire::numbers::BYTES_AFTER_END);
+                return crate::bar(Rule::BytesAfterEnd);
             }
         }
     }
-    Verdict::Refuse(wire::numbers::OUT_OF_ORDER)
+    crate::bar(Rule::OutOfOrder)
 }

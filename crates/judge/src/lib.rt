@@ -1,4 +1,9 @@
 // What bars a step of the writer, by the fields or the bytes that it is given.
+ghost use mathlib.Core.Path.{_≡_};
+ghost use Rattle.judge.specs.Judged.{barred};
+use wire::Refusal;
+use wire::Rule;
+
 pub mod elements;
 pub mod rules;
 pub mod texts;
@@ -6,5 +11,12 @@ pub mod texts;
 // What bars a step, if anything does.
 pub enum Verdict {
     Fine,
-    Refuse(u32),
+    Refuse(Refusal),
+}
+
+// What a step would add has no place in the bytes yet: the place is 0.
+pub fn bar(rule: Rule) -> Verdict
+    ensures { λ r. ⌜ r ≡ barred rule ⌝ }
+{
+    Verdict::Refuse(wire::refuse(rule, 0))
 }

@@ -15,6 +15,7 @@ ghost use Rattle.judge.specs.Elements.{outputHead, inputHead, rising, ea
 use crate::Verdict;
 use wire::Order;
 use wire::Part;
+use wire::Rule;
 
 // Puts bytes behind the first at of room.
 fn put_bytes_behind(room: &mut [u8], at: usize, from: &[u8])
@@ -119,19 +120,19 @@ pub fn output_rules(
     ensures { λ r. ⌜ r ≡ judged (notBelow transferableOutput (now (prev .entry))) (outputGiven asset amount locktime threshold (now (addresses .entry))) Verdict.Fine ⌝ }
 {
     if addresses.len() % 20 != 0 {
-        return Verdict::Refuse(wire::numbers::CUT_SHORT);
+        return crate::bar(Rule::CutShort);
     }
     if amount == 0 {
-        return Verdict::Refuse(wire::numbers::ZERO_AMOUNT);
+        return crate::bar(Rule::ZeroAmount);
     }
     if !element::owners::threshold_fits(threshold as u64, (addresses.len() / 20) as u64) {
-        return Verdict::Refuse(wire::numbers::BAD_THRESHOLD);
+        return crate::bar(Rule::BadThreshold);
     }
     if !addresses_rise(addresses) {
-        return Verdict::Refuse(wire::numbers::OUT_OF_ORDER);
+        return crate::bar(Rule::OutOfOrder);
     }
     if output_below(prev, asset, amount, locktime, threshold, addresses) {
-        return Verdict::Refuse(wire::numbers::OUT_OF_ORDER);
+        return crate::bar(Rule::OutOfOrder);
     }
     Verdict::Fine
 }
@@ -163,13 +164,13 @@ pub fn input_rules(
 {
     let head = input_head(txid, index, asset, amount, indices.len() as u64);
     if !wire::is_below(wire::between(prev, 0, 36), wire::between(&head, 0, 36)) {
-        return Verdict::Refuse(wire::numbers::OUT_OF_ORDER);
+        return crate::bar(Rule::OutOfOrder);
     }
     if amount == 0 {
-        return Verdict::Refuse(wire::numbers::ZERO_AMOUNT);
+        return crate::bar(Rule::ZeroAmount);
     }
     if !indices_rise(indices) {
-        return Verdict::Refuse(wire::numbers::OUT_OF_ORDER);
+        return crate::bar(Rule::OutOfOrder);
     }
     Verdict::Fine
 }

@@ -3,14 +3,15 @@ ghost use mathlib.Core.Path.{_≡_};
 ghost use lib.ListN.{length};
 ghost use Rattle.judge.specs.Texts.{kindRules, listRules, memoRules, textRules, denominationRules};
 use crate::Verdict;
+use wire::Rule;
 
 pub fn kind_rules(kind: u32) -> Verdict
     ensures { λ r. ⌜ r ≡ kindRules kind ⌝ }
 {
-    if kind < 5 {
+    if due::plans::is_type(kind as u64) {
         return Verdict::Fine;
     }
-    Verdict::Refuse(wire::numbers::UNKNOWN_TYPE)
+    crate::bar(Rule::UnknownType)
 }
 
 // A list that is closed has its elements.
@@ -18,16 +19,17 @@ pub fn list_rules(count: u32, least: u32) -> Verdict
     ensures { λ r. ⌜ r ≡ listRules count least ⌝ }
 {
     if count < least {
-        return Verdict::Refuse(wire::numbers::EMPTY_LIST);
+        return crate::bar(Rule::EmptyList);
     }
     Verdict::Fine
 }
 
-pub fn memo_rules(count: usize) -> Verdict
-    ensures { λ r. ⌜ r ≡ memoRules count ⌝ }
+// A memo of so many bytes, of at most `most`.
+pub fn memo_rules(count: usize, most: u64) -> Verdict
+    ensures { λ r. ⌜ r ≡ memoRules most count ⌝ }
 {
-    if transaction::MEMO_MOST < count as u64 {
-        return Verdict::Refuse(wire::numbers::BAD_LENGTH);
+    if most < count as u64 {
+        return crate::bar(Rule::BadLength);
     }
     Verdict::Fine
 }
@@ -37,22 +39,22 @@ pub fn text_rules(bytes: &[u8], most: usize) -> Verdict
     ensures { λ r. ⌜ r ≡ textRules most (now (bytes .entry)) ⌝ }
 {
     if bytes.len() < 1 {
-        return Verdict::Refuse(wire::numbers::BAD_LENGTH);
+        return crate::bar(Rule::BadLength);
     }
     if most < bytes.len() {
-        return Verdict::Refuse(wire::numbers::BAD_LENGTH);
+        return crate::bar(Rule::BadLength);
     }
     if string::first_unprintable(bytes) == bytes.len() {
         return Verdict::Fine;
     }
-    Verdict::Refuse(wire::numbers::NOT_PRINTABLE)
+    crate::bar(Rule::NotPrintable)
 }
 
 pub fn denomination_rules(value: u8) -> Verdict
     ensures { λ r. ⌜ r ≡ denominationRules value ⌝ }
 {
     if 32 < value {
-        return Verdict::Refuse(wire::numbers::BAD_DENOMINATION);
+        return crate::bar(Rule::BadDenomination);
     }
     Verdict::Fine
 }

@@ -1,13 +1,11 @@
 -- The answer with a lent table as one number of 64 bits, with what the table holds then, and that number taken apart again. Assumes nothing.
-use Prim.Native.Nat.{ℕ, _+_, _*_, _%_, _≤_}
-use mathlib.Core.Path.{_≡_}
+use Prim.Native.Nat.{ℕ, _+_, _*_, _%_}
 use mathlib.Core.List.{List}
 use lib.Dec.{eqb}
 use Rattle.wire.specs.Bytes.{Bytes, pick}
-use Rattle.wire.specs.declared.Refusal.{Refusal}
+use Rattle.transaction.specs.Answer.{memoMost}
 use Rattle.table.specs.Table.{Filled, tabled, tabledNumber, tabledPlace, tabledRows}
 use Rattle.table.specs.declared.Tabled.{Tabled}
-use Rattle.table.specs.declared.Tabled.the-variants as T
 use Rattle.slot_table.specs.Table.{tabledSlots}
 use Rattle.draft.specs.Packing.{TakenApart}
 
@@ -17,10 +15,6 @@ pub record Listing : Type 0 where
 
 abbrev pub listing : ℕ → List ℕ → Listing
 listing a t = record { answer = a; table = t }
-
--- a refusal has a number, so that it is told from done
-unfoldable pub Numbered : Tabled → Type 0
-Numbered a = (e : Refusal) → a ≡ T.Refused e → 1 ≤ e .number
 
 -- the rows written where the number is 0, else the place
 abbrev pub reported : Tabled → ℕ
@@ -35,5 +29,5 @@ listed f = listing (packed (f .answer)) (f .table)
 
 -- from each answer the caller gets back the number, and the rows or the place
 pub record Unlisted : Type 0 where
-  pub rows : (s t : List ℕ) → Bytes s → let a = tabled s t .answer in TakenApart (packed a) (tabledNumber a) (reported a)
-  pub slots : (s t : List ℕ) → Bytes s → let a = tabledSlots s t .answer in TakenApart (packed a) (tabledNumber a) (reported a)
+  pub rows : (s t : List ℕ) → Bytes s → let a = tabled memoMost s t .answer in TakenApart (packed a) (tabledNumber a) (reported a)
+  pub slots : (s t : List ℕ) → Bytes s → let a = tabledSlots memoMost s t .answer in TakenApart (packed a) (tabledNumber a) (reported a)

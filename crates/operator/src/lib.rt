@@ -1,26 +1,28 @@
 // The functions that the operator's command calls beside those of the phone program.
 ghost use mathlib.Core.Path.{_≡_};
+ghost use Rattle.transaction.specs.Answer.{memoMost};
 ghost use Rattle.table.specs.Table.{tabled};
 ghost use Rattle.slot_table.specs.Table.{tabledSlots};
-ghost use Rattle.operator.specs.Listing.{Numbered, packed, listing, listed};
+ghost use Rattle.operator.specs.Listing.{packed, listing, listed};
 use table::Tabled;
 
 // How many rows were written, or number × 2^32 + place.
 fn word(answer: Tabled) -> u64
-    requires { ⌜ Numbered answer ⌝ }
     ensures { λ r. ⌜ r ≡ packed answer ⌝ }
 {
     match answer {
         Tabled::Listed(rows, _) => (rows % 4294967296) as u64,
-        Tabled::Refused(refusal) => refusal.number as u64 * 4294967296
-            + (refusal.place % 4294967296) as u64,
+        Tabled::Refused(refusal) => {
+            let rule = refusal.rule;
+            wire::number_of(rule) as u64 * 4294967296 + (refusal.place % 4294967296) as u64
+        }
     }
 }
 
 // The check with a lent table, in which each entry has a row: kind, start, length.
 #[no_mangle]
 pub extern "C" fn cellfacet_rows(bytes: &[u8], table: &mut [u32]) -> u64
-    ensures { λ r. ⌜ listing r (now (table .exit)) ≡ listed (tabled (now (bytes .entry)) (now (table .entry))) ⌝ }
+    ensures { λ r. ⌜ listing r (now (table .exit)) ≡ listed (tabled memoMost (now (bytes .entry)) (now (table .entry))) ⌝ }
 {
     word(table::rows::check_table(bytes, table))
 }
@@ -28,7 +30,7 @@ pub extern "C" fn cellfacet_rows(bytes: &[u8], table: &mut [u32]) -> u64
 // The check with a lent table, in which each slot has a row: credential, place, filled.
 #[no_mangle]
 pub extern "C" fn cellfacet_slots(bytes: &[u8], table: &mut [u32]) -> u64
-    ensures { λ r. ⌜ listing r (now (table .exit)) ≡ listed (tabledSlots (now (bytes .entry)) (now (table .entry))) ⌝ }
+    ensures { λ r. ⌜ listing r (now (table .exit)) ≡ listed (tabledSlots memoMost (now (bytes .entry)) (now (table .entry))) ⌝ }
 {
     word(slot_table::list_slots(bytes, table))
 }

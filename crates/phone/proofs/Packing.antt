@@ -1,5 +1,5 @@
 -- The answers of check and merge as one number. Assumes nothing.
-use Prim.Native.Nat.{ℕ, _+_, _*_, _≤_}
+use Prim.Native.Nat.{ℕ, _+_, _≤_}
 use lib.Dec.{leb}
 use mathlib.Core.Path.{_≡_, refl, sym, ap, _∙_, subst}
 use mathlib.Core.Bool.{Bool, true, false}
@@ -9,9 +9,10 @@ use native.Mathlib.Omega.{arith}
 use lib.ListN.{length, drop}
 use Rattle.wire.specs.Bytes.{Bytes}
 use Rattle.wire.specs.Format.{Format, verdict}
+use Rattle.wire.specs.declared.Rule.{Rule}
 use Rattle.wire.specs.declared.Refusal.{Refusal}
 use Rattle.wire.proofs.Bytes.{Slice, slice-bytes, found}
-use Rattle.wire.specs.Numbers.{refusal}
+use Rattle.wire.specs.Numbers.{refusal, numberOf, noRoom, firstNotAccepted, secondNotAccepted, draftsDiffer, conflict}
 use Rattle.transaction.specs.Slots.{slotAt, length-slotAt}
 use Rattle.transaction.specs.Credentials.{Want}
 use Rattle.transaction.specs.Family.{Unsigned, unsigned, wants, check}
@@ -20,7 +21,7 @@ use Rattle.transaction.specs.Answer.{memoMost, checked}
 use Rattle.transaction.specs.declared.Layout.{Layout}
 use Rattle.transaction.specs.declared.Checked.{Checked}
 use Rattle.transaction.specs.declared.Checked.the-variants as C
-use Rattle.transaction.proofs.Verdicts.{checked-number, checked-place, checked-accepted, checked-refused}
+use Rattle.transaction.proofs.Verdicts.{checked-place, checked-accepted, checked-refused}
 use Rattle.transaction.proofs.Signed.{parts-of, same-unsigned, length-eq, spaced-slots}
 use Rattle.slot.specs.Joining.{same, join, firstClash}
 use Rattle.slot.proofs.Comparing.{first-some, same-eq, length-join}
@@ -33,26 +34,26 @@ use Rattle.draft.proofs.Packing.{spaced-count}
 use Rattle.phone.specs.Packed.{packed, packedCall}
 
 -- x is what the check answered
-module _ (s : List ℕ) (b : Slice s) (x : Checked) (p : x ≡ checked s) where
+module _ (s : List ℕ) (b : Slice s) (x : Checked) (p : x ≡ checked memoMost s) where
   pub accepted-packed : (w : Layout) (n : ℕ) → x ≡ C.Accepted w n → n ≡ packed (verdict (check (avm memoMost) s))
   accepted-packed w n q =
-      let (v, t, _) = checked-accepted s w n (found q p) in
+      let (v, t, _) = checked-accepted memoMost s w n (found q p) in
       omega (arith, ap (λ o. packed (verdict o)) t)
 
-  pub refused-packed : (e : Refusal) → x ≡ C.Refused e → e .number * 4294967296 + e .place ≡ packed (verdict (check (avm memoMost) s))
-  refused-packed e q = sym (ap packed (checked-refused s e (found q p)))
+  pub refused-packed : (e : Refusal) → x ≡ C.Refused e → (n : ℕ) → n ≡ packed (numberOf e, e .place) → n ≡ packed (verdict (check (avm memoMost) s))
+  refused-packed e q n h = h ∙ sym (ap packed (checked-refused memoMost s e (found q p)))
 
-  pub refused-small : (e : Refusal) → x ≡ C.Refused e → (e .number ≤ 13) × (e .place ≤ 65536)
-  refused-small e q = (checked-number s e (found q p) .1, checked-place s e (slice-bytes s b) (found q p))
+  pub refused-small : (e : Refusal) → x ≡ C.Refused e → e .place ≤ 65536
+  refused-small e q = checked-place memoMost s e (slice-bytes s b) (found q p)
 
 pub ruleset packing = (accepted-packed, refused-packed)
 
 -- ---- merge
 
 -- no answer is done and refused
-refuses : {P : Type 0} (n : ℕ) (s : List ℕ) (number place : ℕ) (t : List ℕ) → _≡_ {A = Answer × List ℕ} (A.Done n, s) (refuse number place, t) → P
-refuses n s number place t q =
-    let y : A.Done n ≡ refuse number place = ap (λ (z : Answer × List ℕ). z .0) q in
+refuses : {P : Type 0} (n : ℕ) (s : List ℕ) (e : Refusal) (t : List ℕ) → _≡_ {A = Answer × List ℕ} (A.Done n, s) (A.Refused e, t) → P
+refuses n s e t q =
+    let y : A.Done n ≡ A.Refused e = ap (λ (z : Answer × List ℕ). z .0) q in
     let z : _≡_ {A = ℕ} 0 1 = cc in
     absurd (omega arith)
 
@@ -74,31 +75,31 @@ module _ (d e out : List ℕ) (b : Bytes d) where
       omega (arith, p .short, spaced-count 0 (R .slots d) (length d) (spaced-slots U W d u l p), c .at, c .k-in)
 
   module _ (f : Refusal) (s : List ℕ) where
-    small : (n p : ℕ) (t : List ℕ) → n ≤ 20 → p ≤ 65536 → _≡_ {A = Answer × List ℕ} (A.Refused f, s) (refuse n p, t) → (f .number ≤ 20) × (f .place ≤ 65536)
-    small n p t h k q =
-        let y : A.Refused f ≡ refuse n p = ap (λ (z : Answer × List ℕ). z .0) q in
-        let z : refusal n p ≡ f = cc in subst (λ (g : Refusal). (g .number ≤ 20) × (g .place ≤ 65536)) z (h, k)
+    small : (r : Rule) (p : ℕ) (t : List ℕ) → p ≤ 65536 → _≡_ {A = Answer × List ℕ} (A.Refused f, s) (refuse r p, t) → f .place ≤ 65536
+    small r p t h q =
+        let y : A.Refused f ≡ refuse r p = ap (λ (z : Answer × List ℕ). z .0) q in
+        let z : refusal r p ≡ f = cc in subst (λ (g : Refusal). g .place ≤ 65536) z h
 
     decided-small : (u v w : Bool) (o : Option ℕ) (r : Bool) (m : List ℕ) → (u ≡ true → (k : ℕ) → o ≡ some k → k ≤ 65536)
-        → (A.Refused f, s) ≡ decideMerge u v w o r m out → (f .number ≤ 20) × (f .place ≤ 65536)
-    decided-small false v w o r m h q = small 17 0 out (omega arith) (omega arith) q
-    decided-small true false w o r m h q = small 18 0 out (omega arith) (omega arith) q
-    decided-small true true false o r m h q = small 19 0 out (omega arith) (omega arith) q
-    decided-small true true true (some k) r m h q = small 20 k out (omega arith) (h refl k refl) q
-    decided-small true true true none false m h q = small 14 0 out (omega arith) (omega arith) q
-    decided-small true true true none true m h q = refuses (length m) (m ++ drop (length m) out) (f .number) (f .place) s (sym q)
+        → (A.Refused f, s) ≡ decideMerge u v w o r m out → f .place ≤ 65536
+    decided-small false v w o r m h q = small firstNotAccepted 0 out (omega arith) q
+    decided-small true false w o r m h q = small secondNotAccepted 0 out (omega arith) q
+    decided-small true true false o r m h q = small draftsDiffer 0 out (omega arith) q
+    decided-small true true true (some k) r m h q = small conflict k out (h refl k refl) q
+    decided-small true true true none false m h q = small noRoom 0 out (omega arith) q
+    decided-small true true true none true m h q = refuses (length m) (m ++ drop (length m) out) f s (sym q)
 
   -- a is what merge answered, and s what it left of out
   module _ (a : Answer) (s : List ℕ) (p : (a, s) ≡ mergeCall R d e out) where
-    pub merge-small : (f : Refusal) → a ≡ A.Refused f → (f .number ≤ 20) × (f .place ≤ 65536)
+    pub merge-small : (f : Refusal) → a ≡ A.Refused f → f .place ≤ 65536
     unfolding mergeCall
     merge-small f q =
         decided-small f s (R .accepts d) (R .accepts e) (same (body R d) (body R e)) (firstClash 0 (R .slots d) d e) (leb (length d) (length out)) (merged R d e) slot-small
         (ap (λ (x : Answer). (x, s)) (sym q) ∙ p)
 
 -- the same, with what the call ensures before what is known of its first draft
-pub called-small : (d e out : List ℕ) (a : Answer) (s : List ℕ) → (a, s) ≡ mergeCall R d e out → (f : Refusal) → a ≡ A.Refused f → Bytes d
-    → (f .number ≤ 20) × (f .place ≤ 65536)
+pub called-small : (d e out : List ℕ) (a : Answer) (s : List ℕ) → (a, s) ≡ mergeCall R d e out → (f : Refusal) → a ≡ A.Refused f
+    → Bytes d → f .place ≤ 65536
 called-small d e out a s p f q b = merge-small d e out b a s p f q
 
 -- a is what merge answered, and s what it left of out
@@ -108,8 +109,8 @@ module _ (d e out : List ℕ) (a : Answer) (s : List ℕ) (p : (a, s) ≡ mergeC
       let z : n ≡ packed (answerNumber (A.Done n), answerPlace (A.Done n)) = omega arith in
       ap (λ (i : ℕ). (i, s)) z ∙ ap (λ (x : Answer). packedCall (x, s)) (sym q) ∙ ap packedCall p
 
-  pub merge-refused : (f : Refusal) → a ≡ A.Refused f → (f .number * 4294967296 + f .place, s) ≡ packedCall (mergeCall R d e out)
-  merge-refused f q = ap (λ (x : Answer). packedCall (x, s)) (sym q) ∙ ap packedCall p
+  pub merge-refused : (f : Refusal) → a ≡ A.Refused f → (n : ℕ) → n ≡ packed (numberOf f, f .place) → (n, s) ≡ packedCall (mergeCall R d e out)
+  merge-refused f q n h = ap (λ (i : ℕ). (i, s)) h ∙ ap (λ (x : Answer). packedCall (x, s)) (sym q) ∙ ap packedCall p
 
 pub ruleset merged-packing = (merge-done, merge-refused)
 
@@ -123,11 +124,11 @@ pub record Tests (u v w : Bool) (m : List ℕ) (n : ℕ) : Type 0 where
   pub long : n ≡ length m
 
 decided-done : (n : ℕ) (s out : List ℕ) (u v w : Bool) (o : Option ℕ) (r : Bool) (m : List ℕ) → (A.Done n, s) ≡ decideMerge u v w o r m out → Tests u v w m n
-decided-done n s out false v w o r m q = refuses n s 17 0 out q
-decided-done n s out true false w o r m q = refuses n s 18 0 out q
-decided-done n s out true true false o r m q = refuses n s 19 0 out q
-decided-done n s out true true true (some k) r m q = refuses n s 20 k out q
-decided-done n s out true true true none false m q = refuses n s 14 0 out q
+decided-done n s out false v w o r m q = refuses n s (refusal firstNotAccepted 0) out q
+decided-done n s out true false w o r m q = refuses n s (refusal secondNotAccepted 0) out q
+decided-done n s out true true false o r m q = refuses n s (refusal draftsDiffer 0) out q
+decided-done n s out true true true (some k) r m q = refuses n s (refusal conflict k) out q
+decided-done n s out true true true none false m q = refuses n s (refusal noRoom 0) out q
 decided-done n s out true true true none true m q =
     let y : A.Done n ≡ A.Done (length m) = ap (λ (z : Answer × List ℕ). z .0) q in
     let z : n ≡ length m = cc in

@@ -1,5 +1,7 @@
 // The functions that a C program calls, each answering number × 2^32 + place.
 ghost use mathlib.Core.Path.{_≡_};
+ghost use Prim.Native.Nat.{_≤_};
+ghost use Rattle.wire.specs.Numbers.{numberOf};
 ghost use Rattle.wire.specs.Format.{verdict};
 ghost use Rattle.transaction.specs.Family.{check};
 ghost use Rattle.transaction.specs.Avm.{avm};
@@ -9,6 +11,16 @@ ghost use Rattle.draft.specs.Calls.{mergeCall};
 ghost use Rattle.phone.specs.Packed.{packed, packedCall};
 use draft::Answer;
 use transaction::Checked;
+use wire::Refusal;
+
+// A refusal as number × 2^32 + place.
+fn word(refusal: Refusal) -> u64
+    requires { ⌜ refusal .place ≤ 65536 ⌝ }
+    ensures { λ r. ⌜ r ≡ packed (numberOf refusal, refusal .place) ⌝ }
+{
+    let rule = refusal.rule;
+    wire::number_of(rule) as u64 * 4294967296 + refusal.place as u64
+}
 
 // Accepted, and how many bytes; or the first broken rule and its place.
 #[no_mangle]
@@ -17,7 +29,7 @@ pub extern "C" fn cellfacet_check(bytes: &[u8]) -> u64
 {
     match checker::check::check(bytes) {
         Checked::Accepted(_, end) => end as u64,
-        Checked::Refused(refusal) => refusal.number as u64 * 4294967296 + refusal.place as u64,
+        Checked::Refused(refusal) => word(refusal),
     }
 }
 
@@ -28,6 +40,6 @@ pub extern "C" fn cellfacet_merge(first: &[u8], second: &[u8], out: &mut [u8]) -
 {
     match draft::merge(first, second, out) {
         Answer::Done(end) => end as u64,
-        Answer::Refused(refusal) => refusal.number as u64 * 4294967296 + refusal.place as u64,
+        Answer::Refused(refusal) => word(refusal),
     }
 }

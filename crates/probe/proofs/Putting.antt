@@ -11,6 +11,10 @@ pub put-one : (i v : ℕ) (l : List Value) (t u w : List ℕ) → u ≡ set t i 
 unfolding putAt
 put-one i v l t u w e h = h ∙ ap (putAt l) e
 
+-- the number that is put is known to be v
+pub put-known : (i n v : ℕ) (l : List Value) (t u w : List ℕ) → u ≡ set t i n → n ≡ v → w ≡ putAt l u → w ≡ putAt ((i, v) ∷ l) t
+put-known i n v l t u w e k = put-one i v l t u w (e ∙ ap (set t i) k)
+
 pub put-none : (t : List ℕ) → t ≡ putAt [] t
 unfolding putAt
 put-none t = refl

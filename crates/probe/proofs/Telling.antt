@@ -4,6 +4,8 @@ use native.Mathlib.Nat.{zero-add}
 use mathlib.Core.Path.{_≡_, sym, ap, _∙_}
 use mathlib.Core.List.{List, [], _∷_}
 use Rattle.wire.specs.declared.Refusal.{Refusal}
+use Rattle.wire.specs.Numbers.{numberOf}
+use Rattle.transaction.specs.Answer.{memoMost}
 use Rattle.table.specs.Table.{filled, tabled}
 use Rattle.table.specs.declared.Tabled.{Tabled}
 use Rattle.table.specs.declared.Tabled.the-variants as T
@@ -12,12 +14,15 @@ use Rattle.draft.specs.declared.Answer.the-variants as A
 use Rattle.probe.specs.Probed.{probed, told, toldFill}
 
 -- x is what the check answered, and u what the table holds then
-module _ (s t u : List ℕ) (x : Tabled) (p : filled x u ≡ tabled s t) where
-  pub listed-told : (n end : ℕ) → x ≡ T.Listed n end → probed (n % 1048576 * 1048576 + end % 1048576) u ≡ told (tabled s t)
+module _ (s t u : List ℕ) (x : Tabled) (p : filled x u ≡ tabled memoMost s t) where
+  pub listed-told : (n end : ℕ) → x ≡ T.Listed n end → probed (n % 1048576 * 1048576 + end % 1048576) u ≡ told (tabled memoMost s t)
   listed-told n end q = ap (λ (m : ℕ). probed m u) (sym (zero-add _)) ∙ sym (ap (λ y. told (filled y u)) q) ∙ ap told p
 
-  pub refused-told : (e : Refusal) → x ≡ T.Refused e → probed (e .number % 1048576 * 1099511627776 + e .place % 1048576) u ≡ told (tabled s t)
-  refused-told e q = ap (λ (m : ℕ). probed (e .number % 1048576 * 1099511627776 + m) u) (sym (zero-add _)) ∙ sym (ap (λ y. told (filled y u)) q) ∙ ap told p
+  pub refused-told : (e : Refusal) → x ≡ T.Refused e → (n : ℕ) → n ≡ numberOf e
+      → probed (n % 1048576 * 1099511627776 + e .place % 1048576) u ≡ told (tabled memoMost s t)
+  refused-told e q n h =
+      ap (λ (i : ℕ). probed (i % 1048576 * 1099511627776 + e .place % 1048576) u) h
+      ∙ ap (λ (m : ℕ). probed (numberOf e % 1048576 * 1099511627776 + m) u) (sym (zero-add _)) ∙ sym (ap (λ y. told (filled y u)) q) ∙ ap told p
 
 pub ruleset telling = (listed-told, refused-told)
 
@@ -26,7 +31,7 @@ module _ (x : Answer) (d : List ℕ) (f : Answer × List ℕ) (p : (x, d) ≡ f)
   pub done-told : (n : ℕ) → x ≡ A.Done n → (0 ∷ n ∷ [], d) ≡ toldFill f
   done-told n q = sym (ap (λ y. toldFill (y, d)) q) ∙ ap toldFill p
 
-  pub refused-fill : (e : Refusal) → x ≡ A.Refused e → (e .number ∷ e .place ∷ [], d) ≡ toldFill f
-  refused-fill e q = sym (ap (λ y. toldFill (y, d)) q) ∙ ap toldFill p
+  pub refused-fill : (e : Refusal) → x ≡ A.Refused e → (n : ℕ) → n ≡ numberOf e → (n ∷ e .place ∷ [], d) ≡ toldFill f
+  refused-fill e q n h = ap (λ (i : ℕ). (i ∷ e .place ∷ [], d)) h ∙ sym (ap (λ y. toldFill (y, d)) q) ∙ ap toldFill p
 
 pub ruleset filling = (done-told, refused-fill)

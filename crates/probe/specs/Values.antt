@@ -2,6 +2,7 @@
 use Prim.Native.Nat.{ℕ}
 use mathlib.Core.List.{List, [], _∷_, _++_}
 use lib.ListN.{length, take, drop, set}
+use Rattle.wire.specs.Numbers.{numberOf}
 use Rattle.element.specs.declared.OwnersFields.{OwnersFields}
 use Rattle.element.specs.declared.OutputFields.{OutputFields}
 use Rattle.element.specs.declared.OutputFields.the-variants as O
@@ -67,7 +68,7 @@ entryValues (E.Credential f) = (2, 7) ∷ credentialValues f
 -- 0 number, 1 place, 3 start, 4 end
 abbrev pub answerValues : EntryAnswer → List Value
 answerValues (A.Found f start end bytes) = (0, 0) ∷ (1, bytes) ∷ (3, start) ∷ (4, end) ∷ entryValues f
-answerValues (A.Refused e) = (0, e .number) ∷ (1, e .place) ∷ []
+answerValues (A.Refused e) = (0, numberOf e) ∷ (1, e .place) ∷ []
 
 pub record ProbedEntry : Type 0 where
   pub numbers : List ℕ

@@ -23,12 +23,15 @@ use transaction::Entry;
 // number × 2^40 + rows × 2^20 + place.
 #[no_mangle]
 pub extern "C" fn cellfacet_probe_table(bytes: &[u8], table: &mut [u32]) -> u64
-    ensures { λ r. ⌜ probed r (now (table .exit)) ≡ told (tabled (now (bytes .entry)) (now (table .entry))) ⌝ }
+    ensures { λ r. ⌜ probed r (now (table .exit)) ≡ told (tabled memoMost (now (bytes .entry)) (now (table .entry))) ⌝ }
 {
     match table::rows::check_table(bytes, table) {
         Tabled::Listed(rows, end) => (rows % 1048576) as u64 * 1048576 + (end % 1048576) as u64,
-        Tabled::Refused(refusal) => (refusal.number % 1048576) as u64 * 1099511627776
-            + (refusal.place % 1048576) as u64,
+        Tabled::Refused(refusal) => {
+            let rule = refusal.rule;
+            (wire::number_of(rule) % 1048576) as u64 * 1099511627776
+                + (refusal.place % 1048576) as u64
+        }
     }
 }
 
@@ -179,7 +182,8 @@ fn put_answer(numbers: &mut [u64], answer: EntryAnswer)
             put_entry(numbers, fields);
         }
         EntryAnswer::Refused(refusal) => {
-            put(numbers, 0, refusal.number as u64);
+            let rule = refusal.rule;
+            put(numbers, 0, wire::number_of(rule) as u64);
             put(numbers, 1, refusal.place as u64);
         }
     }
@@ -194,7 +198,7 @@ pub extern "C" fn cellfacet_probe_entry(
     asset: &mut [u8],
     txid: &mut [u8],
 )
-    ensures { λ _. ⌜ probedEntry (now (numbers .exit)) (now (asset .exit)) (now (txid .exit)) ≡ toldEntry (entryOf (now (bytes .entry)) n) (now (numbers .entry)) (now (asset .entry)) (now (txid .entry)) ⌝ }
+    ensures { λ _. ⌜ probedEntry (now (numbers .exit)) (now (asset .exit)) (now (txid .exit)) ≡ toldEntry (entryOf memoMost (now (bytes .entry)) n) (now (numbers .entry)) (now (asset .entry)) (now (txid .entry)) ⌝ }
 {
     let read = entry::entry(bytes, n);
     let answer = read.answer;
@@ -218,7 +222,8 @@ pub extern "C" fn cellfacet_probe_fill(
             *answer = [0, length as u64];
         }
         Answer::Refused(refusal) => {
-            *answer = [refusal.number as u64, refusal.place as u64];
+            let rule = refusal.rule;
+            *answer = [wire::number_of(rule) as u64, refusal.place as u64];
         }
     }
 }

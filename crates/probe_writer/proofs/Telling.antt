@@ -3,6 +3,7 @@ use Prim.Native.Nat.{ℕ}
 use mathlib.Core.Path.{_≡_, sym, ap, _∙_}
 use mathlib.Core.List.{List}
 use Rattle.wire.specs.declared.Refusal.{Refusal}
+use Rattle.wire.specs.Numbers.{numberOf}
 use Rattle.writer.specs.declared.Writer.{Writer}
 use Rattle.writer.specs.declared.Step.{Step}
 use Rattle.writer.specs.declared.Written.{Written}
@@ -17,8 +18,8 @@ toldAnswer w a = numbersOf w (writtenNumber a) (writtenPlace a)
 pub done-told : (w : Writer) (a : Written) (n : ℕ) → a ≡ W.Done n → numbersOf w 0 n ≡ toldAnswer w a
 done-told w a n q = sym (ap (toldAnswer w) q)
 
-pub refused-told : (w : Writer) (a : Written) (e : Refusal) → a ≡ W.Refused e → numbersOf w (e .number) (e .place) ≡ toldAnswer w a
-refused-told w a e q = sym (ap (toldAnswer w) q)
+pub refused-told : (w : Writer) (a : Written) (e : Refusal) → a ≡ W.Refused e → (n : ℕ) → n ≡ numberOf e → numbersOf w n (e .place) ≡ toldAnswer w a
+refused-told w a e q n h = ap (λ (i : ℕ). numbersOf w i (e .place)) h ∙ sym (ap (toldAnswer w) q)
 
 pub ruleset telling = (done-told, refused-told)
 

@@ -9,7 +9,14 @@ use Rattle.writer.specs.Steps.{Turn, writtenNumber, writtenPlace}
 -- 0 type, 1 parts begun, 2 bytes written, 3 place of the open list's count, 4 its elements, 5 place of the last of them
 abbrev pub writerOf : List ℕ → Writer
 writerOf n =
-    record { kind = getD n 0 0 % 4294967296; phase = getD n 1 0 % 4294967296; at = getD n 2 0; list = getD n 3 0; count = getD n 4 0 % 4294967296; last = getD n 5 0 }
+    record {
+      kind = getD n 0 0 % 4294967296;
+      phase = getD n 1 0 % 4294967296;
+      at = getD n 2 0;
+      list = getD n 3 0;
+      count = getD n 4 0 % 4294967296;
+      last = getD n 5 0;
+    }
 
 abbrev pub numbersOf : Writer → ℕ → ℕ → List ℕ
 numbersOf w number place = w .kind ∷ w .phase ∷ w .at ∷ w .list ∷ w .count ∷ w .last ∷ number ∷ place ∷ []

@@ -38,16 +38,19 @@ fn numbers_of(step: Step) -> [u64; 8]
             0,
             n as u64,
         ],
-        Written::Refused(refusal) => [
-            next.kind as u64,
-            next.phase as u64,
-            next.at as u64,
-            next.list as u64,
-            next.count as u64,
-            next.last as u64,
-            refusal.number as u64,
-            refusal.place as u64,
-        ],
+        Written::Refused(refusal) => {
+            let rule = refusal.rule;
+            [
+                next.kind as u64,
+                next.phase as u64,
+                next.at as u64,
+                next.list as u64,
+                next.count as u64,
+                next.last as u64,
+                wire::number_of(rule) as u64,
+                refusal.place as u64,
+            ]
+        }
     }
 }
 
@@ -69,7 +72,8 @@ pub extern "C" fn cellfacet_probe_start(
     network: u32,
     chain: &[u8; 32],
 )
-    ensures { λ _. ⌜ probed (now (numbers .exit)) (now (buf .exit)) ≡ toldTurn (start (avm memoMost) (writerOf (now (numbers .entry))) (now (buf .entry)) kind network (now (chain .entry))) ⌝ }
+    ensures { λ _. ⌜ probed (now (numbers .exit)) (now (buf .exit))
+        ≡ toldTurn (start (avm memoMost) (writerOf (now (numbers .entry))) (now (buf .entry)) kind network (now (chain .entry))) ⌝ }
 {
     let writer = writer_of(numbers);
     let step = writer.start(buf, kind, network, *chain);
@@ -86,7 +90,9 @@ pub extern "C" fn cellfacet_probe_output(
     threshold: u32,
     addresses: &[u8],
 )
-    ensures { λ _. ⌜ probed (now (numbers .exit)) (now (buf .exit)) ≡ toldTurn (addOutput (writerOf (now (numbers .entry))) (now (buf .entry)) (now (asset .entry)) amount locktime threshold (now (addresses .entry))) ⌝ }
+    ensures { λ _. ⌜ probed (now (numbers .exit)) (now (buf .exit))
+        ≡ toldTurn (addOutput memoMost (writerOf (now (numbers .entry))) (now (buf .entry))
+        (now (asset .entry)) amount locktime threshold (now (addresses .entry))) ⌝ }
 {
     let writer = writer_of(numbers);
     let step = writer.add_output(buf, *asset, amount, locktime, threshold, addresses);
@@ -103,7 +109,9 @@ pub extern "C" fn cellfacet_probe_input(
     amount: u64,
     indices: &[u32],
 )
-    ensures { λ _. ⌜ probed (now (numbers .exit)) (now (buf .exit)) ≡ toldTurn (addInput (writerOf (now (numbers .entry))) (now (buf .entry)) (now (txid .entry)) index (now (asset .entry)) amount (now (indices .entry))) ⌝ }
+    ensures { λ _. ⌜ probed (now (numbers .exit)) (now (buf .exit))
+        ≡ toldTurn (addInput memoMost (writerOf (now (numbers .entry))) (now (buf .entry))
+        (now (txid .entry)) index (now (asset .entry)) amount (now (indices .entry))) ⌝ }
 {
     let writer = writer_of(numbers);
     let step = writer.add_input(buf, *txid, index, *asset, amount, indices);
@@ -112,7 +120,8 @@ pub extern "C" fn cellfacet_probe_input(
 
 #[no_mangle]
 pub extern "C" fn cellfacet_probe_operation(numbers: &mut [u64; 8], buf: &mut [u8], bytes: &[u8])
-    ensures { λ _. ⌜ probed (now (numbers .exit)) (now (buf .exit)) ≡ toldTurn (addOperation (writerOf (now (numbers .entry))) (now (buf .entry)) (now (bytes .entry))) ⌝ }
+    ensures { λ _. ⌜ probed (now (numbers .exit)) (now (buf .exit))
+        ≡ toldTurn (addOperation memoMost (writerOf (now (numbers .entry))) (now (buf .entry)) (now (bytes .entry))) ⌝ }
 {
     let writer = writer_of(numbers);
     let step = writer.add_operation(buf, bytes);
@@ -121,7 +130,8 @@ pub extern "C" fn cellfacet_probe_operation(numbers: &mut [u64; 8], buf: &mut [u
 
 #[no_mangle]
 pub extern "C" fn cellfacet_probe_state(numbers: &mut [u64; 8], buf: &mut [u8], bytes: &[u8])
-    ensures { λ _. ⌜ probed (now (numbers .exit)) (now (buf .exit)) ≡ toldTurn (addInitialState (writerOf (now (numbers .entry))) (now (buf .entry)) (now (bytes .entry))) ⌝ }
+    ensures { λ _. ⌜ probed (now (numbers .exit)) (now (buf .exit))
+        ≡ toldTurn (addInitialState memoMost (writerOf (now (numbers .entry))) (now (buf .entry)) (now (bytes .entry))) ⌝ }
 {
     let writer = writer_of(numbers);
     let step = writer.add_initial_state(buf, bytes);
@@ -139,7 +149,8 @@ pub extern "C" fn cellfacet_probe_close(numbers: &mut [u64; 8], buf: &mut [u8])
 
 #[no_mangle]
 pub extern "C" fn cellfacet_probe_memo(numbers: &mut [u64; 8], buf: &mut [u8], bytes: &[u8])
-    ensures { λ _. ⌜ probed (now (numbers .exit)) (now (buf .exit)) ≡ toldTurn (putMemo (writerOf (now (numbers .entry))) (now (buf .entry)) (now (bytes .entry))) ⌝ }
+    ensures { λ _. ⌜ probed (now (numbers .exit)) (now (buf .exit))
+        ≡ toldTurn (putMemo memoMost (writerOf (now (numbers .entry))) (now (buf .entry)) (now (bytes .entry))) ⌝ }
 {
     let writer = writer_of(numbers);
     let step = writer.memo(buf, bytes);
@@ -148,7 +159,8 @@ pub extern "C" fn cellfacet_probe_memo(numbers: &mut [u64; 8], buf: &mut [u8], b
 
 #[no_mangle]
 pub extern "C" fn cellfacet_probe_name(numbers: &mut [u64; 8], buf: &mut [u8], bytes: &[u8])
-    ensures { λ _. ⌜ probed (now (numbers .exit)) (now (buf .exit)) ≡ toldTurn (putName (writerOf (now (numbers .entry))) (now (buf .entry)) (now (bytes .entry))) ⌝ }
+    ensures { λ _. ⌜ probed (now (numbers .exit)) (now (buf .exit))
+        ≡ toldTurn (putName memoMost (writerOf (now (numbers .entry))) (now (buf .entry)) (now (bytes .entry))) ⌝ }
 {
     let writer = writer_of(numbers);
     let step = writer.name(buf, bytes);
@@ -157,7 +169,8 @@ pub extern "C" fn cellfacet_probe_name(numbers: &mut [u64; 8], buf: &mut [u8], b
 
 #[no_mangle]
 pub extern "C" fn cellfacet_probe_symbol(numbers: &mut [u64; 8], buf: &mut [u8], bytes: &[u8])
-    ensures { λ _. ⌜ probed (now (numbers .exit)) (now (buf .exit)) ≡ toldTurn (putSymbol (writerOf (now (numbers .entry))) (now (buf .entry)) (now (bytes .entry))) ⌝ }
+    ensures { λ _. ⌜ probed (now (numbers .exit)) (now (buf .exit))
+        ≡ toldTurn (putSymbol memoMost (writerOf (now (numbers .entry))) (now (buf .entry)) (now (bytes .entry))) ⌝ }
 {
     let writer = writer_of(numbers);
     let step = writer.symbol(buf, bytes);
@@ -166,7 +179,8 @@ pub extern "C" fn cellfacet_probe_symbol(numbers: &mut [u64; 8], buf: &mut [u8],
 
 #[no_mangle]
 pub extern "C" fn cellfacet_probe_denomination(numbers: &mut [u64; 8], buf: &mut [u8], value: u8)
-    ensures { λ _. ⌜ probed (now (numbers .exit)) (now (buf .exit)) ≡ toldTurn (putDenomination (writerOf (now (numbers .entry))) (now (buf .entry)) value) ⌝ }
+    ensures { λ _. ⌜ probed (now (numbers .exit)) (now (buf .exit))
+        ≡ toldTurn (putDenomination memoMost (writerOf (now (numbers .entry))) (now (buf .entry)) value) ⌝ }
 {
     let writer = writer_of(numbers);
     let step = writer.denomination(buf, value);
@@ -175,7 +189,8 @@ pub extern "C" fn cellfacet_probe_denomination(numbers: &mut [u64; 8], buf: &mut
 
 #[no_mangle]
 pub extern "C" fn cellfacet_probe_chain(numbers: &mut [u64; 8], buf: &mut [u8], id: &[u8; 32])
-    ensures { λ _. ⌜ probed (now (numbers .exit)) (now (buf .exit)) ≡ toldTurn (putChain (writerOf (now (numbers .entry))) (now (buf .entry)) (now (id .entry))) ⌝ }
+    ensures { λ _. ⌜ probed (now (numbers .exit)) (now (buf .exit))
+        ≡ toldTurn (putChain memoMost (writerOf (now (numbers .entry))) (now (buf .entry)) (now (id .entry))) ⌝ }
 {
     let writer = writer_of(numbers);
     let step = writer.chain(buf, *id);

@@ -2,7 +2,7 @@
 use Prim.Native.Nat.{ℕ, _*_, _/_, _%_, _≤_, _<_, _^_}
 use mathlib.Core.Path.{_≡_, refl, sym, ap, ap₂, _∙_, subst}
 use mathlib.Core.Bool.{Bool, true, false≢true}
-use mathlib.Core.List.{List, [], _∷_, _++_, map, map-append}
+use mathlib.Core.List.{List, [], _∷_, _++_, map}
 use native.Mathlib.Omega.{arith}
 use native.Mathlib.Nat.{div-le-self, mul-mod-right, mul-div-cancel-left}
 use lib.ListN.{length, take, length-append}
@@ -14,35 +14,37 @@ use Rattle.wire.specs.Fields.{number, blob, constant}
 use Rattle.wire.specs.Sequence.{andThen, guard, guardAt, named, tag}
 use Rattle.wire.specs.Series.{Chain, items, left, above, notBelow, counted}
 use Rattle.element.specs.Owners.{Owners, owners}
-use Rattle.element.specs.Outputs.{amount, Output, secpMint, secpTransfer, nftMint, nftTransfer, transferBody, output, TransferableOutput, transferableOutput}
+use Rattle.element.specs.Outputs.{amount, Output, secpMint, secpTransfer, nftMint, nftTransfer}
+use Rattle.element.specs.Outputs.{transferBody, output, TransferableOutput, transferableOutput}
 use Rattle.string.specs.Strings.{denomination}
 use Rattle.element.specs.Inputs.{key, indices, spend, Input, inputAfter, input}
 use Rattle.element.specs.Operations as Operations
 use Rattle.element.specs.Operations.{InitialState, initialStateAfter, initialState}
 use Rattle.string.specs.Strings as Strings
-use Rattle.transaction.specs.Entries.{outputEntry, exportedEntry, inputEntry, importedEntry}
 use Rattle.transaction.specs.Slots.{slotAt, putAll}
 use Rattle.transaction.specs.Credentials.{layout, blanks}
 use Rattle.transaction.specs.Signed as Any
 use Rattle.transaction.specs.Signed.{mostBytes}
-use Rattle.transaction.specs.Plan.{Elements, listOf, Value, form}
-use Rattle.transaction.specs.Family.{Head, head, Signed, Unsigned, unsigned, wants, check, accepted}
-use Rattle.transaction.specs.Avm.{outputs, inputs, operations, states, kindCode, ownPlan, avm}
-use Rattle.transaction.specs.Answer.{memoMost}
+use Rattle.transaction.specs.Plan.{elementsOf, Plan, shut, end, field, many, ownPlan, kindCode}
+use Rattle.transaction.specs.Form.{listOf, Value, form}
+use Rattle.transaction.specs.Avm.{avm}
+use Rattle.transaction.specs.Family.{Family, Head, head, Signed, Unsigned, unsigned, wants, check, accepted}
 use Rattle.transaction.specs.declared.Kind.{Kind}
 use Rattle.transaction.specs.declared.Kind.the-variants as K
-use Rattle.transaction.specs.declared.Segment.{Segment}
-use Rattle.transaction.specs.declared.Segment.the-variants as S
+use Rattle.transaction.specs.declared.FieldName.the-variants as F
+use Rattle.transaction.specs.declared.ListName.{ListName}
+use Rattle.transaction.specs.declared.ListName.the-variants as L
 use Rattle.transaction.proofs.Signed.{parts-took}
-use Rattle.judge.specs.Given.{given, addressesOf, outputGiven, inputGiven}
+use Rattle.judge.specs.Given.{Given, given, addressesOf, outputGiven, inputGiven}
 use Rattle.judge.specs.Elements.{outputFront, outputHead, inputHead, numbersBytes}
 use Rattle.judge.proofs.FieldLaws.{string-write, text-write, denomination-write}
 use Rattle.judge.proofs.Outputs.{built-written}
 use Rattle.judge.proofs.Inputs.{written-input, length-numbers}
+use Rattle.due.specs.Plans.{listCode}
 use Rattle.writer.specs.declared.Writer.{Writer}
 use Rattle.writer.specs.declared.Written.the-variants as W
-use Rattle.writer.specs.Steps.{fresh, Turn, finish}
-use Rattle.run.specs.Runs.{Act, starts, puts, closes, finishes, Fair, AllFair, act, run, AllDone, elementActs, planActs, spelled}
+use Rattle.writer.specs.Steps.{fresh, Turn, putElementAt, dueFor, putElement, finish}
+use Rattle.run.specs.Runs.{Act, starts, putsField, putsElement, closes, finishes, Fair, AllFair, act, run, AllDone, elementActs, planActs, spelled}
 use Rattle.run.specs.Claims.{finishBehind}
 use Rattle.run.specs.Calls as C
 use Rattle.run.specs.Calls.{Call, Words, Id, Typed, AllTyped, call, calls}
@@ -50,38 +52,73 @@ use Rattle.run.proofs.Keeping.{list-inv}
 use Rattle.run.proofs.Finishing.{finished-is-accepted}
 use Rattle.run.proofs.Theorems.{avm-round-trip}
 
-abbrev pub actOf : Call → Act
-actOf (C.start kind network id) = starts kind network id
-actOf (C.output asset amount locktime threshold addresses) = puts S.Output (outputGiven asset amount locktime threshold addresses)
-actOf (C.input txid index asset amount indices) = puts S.Input (inputGiven txid index asset amount indices)
-actOf (C.operation b) = puts S.Operation (given b)
-actOf (C.state b) = puts S.State (given b)
-actOf (C.memo b) = puts S.Memo (given (Strings.memo memoMost .write b))
-actOf (C.name b) = puts S.Name (given (Strings.name .write b))
-actOf (C.symbol b) = puts S.Symbol (given (Strings.symbol .write b))
-actOf (C.chain c) = puts S.Chain (given (blob 32 .write c))
-actOf (C.denomination n) = puts S.Denomination (given (denomination .write n))
-actOf C.close = closes
-actOf C.finish = finishes
+-- ---- a call is a step
 
-pub call-is : (c : Call) (w : Writer) (s : List ℕ) → call c w s ≡ act (avm memoMost) (actOf c) w s
-call-is (C.start kind network id) w s = refl
-call-is (C.output asset amount locktime threshold addresses) w s = refl
-call-is (C.input txid index asset amount indices) w s = refl
-call-is (C.operation b) w s = refl
-call-is (C.state b) w s = refl
-call-is (C.memo b) w s = refl
-call-is (C.name b) w s = refl
-call-is (C.symbol b) w s = refl
-call-is (C.chain c) w s = refl
-call-is (C.denomination n) w s = refl
-call-is C.close w s = refl
-call-is C.finish w s = refl
+module _ (most : ℕ) where
+  abbrev actOf : Call → Act
+  actOf (C.start kind network id) = starts kind network id
+  actOf (C.output asset amount locktime threshold addresses) = putsElement L.Output (outputGiven asset amount locktime threshold addresses)
+  actOf (C.input txid index asset amount indices) = putsElement L.Input (inputGiven txid index asset amount indices)
+  actOf (C.operation b) = putsElement L.Operation (given b)
+  actOf (C.state b) = putsElement L.State (given b)
+  actOf (C.memo b) = putsField F.Memo (given (Strings.memo most .write b))
+  actOf (C.name b) = putsField F.Name (given (Strings.name .write b))
+  actOf (C.symbol b) = putsField F.Symbol (given (Strings.symbol .write b))
+  actOf (C.chain c) = putsField F.Chain (given (blob 32 .write c))
+  actOf (C.denomination n) = putsField F.Denomination (given (denomination .write n))
+  actOf C.close = closes
+  actOf C.finish = finishes
 
-pub calls-run : (l : List Call) (w : Writer) (s : List ℕ) → calls l w s ≡ run (avm memoMost) (map actOf l) w s
-unfolding calls run
-calls-run [] w s = refl
-calls-run (c ∷ l) w s = ap (λ (t : Turn). calls l (t .step .next) (t .buffer)) (call-is c w s) ∙ calls-run l (act (avm memoMost) (actOf c) w s .step .next) (act (avm memoMost) (actOf c) w s .buffer)
+  -- whatever state and buffer it is given
+  abbrev Does : Call → Act → Type 0
+  Does c a = (w : Writer) (s : List ℕ) → call most c w s ≡ act (avm most) a w s
+
+  call-is : (c : Call) → Does c (actOf c)
+  call-is (C.start kind network id) w s = refl
+  call-is (C.output asset amount locktime threshold addresses) w s = refl
+  call-is (C.input txid index asset amount indices) w s = refl
+  call-is (C.operation b) w s = refl
+  call-is (C.state b) w s = refl
+  call-is (C.memo b) w s = refl
+  call-is (C.name b) w s = refl
+  call-is (C.symbol b) w s = refl
+  call-is (C.chain c) w s = refl
+  call-is (C.denomination n) w s = refl
+  call-is C.close w s = refl
+  call-is C.finish w s = refl
+
+  -- each call is the step at its place
+  abbrev Do : List Call → List Act → Type 0
+  Do [] [] = Unit {0}
+  Do [] (a ∷ m) = ⊥
+  Do (c ∷ l) [] = ⊥
+  Do (c ∷ l) (a ∷ m) = Does c a × Do l m
+
+  do-own : (l : List Call) → Do l (map actOf l)
+  do-own [] = tt
+  do-own (c ∷ l) = (call-is c, do-own l)
+
+  do-run : (l : List Call) (m : List Act) → Do l m → (w : Writer) (s : List ℕ) → calls most l w s ≡ run (avm most) m w s
+  unfolding calls run
+  do-run [] [] h w s = refl
+  do-run [] (a ∷ m) h w s = absurd h
+  do-run (c ∷ l) [] h w s = absurd h
+  do-run (c ∷ l) (a ∷ m) (h, hs) w s =
+      let t : Turn = act (avm most) a w s in
+      ap (λ (t : Turn). calls most l (t .step .next) (t .buffer)) (h w s) ∙ do-run l m hs (t .step .next) (t .buffer)
+
+  do-done : (l : List Call) (m : List Act) → Do l m → (w : Writer) (s : List ℕ) → AllDone (avm most) m w s → C.AllCallsDone most l w s
+  unfolding AllDone C.AllCallsDone
+  do-done [] [] h w s d = tt
+  do-done [] (a ∷ m) h w s d = absurd h
+  do-done (c ∷ l) [] h w s d = absurd h
+  do-done (c ∷ l) (a ∷ m) (h, hs) w s (d, ds) =
+      let t : Turn = act (avm most) a w s in
+      subst (λ (t : Turn). (t .step .answer ≡ W.Done (t .step .next .at)) × C.AllCallsDone most l (t .step .next) (t .buffer)) (sym (h w s))
+      (d, do-done l m hs (t .step .next) (t .buffer) ds)
+
+  do-finish : (l : List Call) (m : List Act) → Do l m → (s : List ℕ) → C.finishBehind most l s ≡ finishBehind (avm most) m s
+  do-finish l m h s = ap (λ (x : Writer × List ℕ). finish (avm most) (x .0) (x .1)) (do-run l m h fresh s)
 
 -- ---- what they are given is bytes
 
@@ -95,50 +132,55 @@ bytes-counted : (w n : ℕ) (b : List ℕ) → n < 256 ^ w → Bytes b → Bytes
 bytes-counted w n b h k = bytes-append (digits w n) b (bytes-digits w n h) k
 
 -- where the addresses are whole an output is its head and these
-bytes-output : (asset : List ℕ) (amount locktime threshold : ℕ) (addresses : List ℕ) → Typed (C.output asset amount locktime threshold addresses) → length addresses % 20 ≡ 0
-    → length (outputGiven asset amount locktime threshold addresses .bytes) ≤ mostBytes → Bytes (outputGiven asset amount locktime threshold addresses .bytes)
+bytes-output : (asset : List ℕ) (amount locktime threshold : ℕ) (addresses : List ℕ) → Typed (C.output asset amount locktime threshold addresses)
+    → length addresses % 20 ≡ 0 → length (outputGiven asset amount locktime threshold addresses .bytes) ≤ mostBytes
+    → Bytes (outputGiven asset amount locktime threshold addresses .bytes)
 unfolding outputHead outputFront
 bytes-output asset amount locktime threshold addresses ((l, ba), n, t, h, bs) w k =
     let e = built-written asset amount locktime threshold addresses w in
     let c : ℕ = length addresses / 20 in
-    let few : c < 256 ^ 4 = omega (arith, ap length e, length-append (outputHead asset amount locktime threshold c) addresses, div-le-self (length addresses) 20) in
+    let few : c < 256 ^ 4 =
+    omega (arith, ap length e, length-append (outputHead asset amount locktime threshold c) addresses, div-le-self (length addresses) 20) in
     subst Bytes e
     (bytes-append (asset ++ digits 4 7 ++ digits 8 amount ++ digits 8 locktime ++ digits 4 threshold ++ digits 4 c) addresses
     (bytes-append (asset ++ digits 4 7 ++ digits 8 amount ++ digits 8 locktime ++ digits 4 threshold) (digits 4 c)
     (bytes-append (asset ++ digits 4 7 ++ digits 8 amount ++ digits 8 locktime) (digits 4 threshold)
     (bytes-append (asset ++ digits 4 7 ++ digits 8 amount) (digits 8 locktime)
-    (bytes-append (asset ++ digits 4 7) (digits 8 amount) (bytes-append asset (digits 4 7) ba (bytes-digits 4 7 (omega arith))) (bytes-digits 8 amount n)) (bytes-digits 8 locktime t))
-    (bytes-digits 4 threshold h)) (bytes-digits 4 c few)) bs)
+    (bytes-append (asset ++ digits 4 7) (digits 8 amount) (bytes-append asset (digits 4 7) ba (bytes-digits 4 7 (omega arith))) (bytes-digits 8 amount n))
+    (bytes-digits 8 locktime t)) (bytes-digits 4 threshold h)) (bytes-digits 4 c few)) bs)
 
-pub fair-call : (c : Call) → Typed c → Fair (actOf c)
+fair-call : (most : ℕ) (c : Call) → Typed c → Fair (actOf most c)
 unfolding blob inputHead
-fair-call (C.start kind network id) (a, b, (l, bs)) = (a, b, l, bs)
-fair-call (C.output asset amount locktime threshold addresses) typed = λ w k. bytes-output asset amount locktime threshold addresses typed (eqb-true (length addresses % 20) 0 w) k
-fair-call (C.input txid index asset amount indices) ((l, bt), i, (m, ba), n, ws) = λ w k.
+fair-call most (C.start kind network id) (a, b, (l, bs)) = (a, b, l, bs)
+fair-call most (C.output asset amount locktime threshold addresses) typed = λ w k.
+    bytes-output asset amount locktime threshold addresses typed (eqb-true (length addresses % 20) 0 w) k
+fair-call most (C.input txid index asset amount indices) ((l, bt), i, (m, ba), fits, ws) = λ w k.
     let e = written-input txid index asset amount indices in
-    let few : length indices < 256 ^ 4 = omega (arith, ap length e, length-append (inputHead txid index asset amount (length indices)) (numbersBytes indices), length-numbers indices) in
+    let n = length-append (inputHead txid index asset amount (length indices)) (numbersBytes indices) in
+    let few : length indices < 256 ^ 4 = omega (arith, ap length e, length-numbers indices) in
     subst Bytes (sym e)
     (bytes-append (txid ++ digits 4 index ++ asset ++ digits 4 5 ++ digits 8 amount ++ digits 4 (length indices)) (numbersBytes indices)
     (bytes-append (txid ++ digits 4 index ++ asset ++ digits 4 5 ++ digits 8 amount) (digits 4 (length indices))
     (bytes-append (txid ++ digits 4 index ++ asset ++ digits 4 5) (digits 8 amount)
     (bytes-append (txid ++ digits 4 index ++ asset) (digits 4 5)
-    (bytes-append (txid ++ digits 4 index) asset (bytes-append txid (digits 4 index) bt (bytes-digits 4 index i)) ba) (bytes-digits 4 5 (omega arith))) (bytes-digits 8 amount n)) (bytes-digits 4 (length indices) few))
+    (bytes-append (txid ++ digits 4 index) asset (bytes-append txid (digits 4 index) bt (bytes-digits 4 index i)) ba) (bytes-digits 4 5 (omega arith)))
+    (bytes-digits 8 amount fits)) (bytes-digits 4 (length indices) few))
     (bytes-numbers indices ws))
-fair-call (C.operation b) bs = λ w k. bs
-fair-call (C.state b) bs = λ w k. bs
-fair-call (C.memo b) bs = λ w k.
-    let e = string-write 4 256 b in
+fair-call most (C.operation b) bs = λ w k. bs
+fair-call most (C.state b) bs = λ w k. bs
+fair-call most (C.memo b) bs = λ w k.
+    let e = string-write 4 most b in
     subst Bytes (sym e) (bytes-counted 4 (length b) b (omega (arith, ap length e, length-append (digits 4 (length b)) b)) bs)
-fair-call (C.name b) bs = λ w k.
+fair-call most (C.name b) bs = λ w k.
     let e = text-write 128 b in
     subst Bytes (sym e) (bytes-counted 2 (length b) b (omega (arith, ap length e, length-append (digits 2 (length b)) b, length-digits 2 (length b))) bs)
-fair-call (C.symbol b) bs = λ w k.
+fair-call most (C.symbol b) bs = λ w k.
     let e = text-write 4 b in
     subst Bytes (sym e) (bytes-counted 2 (length b) b (omega (arith, ap length e, length-append (digits 2 (length b)) b, length-digits 2 (length b))) bs)
-fair-call (C.chain c) (l, bs) = λ w k. bs
-fair-call (C.denomination n) h = λ w k. subst Bytes (sym (denomination-write n)) (bytes-counted 1 n [] h tt)
-fair-call C.close h = tt
-fair-call C.finish h = tt
+fair-call most (C.chain c) (l, bs) = λ w k. bs
+fair-call most (C.denomination n) h = λ w k. subst Bytes (sym (denomination-write n)) (bytes-counted 1 n [] h tt)
+fair-call most C.close h = tt
+fair-call most C.finish h = tt
 
 -- ---- the calls that a reading spells are the steps that it spells
 
@@ -155,7 +197,9 @@ joined-long (a ∷ l) (h, hs) = omega (arith, length-append a (C.joined l), join
 joined-back : (l : List (List ℕ)) → Twenties l → addressesOf (length l) (C.joined l) ≡ l
 unfolding C.joined addressesOf
 joined-back [] h = refl
-joined-back (a ∷ l) (h, hs) = ap₂ (λ (x : List ℕ) (y : List (List ℕ)). x ∷ y) (take-at a (C.joined l) 20 h) (ap (addressesOf (length l)) (drop-at a (C.joined l) 20 h) ∙ joined-back l hs)
+joined-back (a ∷ l) (h, hs) =
+    ap₂ (λ (x : List ℕ) (y : List (List ℕ)). x ∷ y) (take-at a (C.joined l) 20 h)
+    (ap (addressesOf (length l)) (drop-at a (C.joined l) 20 h) ∙ joined-back l hs)
 
 chain-twenties : (p : List ℕ) (l : List (List ℕ)) → Chain (above (blob 20)) (left (above (blob 20))) p l → Twenties l
 unfolding guard blob
@@ -167,108 +211,128 @@ unfolding owners named andThen guard items
 owners-twenties o g = chain-twenties [] (o .addresses) (g .1 .1 .1)
 
 output-own : (asset : List ℕ) (amount : ℕ) (o : Owners) → Twenties (o .addresses)
-    → outputGiven asset amount (o .locktime) (o .threshold) (C.joined (o .addresses)) ≡ given (transferableOutput .write record { asset = asset; output = (secpTransfer, (amount, o)) })
+    → outputGiven asset amount (o .locktime) (o .threshold) (C.joined (o .addresses))
+    ≡ given (transferableOutput .write record { asset = asset; output = (secpTransfer, (amount, o)) })
 output-own asset amount o h =
     let l : List (List ℕ) = o .addresses in
     let long : length (C.joined l) ≡ 20 * length l = joined-long l h in
     let whole : length (C.joined l) % 20 ≡ 0 = ap (λ (n : ℕ). n % 20) long ∙ mul-mod-right 20 (length l) in
     let count : length (C.joined l) / 20 ≡ length l = ap (λ (n : ℕ). n / 20) long ∙ mul-div-cancel-left (length l) (omega arith) in
-    ap₂ (λ (t : Bool) (m : List (List ℕ)). record { whole = t; bytes = transferableOutput .write record { asset = asset; output = (secpTransfer, (amount, record { locktime = o .locktime; threshold = o .threshold; addresses = m })) } })
+    ap₂ (λ (t : Bool) (m : List (List ℕ)).
+    let p : Owners = record { locktime = o .locktime; threshold = o .threshold; addresses = m } in
+    record { whole = t; bytes = transferableOutput .write record { asset = asset; output = (secpTransfer, (amount, p)) } })
     (eq-eqb (length (C.joined l) % 20) 0 whole) (ap (λ (n : ℕ). addressesOf n (C.joined l)) count ∙ joined-back l h)
 
-of-type : (asset : List ℕ) (o : Output) → output (secpTransfer ∷ []) .Good o → actOf (C.ofOutput asset o) ≡ puts S.Output (given (transferableOutput .write record { asset = asset; output = o }))
-unfolding output tag andThen transferBody
-of-type asset (secpMint, o) h = absurd (false≢true (h .0 .1))
-of-type asset (secpTransfer, (amount, o)) h = ap (puts S.Output) (output-own asset amount o (owners-twenties o (h .1 .1)))
-of-type asset (nftMint, o) h = absurd (false≢true (h .0 .1))
-of-type asset (nftTransfer, o) h = absurd (false≢true (h .0 .1))
+-- lists of the same number have their elements by the same step
+same-step : (F : Family) (l m : ListName) → listCode l ≡ listCode m → (w : Writer) (s : List ℕ) (g : Given) → putElement F w s l g ≡ putElement F w s m g
+unfolding putElement putElementAt
+same-step F l m e w s g = go (dueFor F w)
+  where
+    go : (q : Plan) → putElementAt q w s l g ≡ putElementAt q w s m g
+    go shut = refl
+    go end = refl
+    go (field f q) = refl
+    go (many k least q) = rw e
 
-output-act : (p : List ℕ) (v : TransferableOutput) → notBelow transferableOutput p .Good v → actOf (C.outputCall v) ≡ puts S.Output (given (notBelow transferableOutput p .write v))
-unfolding guard transferableOutput named andThen
-output-act p v g = of-type (v .asset) (v .output) (g .0 .1)
+module _ (most : ℕ) where
+  of-type : (asset : List ℕ) (o : Output) → output (secpTransfer ∷ []) .Good o
+      → Does most (C.ofOutput asset o) (putsElement L.Output (given (transferableOutput .write record { asset = asset; output = o })))
+  unfolding output tag andThen transferBody
+  of-type asset (secpMint, o) h = absurd (false≢true (h .0 .1))
+  of-type asset (secpTransfer, (amount, o)) h = λ w s.
+      ap (putElement (avm most) w s L.Output) (output-own asset amount o (owners-twenties o (h .1 .1)))
+  of-type asset (nftMint, o) h = absurd (false≢true (h .0 .1))
+  of-type asset (nftTransfer, o) h = absurd (false≢true (h .0 .1))
 
-input-act : (p : List ℕ) (v : Input) → actOf (C.inputCall v) ≡ puts S.Input (given (input p .write v))
-unfolding inputAfter guard
-input-act p v = refl
+  -- base or exported
+  output-does : (l : ListName) → listCode L.Output ≡ listCode l → (p : List ℕ) (v : TransferableOutput) → notBelow transferableOutput p .Good v
+      → Does most (C.outputCall v) (putsElement l (given (notBelow transferableOutput p .write v)))
+  unfolding guard transferableOutput named andThen
+  output-does l e p v g w s =
+      of-type (v .asset) (v .output) (g .0 .1) w s ∙ same-step (avm most) L.Output l e w s (given (notBelow transferableOutput p .write v))
 
-state-act : (p : List ℕ) (v : InitialState) → actOf (C.stateCall v) ≡ puts S.State (given (initialState p .write v))
-unfolding initialStateAfter guard
-state-act p v = refl
+  -- base or imported
+  input-does : (l : ListName) → listCode L.Input ≡ listCode l → (p : List ℕ) (v : Input) → input p .Good v
+      → Does most (C.inputCall v) (putsElement l (given (input p .write v)))
+  unfolding inputAfter guard
+  input-does l e p v g w s = same-step (avm most) L.Input l e w s (given (input p .write v))
 
--- a list's calls are its steps
-module _ (l : Segment) (E : Elements) (f : E .Element → Call) (one : (p : List ℕ) (v : E .Element) → E .element p .Good v → actOf (f v) ≡ puts l (given (E .element p .write v))) where
-  elements-acts : (p : List ℕ) (vs : List (E .Element)) → Chain (E .element) (left (E .element)) p vs → map actOf (map f vs) ≡ elementActs l E p vs
-  unfolding elementActs
-  elements-acts p [] h = refl
-  elements-acts p (v ∷ vs) (h, hs) = ap₂ (λ (a : Act) (x : List Act). a ∷ x) (one p v h) (elements-acts (E .element p .write v) vs hs)
+  state-does : (p : List ℕ) (v : InitialState) → initialState p .Good v → Does most (C.stateCall v) (putsElement L.State (given (initialState p .write v)))
+  unfolding initialStateAfter guard
+  state-does p v g w s = refl
 
-  list-acts : (vs : List (E .Element)) → listOf E .Good vs → (more : List Call) (acts : List Act) → map actOf more ≡ acts → map actOf (C.listCalls f vs more) ≡ elementActs l E [] vs ++ (closes ∷ acts)
-  list-acts vs g more acts e =
-      map-append actOf (map f vs) (C.close ∷ more) ∙ ap₂ (λ (x y : List Act). x ++ (closes ∷ y)) (elements-acts [] vs (list-inv E vs g .0)) e
+  -- a list's calls are its steps
+  module _ (l : ListName) (f : elementsOf l .Element → Call)
+      (one : (p : List ℕ) (v : elementsOf l .Element) → elementsOf l .element p .Good v
+      → Does most (f v) (putsElement l (given (elementsOf l .element p .write v)))) where
+    elements-do : (p : List ℕ) (vs : List (elementsOf l .Element)) → Chain (elementsOf l .element) (left (elementsOf l .element)) p vs
+        → (more : List Call) (acts : List Act) → Do most more acts → Do most (map f vs ++ more) (elementActs l p vs ++ acts)
+    unfolding elementActs
+    elements-do p [] h more acts k = k
+    elements-do p (v ∷ vs) (h, hs) more acts k = (one p v h, elements-do (elementsOf l .element p .write v) vs hs more acts k)
 
-own-acts : (k : Kind) (v : Value (ownPlan k)) → form (ownPlan k) .Good v → map actOf (C.ownCalls k v) ≡ planActs (ownPlan k) v
-unfolding form andThen planActs
-own-acts K.Base v g = refl
-own-acts K.CreateAsset (a, (b, (d, (l, e)))) (_, (_, (_, (g, _)))) =
-    ap (λ (x : List Act). actOf (C.name a) ∷ (actOf (C.symbol b) ∷ (actOf (C.denomination d) ∷ x))) (list-acts S.State states C.stateCall (λ p v h. state-act p v) l g [] [] refl)
-own-acts K.Operation (l, e) (g, _) = list-acts S.Operation operations C.operationCall (λ p v h. refl) l g [] [] refl
-own-acts K.Import (c, (l, e)) (_, (g, _)) = ap (λ (x : List Act). actOf (C.chain c) ∷ x) (list-acts S.Input (inputs 1 importedEntry) C.inputCall (λ p v h. input-act p v) l g [] [] refl)
-own-acts K.Export (c, (l, e)) (_, (g, _)) = ap (λ (x : List Act). actOf (C.chain c) ∷ x) (list-acts S.Output (outputs 1 exportedEntry) C.outputCall output-act l g [] [] refl)
+    list-do : (least : ℕ) (vs : List (elementsOf l .Element)) → listOf l least .Good vs → (more : List Call) (acts : List Act) → Do most more acts
+        → Do most (C.listCalls f vs more) (elementActs l [] vs ++ (closes ∷ acts))
+    list-do least vs g more acts k =
+        elements-do [] vs (list-inv (elementsOf l) least vs g .0) (C.close ∷ more) (closes ∷ acts) (call-is most C.close, k)
 
-pub reading-acts : (u : Unsigned (avm memoMost)) → unsigned (avm memoMost) .Good u → map actOf (C.readingCalls u) ≡ spelled (avm memoMost) u
-unfolding unsigned andThen form spelled planActs
-reading-acts (h, (outs, (ins, (note, own)))) (_, (go, (gi, (_, gw)))) =
-    ap (λ (x : List Act). starts (kindCode (h .kind)) (h .network) (h .chain) ∷ x)
-    (list-acts S.Output (outputs 0 outputEntry) C.outputCall output-act outs go (C.listCalls C.inputCall ins (C.memo note ∷ C.ownCalls (h .kind) own)) _
-    (list-acts S.Input (inputs 0 inputEntry) C.inputCall (λ p v h. input-act p v) ins gi (C.memo note ∷ C.ownCalls (h .kind) own) _
-    (ap (λ (x : List Act). actOf (C.memo note) ∷ x) (own-acts (h .kind) own gw))))
+  own-do : (k : Kind) (v : Value (ownPlan k)) → form most (ownPlan k) .Good v → Do most (C.ownCalls k v) (planActs most (ownPlan k) v)
+  unfolding form andThen planActs
+  own-do K.Base v g = tt
+  own-do K.CreateAsset (a, (b, (d, (l, e)))) (_, (_, (_, (g, _)))) =
+      (call-is most (C.name a), (call-is most (C.symbol b), (call-is most (C.denomination d), list-do L.State C.stateCall state-does 1 l g [] [] tt)))
+  own-do K.Operation (l, e) (g, _) = list-do L.Operation C.operationCall (λ p v h w s. refl) 1 l g [] [] tt
+  own-do K.Import (c, (l, e)) (_, (g, _)) = (call-is most (C.chain c), list-do L.Imported C.inputCall (input-does L.Imported refl) 1 l g [] [] tt)
+  own-do K.Export (c, (l, e)) (_, (g, _)) = (call-is most (C.chain c), list-do L.Exported C.outputCall (output-does L.Exported refl) 1 l g [] [] tt)
 
--- ---- the claims, of the methods
+  reading-do : (u : Unsigned (avm most)) → unsigned (avm most) .Good u → Do most (C.readingCalls most u) (spelled (avm most) u)
+  unfolding unsigned andThen form spelled planActs
+  reading-do (h, (outs, (ins, (note, own)))) (_, (go, (gi, (_, gw)))) = (
+    call-is most (C.start (kindCode (h .kind)) (h .network) (h .chain)),
+    list-do L.Output C.outputCall (output-does L.Output refl) 0 outs go _ _
+        (list-do L.Input C.inputCall (input-does L.Input refl) 0 ins gi _ _ (call-is most (C.memo note), own-do (h .kind) own gw)),
+  )
 
-all-fair : (l : List Call) → AllTyped l → AllFair (map actOf l)
-all-fair [] h = tt
-all-fair (c ∷ l) (h, hs) = (fair-call c h, all-fair l hs)
+  -- ---- the claims, of the methods
 
-same-finish : (l : List Call) (s : List ℕ) → C.finishBehind l s ≡ finishBehind (avm memoMost) (map actOf l) s
-same-finish l s = ap (λ (x : Writer × List ℕ). finish (avm memoMost) (x .0) (x .1)) (calls-run l fresh s)
+  all-fair : (l : List Call) → AllTyped l → AllFair (map (actOf most) l)
+  all-fair [] h = tt
+  all-fair (c ∷ l) (h, hs) = (fair-call most c h, all-fair l hs)
 
-pub methods-finish : C.MethodsFinish
-methods-finish =
-    record {
-      is-accepted = λ l t s n h.
-          subst (λ (x : Turn). accepted (avm memoMost) (take n (x .buffer)) ≡ true) (sym (same-finish l s))
-          (finished-is-accepted (avm memoMost) .is-accepted (map actOf l) (all-fair l t) s n (sym (ap (λ (x : Turn). x .step .answer) (same-finish l s)) ∙ h));
-      refused-by = λ l t s e h. finished-is-accepted (avm memoMost) .refused-by (map actOf l) (all-fair l t) s e (sym (ap (λ (x : Turn). x .step .answer) (same-finish l s)) ∙ h);
-    }
+  pub methods-finish : C.MethodsFinish most
+  methods-finish =
+      record {
+        is-accepted = λ l t s n h.
+            let same = do-finish most l (map (actOf most) l) (do-own most l) s in
+            subst (λ (x : Turn). accepted (avm most) (take n (x .buffer)) ≡ true) (sym same)
+            (finished-is-accepted (avm most) .is-accepted (map (actOf most) l) (all-fair l t) s n (sym (ap (λ (x : Turn). x .step .answer) same) ∙ h));
+        refused-by = λ l t s e h.
+            let same = do-finish most l (map (actOf most) l) (do-own most l) s in
+            finished-is-accepted (avm most) .refused-by (map (actOf most) l) (all-fair l t) s e (sym (ap (λ (x : Turn). x .step .answer) same) ∙ h);
+      }
 
-all-done : (l : List Call) (w : Writer) (s : List ℕ) → AllDone (avm memoMost) (map actOf l) w s → C.AllCallsDone l w s
-unfolding AllDone C.AllCallsDone
-all-done [] w s h = tt
-all-done (c ∷ l) w s (h, hs) =
-    subst (λ (t : Turn). (t .step .answer ≡ W.Done (t .step .next .at)) × C.AllCallsDone l (t .step .next) (t .buffer)) (sym (call-is c w s))
-    (h, all-done l (act (avm memoMost) (actOf c) w s .step .next) (act (avm memoMost) (actOf c) w s .buffer) hs)
+  module _ (d : List ℕ) (v : Signed (avm most)) (n : ℕ) (bs : Bytes d) (e : check (avm most) d ≡ took v n) (s : List ℕ) (room : length d ≤ length s) where
+    spells : Do most (C.readingCalls most (v .0)) (spelled (avm most) (v .0))
+    spells = reading-do (v .0) (parts-took (unsigned (avm most)) (wants (avm most)) d v n bs e .unsigned-good)
 
-module _ (d : List ℕ) (v : Signed (avm memoMost)) (n : ℕ) (bs : Bytes d) (e : check (avm memoMost) d ≡ took v n) (s : List ℕ) (room : length d ≤ length s) where
-  spells : map actOf (C.readingCalls (v .0)) ≡ spelled (avm memoMost) (v .0)
-  spells = reading-acts (v .0) (parts-took (unsigned (avm memoMost)) (wants (avm memoMost)) d v n bs e .unsigned-good)
+    ends-alike : C.finishBehind most (C.readingCalls most (v .0)) s ≡ finishBehind (avm most) (spelled (avm most) (v .0)) s
+    ends-alike = do-finish most (C.readingCalls most (v .0)) (spelled (avm most) (v .0)) spells s
 
-  ends-alike : C.finishBehind (C.readingCalls (v .0)) s ≡ finishBehind (avm memoMost) (spelled (avm memoMost) (v .0)) s
-  ends-alike = same-finish (C.readingCalls (v .0)) s ∙ ap (λ (l : List Act). finishBehind (avm memoMost) l s) spells
+    done : C.AllCallsDone most (C.readingCalls most (v .0)) fresh s
+    done = do-done most (C.readingCalls most (v .0)) (spelled (avm most) (v .0)) spells fresh s (avm-round-trip most .steps-done d v n bs e s room)
 
-  done : C.AllCallsDone (C.readingCalls (v .0)) fresh s
-  done = all-done (C.readingCalls (v .0)) fresh s (subst (λ (l : List Act). AllDone (avm memoMost) l fresh s) (sym spells) (avm-round-trip .steps-done d v n bs e s room))
+    finish-done : C.finishBehind most (C.readingCalls most (v .0)) s .step .answer ≡ W.Done (length d)
+    finish-done = ap (λ (x : Turn). x .step .answer) ends-alike ∙ avm-round-trip most .finish-done d v n bs e s room
 
-  finish-done : C.finishBehind (C.readingCalls (v .0)) s .step .answer ≡ W.Done (length d)
-  finish-done = ap (λ (x : Turn). x .step .answer) ends-alike ∙ avm-round-trip .finish-done d v n bs e s room
+    pub blank-written : take (length d) (C.finishBehind most (C.readingCalls most (v .0)) s .buffer)
+        ≡ Any.assemble (unsigned (avm most)) (wants (avm most)) (v .0) (blanks (layout (wants (avm most) (v .0))))
+    blank-written = ap (λ (x : Turn). take (length d) (x .buffer)) ends-alike ∙ avm-round-trip most .blank-written d v n bs e s room
 
-  pub blank-written : take (length d) (C.finishBehind (C.readingCalls (v .0)) s .buffer)
-      ≡ Any.assemble (unsigned (avm memoMost)) (wants (avm memoMost)) (v .0) (blanks (layout (wants (avm memoMost) (v .0))))
-  blank-written = ap (λ (x : Turn). take (length d) (x .buffer)) ends-alike ∙ avm-round-trip .blank-written d v n bs e s room
-
-  filled : putAll (Any.slotsAt (unsigned (avm memoMost)) (wants (avm memoMost)) d) (slotAt d) (take (length d) (C.finishBehind (C.readingCalls (v .0)) s .buffer)) ≡ d
-  filled =
-      ap (λ (x : Turn). putAll (Any.slotsAt (unsigned (avm memoMost)) (wants (avm memoMost)) d) (slotAt d) (take (length d) (x .buffer))) ends-alike
-      ∙ avm-round-trip .filled d v n bs e s room
+    filled : putAll (Any.slotsAt (unsigned (avm most)) (wants (avm most)) d) (slotAt d)
+        (take (length d) (C.finishBehind most (C.readingCalls most (v .0)) s .buffer)) ≡ d
+    filled =
+        ap (λ (x : Turn). putAll (Any.slotsAt (unsigned (avm most)) (wants (avm most)) d) (slotAt d) (take (length d) (x .buffer))) ends-alike
+        ∙ avm-round-trip most .filled d v n bs e s room
 
 -- ---- what is spelled has the types of the methods' arguments
 
@@ -277,13 +341,17 @@ append-typed [] m h k = k
 append-typed (c ∷ l) m (h, hs) k = (h, append-typed l m hs k)
 
 -- a list's calls, where each element's call is typed
-module _ (E : Elements) (f : E .Element → Call) (one : (p : List ℕ) (v : E .Element) → E .element p .Good v → Typed (f v)) where
-  elements-typed : (p : List ℕ) (vs : List (E .Element)) → Chain (E .element) (left (E .element)) p vs → AllTyped (map f vs)
+module _ (l : ListName) (f : elementsOf l .Element → Call)
+    (one : (p : List ℕ) (v : elementsOf l .Element) → elementsOf l .element p .Good v → Typed (f v)) where
+  elements-typed : (p : List ℕ) (vs : List (elementsOf l .Element)) → Chain (elementsOf l .element) (left (elementsOf l .element)) p vs
+      → AllTyped (map f vs)
   elements-typed p [] h = tt
-  elements-typed p (v ∷ vs) (h, hs) = (one p v h, elements-typed (E .element p .write v) vs hs)
+  elements-typed p (v ∷ vs) (h, hs) = (one p v h, elements-typed (elementsOf l .element p .write v) vs hs)
 
-  list-typed : (vs : List (E .Element)) → listOf E .Good vs → (more : List Call) → AllTyped more → AllTyped (C.listCalls f vs more)
-  list-typed vs g more h = append-typed (map f vs) (C.close ∷ more) (elements-typed [] vs (list-inv E vs g .0)) (tt, h)
+  list-typed : (least : ℕ) (vs : List (elementsOf l .Element)) → listOf l least .Good vs → (more : List Call) → AllTyped more
+      → AllTyped (C.listCalls f vs more)
+  list-typed least vs g more h =
+      append-typed (map f vs) (C.close ∷ more) (elements-typed [] vs (list-inv (elementsOf l) least vs g .0)) (tt, h)
 
 joined-bytes : (p : List ℕ) (l : List (List ℕ)) → Chain (above (blob 20)) (left (above (blob 20))) p l → Bytes (C.joined l)
 unfolding guard blob C.joined
@@ -322,33 +390,34 @@ text-typed : (most : ℕ) (b : List ℕ) → Strings.text most .Good b → Bytes
 unfolding Strings.text named andThen guard Strings.printable guardAt blob
 text-typed most b g = g .1 .0 .1
 
-own-typed : (k : Kind) (v : Value (ownPlan k)) → form (ownPlan k) .Good v → AllTyped (C.ownCalls k v)
-unfolding form andThen denomination guard number blob
-own-typed K.Base v g = tt
-own-typed K.CreateAsset (a, (b, (d, (l, e)))) (ga, (gb, (gd, (g, _)))) =
-    (text-typed 128 a ga, (text-typed 4 b gb, (gd .0, list-typed states C.stateCall (λ p v h. state-typed p v h) l g [] tt)))
-own-typed K.Operation (l, e) (g, _) = list-typed operations C.operationCall (λ p v h. Operations.operation .bytes v h) l g [] tt
-own-typed K.Import (c, (l, e)) (gc, (g, _)) = (gc, list-typed (inputs 1 importedEntry) C.inputCall input-typed l g [] tt)
-own-typed K.Export (c, (l, e)) (gc, (g, _)) = (gc, list-typed (outputs 1 exportedEntry) C.outputCall output-typed l g [] tt)
+module _ (most : ℕ) where
+  own-typed : (k : Kind) (v : Value (ownPlan k)) → form most (ownPlan k) .Good v → AllTyped (C.ownCalls k v)
+  unfolding form andThen denomination guard number blob
+  own-typed K.Base v g = tt
+  own-typed K.CreateAsset (a, (b, (d, (l, e)))) (ga, (gb, (gd, (g, _)))) =
+      (text-typed 128 a ga, (text-typed 4 b gb, (gd .0, list-typed L.State C.stateCall state-typed 1 l g [] tt)))
+  own-typed K.Operation (l, e) (g, _) = list-typed L.Operation C.operationCall (λ p v h. Operations.operation .bytes v h) 1 l g [] tt
+  own-typed K.Import (c, (l, e)) (gc, (g, _)) = (gc, list-typed L.Imported C.inputCall input-typed 1 l g [] tt)
+  own-typed K.Export (c, (l, e)) (gc, (g, _)) = (gc, list-typed L.Exported C.outputCall output-typed 1 l g [] tt)
 
-head-typed : (h : Head Kind) → head (avm memoMost) .Good h → Typed (C.start (kindCode (h .kind)) (h .network) (h .chain))
-unfolding head named andThen constant guard tag number blob
-head-typed h g = (g .1 .0 .0, g .1 .1 .0, g .1 .1 .1)
+  head-typed : (h : Head Kind) → head (avm most) .Good h → Typed (C.start (kindCode (h .kind)) (h .network) (h .chain))
+  unfolding head named andThen constant guard tag number blob
+  head-typed h g = (g .1 .0 .0, g .1 .1 .0, g .1 .1 .1)
 
-memo-typed : (b : List ℕ) → Strings.memo memoMost .Good b → Bytes b
-unfolding Strings.string named andThen guard blob
-memo-typed b g = g .1 .1
+  memo-typed : (b : List ℕ) → Strings.memo most .Good b → Bytes b
+  unfolding Strings.string named andThen guard blob
+  memo-typed b g = g .1 .1
 
-reading-typed : (u : Unsigned (avm memoMost)) → unsigned (avm memoMost) .Good u → AllTyped (C.readingCalls u)
-unfolding unsigned andThen form
-reading-typed (h, (outs, (ins, (note, own)))) (gh, (go, (gi, (gm, gw)))) = (
-  head-typed h gh,
-  list-typed (outputs 0 outputEntry) C.outputCall output-typed outs go (C.listCalls C.inputCall ins (C.memo note ∷ C.ownCalls (h .kind) own))
-      (list-typed (inputs 0 inputEntry) C.inputCall input-typed ins gi (C.memo note ∷ C.ownCalls (h .kind) own) (memo-typed note gm, own-typed (h .kind) own gw)),
-)
+  reading-typed : (u : Unsigned (avm most)) → unsigned (avm most) .Good u → AllTyped (C.readingCalls most u)
+  unfolding unsigned andThen form
+  reading-typed (h, (outs, (ins, (note, own)))) (gh, (go, (gi, (gm, gw)))) = (
+    head-typed h gh,
+    list-typed L.Output C.outputCall output-typed 0 outs go (C.listCalls C.inputCall ins (C.memo note ∷ C.ownCalls (h .kind) own))
+        (list-typed L.Input C.inputCall input-typed 0 ins gi (C.memo note ∷ C.ownCalls (h .kind) own) (memo-typed note gm, own-typed (h .kind) own gw)),
+  )
 
-typed : (d : List ℕ) (v : Signed (avm memoMost)) (n : ℕ) → Bytes d → check (avm memoMost) d ≡ took v n → AllTyped (C.readingCalls (v .0))
-typed d v n bs e = reading-typed (v .0) (parts-took (unsigned (avm memoMost)) (wants (avm memoMost)) d v n bs e .unsigned-good)
+  typed : (d : List ℕ) (v : Signed (avm most)) (n : ℕ) → Bytes d → check (avm most) d ≡ took v n → AllTyped (C.readingCalls most (v .0))
+  typed d v n bs e = reading-typed (v .0) (parts-took (unsigned (avm most)) (wants (avm most)) d v n bs e .unsigned-good)
 
-pub methods-round-trip : C.MethodsRoundTrip
-methods-round-trip = record { calls-typed = typed; calls-done = done; finish-done = finish-done; filled = filled }
+  pub methods-round-trip : C.MethodsRoundTrip most
+  methods-round-trip = record { calls-typed = typed; calls-done = done most; finish-done = finish-done most; filled = filled most }

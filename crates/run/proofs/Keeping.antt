@@ -14,7 +14,10 @@ use Rattle.wire.specs.Fields.{number}
 use Rattle.wire.specs.Sequence.{guard, named, andThen, only}
 use Rattle.wire.specs.Series.{Chain, listWrite, left, items, counted}
 use Rattle.transaction.specs.Signed.{mostBytes}
-use Rattle.transaction.specs.Plan.{Plan, shut, end, field, many, Elements, atLeast, listOf, Value, form}
+use Rattle.transaction.specs.Plan.{Elements, Content, contentOf, elementsOf, Plan, shut, end, field, many}
+use Rattle.transaction.specs.Form.{atLeast, listOf, Value, form}
+use Rattle.transaction.specs.declared.FieldName.{FieldName}
+use Rattle.transaction.specs.declared.ListName.{ListName}
 use Rattle.buffer.specs.Stores.{overwrite}
 use Rattle.buffer.proofs.Stores.{take-overwrite, length-overwrite, overwrite-middle}
 use Rattle.writer.specs.declared.Writer.{Writer}
@@ -35,7 +38,9 @@ module _ {A : Type 0} (E : List ℕ → Format A) where
   pub write-snoc : (p : List ℕ) (l : List A) (a : A) → listWrite E (left E) p (l ++ (a ∷ [])) ≡ listWrite E (left E) p l ++ E (leaves p l) .write a
   unfolding listWrite
   write-snoc p [] a = append-nil (E p .write a)
-  write-snoc p (x ∷ l) a = ap (λ r. E p .write x ++ r) (write-snoc (E p .write x) l a) ∙ sym (append-assoc (E p .write x) (listWrite E (left E) (E p .write x) l) (E (leaves (E p .write x) l) .write a))
+  write-snoc p (x ∷ l) a =
+      let w : List ℕ = E p .write x in
+      ap (λ r. w ++ r) (write-snoc w l a) ∙ sym (append-assoc w (listWrite E (left E) w l) (E (leaves w l) .write a))
 
   pub leaves-snoc : (p : List ℕ) (l : List A) (a : A) → leaves p (l ++ (a ∷ [])) ≡ E (leaves p l) .write a
   leaves-snoc p [] a = refl
@@ -45,21 +50,22 @@ abbrev pub listed : (E : Elements) → List (E .Element) → List ℕ
 listed E l = listWrite (E .element) (left (E .element)) [] l
 
 -- a list that may be closed is a value of its format, and the other way round
-module _ (E : Elements) (l : List (E .Element)) where
-  pub list-good : Chain (E .element) (left (E .element)) [] l → length l < 256 ^ 4 → E .least ≤ length l → listOf E .Good l
+module _ (E : Elements) (least : ℕ) (l : List (E .Element)) where
+  pub list-good : Chain (E .element) (left (E .element)) [] l → length l < 256 ^ 4 → least ≤ length l → atLeast least (E .element) .Good l
   unfolding atLeast counted named andThen guard items number
-  list-good c f n = ((f, le-leb (E .least) (length l) n), (refl, c))
+  list-good c f n = ((f, le-leb least (length l) n), (refl, c))
 
-  pub list-inv : listOf E .Good l → Chain (E .element) (left (E .element)) [] l × (E .least ≤ length l)
+  pub list-inv : atLeast least (E .element) .Good l → Chain (E .element) (left (E .element)) [] l × (least ≤ length l)
   unfolding atLeast counted named andThen guard items number
-  list-inv g = (g .1 .1, leb-true (E .least) (length l) (g .0 .1))
+  list-inv g = (g .1 .1, leb-true least (length l) (g .0 .1))
 
-  pub list-write : listOf E .write l ≡ digits 4 (length l) ++ listed E l
+  pub list-write : atLeast least (E .element) .write l ≡ digits 4 (length l) ++ listed E l
   unfolding atLeast counted named andThen guard items number
   list-write = refl
 
 -- no more elements than bytes
-pub elements-le : (E : Elements) (p : List ℕ) (l : List (E .Element)) → Chain (E .element) (left (E .element)) p l → length l ≤ length (listWrite (E .element) (left (E .element)) p l)
+pub elements-le : (E : Elements) (p : List ℕ) (l : List (E .Element)) → Chain (E .element) (left (E .element)) p l
+    → length l ≤ length (listWrite (E .element) (left (E .element)) p l)
 unfolding listWrite
 elements-le E p [] h = omega arith
 elements-le E p (a ∷ l) (h, hs) =
@@ -90,21 +96,21 @@ pub record Open (E : Elements) (w : Writer) (s b : List ℕ) (l : List (E .Eleme
 abbrev pub Stays : Plan → Writer → List ℕ → List ℕ → Type 0
 Stays shut w s b = Unit {0}
 Stays end w s b = Here w s b
-Stays (field l F q) w s b = Here w s b
-Stays (many l E q) w s b = (es : List (E .Element)) × Open E w s b es
+Stays (field f q) w s b = Here w s b
+Stays (many l least q) w s b = (es : List (elementsOf l .Element)) × Open (elementsOf l) w s b es
 
 -- nothing of what is due stands yet
 abbrev pub Begun : Plan → Writer → List ℕ → List ℕ → Type 0
 Begun shut w s b = Unit {0}
 Begun end w s b = Here w s b
-Begun (field l F q) w s b = Here w s b
-Begun (many l E q) w s b = Open E w s b []
+Begun (field f q) w s b = Here w s b
+Begun (many l least q) w s b = Open (elementsOf l) w s b []
 
 pub begun-stays : (q : Plan) (w : Writer) (s b : List ℕ) → Begun q w s b → Stays q w s b
 begun-stays shut w s b h = tt
 begun-stays end w s b h = h
-begun-stays (field l F q) w s b h = h
-begun-stays (many l E q) w s b h = ([], h)
+begun-stays (field f q) w s b h = h
+begun-stays (many l least q) w s b h = ([], h)
 
 -- ---- an element more
 
@@ -122,7 +128,8 @@ module _ (E : Elements) (w : Writer) (s b : List ℕ) (es : List (E .Element)) (
   pub open-few : length es + (4 + length b) ≤ w .at
   open-few = omega (arith, elements-le E [] es (h .chain), open-at)
 
-  module _ (v : E .Element) (g : E .element (leaves (E .element) [] es) .Good v) (ys : List ℕ) (e : E .element (leaves (E .element) [] es) .write v ≡ ys)
+  module _ (v : E .Element) (g : E .element (leaves (E .element) [] es) .Good v)
+      (ys : List ℕ) (e : E .element (leaves (E .element) [] es) .write v ≡ ys)
       (f : w .at + length ys ≤ length s) (k : w .at + length ys ≤ mostBytes) where
     beyond : List ℕ
     beyond = drop (length ys) (drop (w .at) s)
@@ -151,7 +158,8 @@ module _ (E : Elements) (w : Writer) (s b : List ℕ) (es : List (E .Element)) (
         appended-is ∙ sym (append-assoc b (D ++ L) (ys ++ beyond) ∙ ap (λ x. b ++ x) (append-assoc D L (ys ++ beyond))) in
         let grew : listed E (es ++ (v ∷ [])) ≡ L ++ ys = write-snoc (E .element) [] es v ∙ ap (λ z. L ++ z) e in
         let shape₂ : appended w s ys ≡ (b ++ (D ++ listed E (es ++ (v ∷ [])))) ++ beyond =
-        appended-is ∙ ap (λ z. b ++ (D ++ z)) (sym (append-assoc L ys beyond)) ∙ ap (λ z. b ++ z) (sym (append-assoc D (L ++ ys) beyond)) ∙ sym (append-assoc b (D ++ (L ++ ys)) beyond)
+        appended-is ∙ ap (λ z. b ++ (D ++ z)) (sym (append-assoc L ys beyond)) ∙ ap (λ z. b ++ z) (sym (append-assoc D (L ++ ys) beyond))
+        ∙ sym (append-assoc b (D ++ (L ++ ys)) beyond)
         ∙ ap (λ z. (b ++ (D ++ z)) ++ beyond) (sym grew) in
         let all : length (b ++ (D ++ listed E (es ++ (v ∷ [])))) ≡ w .at + length ys =
         omega (arith, length-append b (D ++ listed E (es ++ (v ∷ []))), length-append D (listed E (es ++ (v ∷ []))), ap length grew, length-append L ys) in
@@ -167,15 +175,19 @@ module _ (E : Elements) (w : Writer) (s b : List ℕ) (es : List (E .Element)) (
           number = omega (arith, h .number, length-append es (v ∷ []));
           chain = chain-snoc (E .element) [] es v (h .chain) g;
           before =
-              rw (some, long, shape, drop-at (b ++ (D ++ L)) (ys ++ beyond) (w .at) front, take-at ys beyond (length ys) refl) (sym (leaves-snoc (E .element) [] es v ∙ e));
+              rw (some, long, shape, drop-at (b ++ (D ++ L)) (ys ++ beyond) (w .at) front, take-at ys beyond (length ys) refl)
+              (sym (leaves-snoc (E .element) [] es v ∙ e));
           inside = omega arith;
         }
 
   -- a list that is closed
-  pub closed : E .least ≤ w .count → listOf E .Good es × Here w s (b ++ listOf E .write es)
-  closed n =
-      let same : digits 4 (w .count) ++ listed E es ≡ listOf E .write es = ap (λ (k : ℕ). digits 4 k ++ listed E es) (h .number) ∙ sym (list-write E es) in
-      (list-good E es (h .chain) (omega (arith, open-few, h .here .small, h .number)) (omega (arith, h .number)), subst (λ (z : List ℕ). Here w s (b ++ z)) same (h .here))
+  pub closed : (least : ℕ) → least ≤ w .count → atLeast least (E .element) .Good es × Here w s (b ++ atLeast least (E .element) .write es)
+  closed least n =
+      let same : digits 4 (w .count) ++ listed E es ≡ atLeast least (E .element) .write es =
+      ap (λ (k : ℕ). digits 4 k ++ listed E es) (h .number) ∙ sym (list-write E least es) in
+      let good : atLeast least (E .element) .Good es =
+      list-good E least es (h .chain) (omega (arith, open-few, h .here .small, h .number)) (omega (arith, h .number)) in
+      (good, subst (λ (z : List ℕ). Here w s (b ++ z)) same (h .here))
 
 -- ---- what is due begins
 
@@ -198,12 +210,18 @@ module _ (kind phase : ℕ) (w : Writer) (s b : List ℕ) (h : Here w s b) (ys :
       → Begun q (opened kind phase (w .at + length ys) q) (overwrite s (w .at) (ys ++ opening q)) (b ++ ys)
   unfolding prev listWrite
   begin shut f k = tt
-  begin end f k = subst (λ (z : List ℕ). Here (opened kind phase (w .at + length ys) end) (overwrite s (w .at) (ys ++ [])) (b ++ z)) (append-nil ys) (begin-here end f k)
-  begin (field l F q) f k = subst (λ (z : List ℕ). Here (opened kind phase (w .at + length ys) (field l F q)) (overwrite s (w .at) (ys ++ [])) (b ++ z)) (append-nil ys) (begin-here (field l F q) f k)
-  begin (many l E q) f k =
-      let same : b ++ (ys ++ digits 4 0) ≡ (b ++ ys) ++ (digits 4 0 ++ []) = sym (append-assoc b ys (digits 4 0)) ∙ ap (λ (z : List ℕ). (b ++ ys) ++ z) (sym (append-nil (digits 4 0))) in
+  begin end f k =
+      subst (λ (z : List ℕ). Here (opened kind phase (w .at + length ys) end) (overwrite s (w .at) (ys ++ [])) (b ++ z)) (append-nil ys) (begin-here end f k)
+  begin (field i q) f k =
+      subst (λ (z : List ℕ). Here (opened kind phase (w .at + length ys) (field i q)) (overwrite s (w .at) (ys ++ [])) (b ++ z)) (append-nil ys)
+      (begin-here (field i q) f k)
+  begin (many l least q) f k =
+      let same : b ++ (ys ++ digits 4 0) ≡ (b ++ ys) ++ (digits 4 0 ++ []) =
+      sym (append-assoc b ys (digits 4 0)) ∙ ap (λ (z : List ℕ). (b ++ ys) ++ z) (sym (append-nil (digits 4 0))) in
       record {
-        here = subst (Here (opened kind phase (w .at + length ys) (many l E q)) (overwrite s (w .at) (ys ++ digits 4 0))) same (begin-here (many l E q) f k);
+        here =
+            subst (Here (opened kind phase (w .at + length ys) (many l least q)) (overwrite s (w .at) (ys ++ digits 4 0))) same
+            (begin-here (many l least q) f k);
         place = omega (arith, here-at w s b h, length-append b ys);
         number = refl;
         chain = tt;
@@ -211,24 +229,27 @@ module _ (kind phase : ℕ) (w : Writer) (s b : List ℕ) (h : Here w s b) (ys :
         inside = omega arith;
       }
 
--- ---- from a value of what is still to come to a value of the whole
+-- ---- from a value of what is still to come to a value of the whole, with memos of at most `most` bytes
 
-abbrev pub Reach : Plan → List ℕ → Plan → List ℕ → Type 0
-Reach p H q b = (v : Value q) → form q .Good v → (u : Value p) × form p .Good u × (H ++ form p .write u ≡ b ++ form q .write v)
+module _ (most : ℕ) where
+  abbrev pub Reach : Plan → List ℕ → Plan → List ℕ → Type 0
+  Reach p H q b = (v : Value q) → form most q .Good v → (u : Value p) × form most p .Good u × (H ++ form most p .write u ≡ b ++ form most q .write v)
 
-module _ (p : Plan) (H b : List ℕ) where
-  pub reach-field : (l : _) (F : _) (q : Plan) → Reach p H (field l F q) b → (x : F .Content) → F .content .Good x → Reach p H q (b ++ F .content .write x)
-  unfolding form andThen
-  reach-field l F q r x g v gv =
-      let (u, gu, e) = r (x, v) (g, gv) in
-      (u, gu, e ∙ sym (append-assoc b (F .content .write x) (form q .write v)))
+  module _ (p : Plan) (H b : List ℕ) where
+    pub reach-field : (f : FieldName) (q : Plan) → Reach p H (field f q) b → (x : Content f) → contentOf most f .Good x
+        → Reach p H q (b ++ contentOf most f .write x)
+    unfolding form andThen
+    reach-field f q r x g v gv =
+        let (u, gu, e) = r (x, v) (g, gv) in
+        (u, gu, e ∙ sym (append-assoc b (contentOf most f .write x) (form most q .write v)))
 
-  pub reach-list : (l : _) (E : Elements) (q : Plan) → Reach p H (many l E q) b → (x : List (E .Element)) → listOf E .Good x → Reach p H q (b ++ listOf E .write x)
-  unfolding form andThen
-  reach-list l E q r x g v gv =
-      let (u, gu, e) = r (x, v) (g, gv) in
-      (u, gu, e ∙ sym (append-assoc b (listOf E .write x) (form q .write v)))
+    pub reach-list : (l : ListName) (least : ℕ) (q : Plan) → Reach p H (many l least q) b → (x : List (elementsOf l .Element)) → listOf l least .Good x
+        → Reach p H q (b ++ listOf l least .write x)
+    unfolding form andThen
+    reach-list l least q r x g v gv =
+        let (u, gu, e) = r (x, v) (g, gv) in
+        (u, gu, e ∙ sym (append-assoc b (listOf l least .write x) (form most q .write v)))
 
-  pub reach-shut : Reach p H end b → Reach p H shut b
-  unfolding form only
-  reach-shut r v g = r v g
+    pub reach-shut : Reach p H end b → Reach p H shut b
+    unfolding form only
+    reach-shut r v g = r v g

@@ -25,12 +25,15 @@ module _ (F : Family) where
 
   -- for every run of steps, refused ones anywhere among them
   pub record FinishedIsAccepted : Type 0 where
-    pub is-accepted : (l : List Act) → AllFair l → (s : List ℕ) (n : ℕ) → finishBehind l s .step .answer ≡ W.Done n → accepted F (take n (finishBehind l s .buffer)) ≡ true
-    pub refused-by : (l : List Act) → AllFair l → (s : List ℕ) (e : Refusal) → finishBehind l s .step .answer ≡ W.Refused e → (e .number ≡ noRoom) ⊎ (e .number ≡ stepNotDue)
+    pub is-accepted : (l : List Act) → AllFair l → (s : List ℕ) (n : ℕ) → finishBehind l s .step .answer ≡ W.Done n
+        → accepted F (take n (finishBehind l s .buffer)) ≡ true
+    pub refused-by : (l : List Act) → AllFair l → (s : List ℕ) (e : Refusal) → finishBehind l s .step .answer ≡ W.Refused e
+        → (e .rule ≡ noRoom) ⊎ (e .rule ≡ stepNotDue)
 
   -- d is accepted, v is its reading, and the buffer s has room for it, whatever it holds
   pub record StepsRoundTrip : Type 0 where
-    pub steps-done : (d : List ℕ) (v : Signed F) (n : ℕ) → Bytes d → check F d ≡ took v n → (s : List ℕ) → length d ≤ length s → AllDone F (spelled F (v .0)) fresh s
+    pub steps-done : (d : List ℕ) (v : Signed F) (n : ℕ) → Bytes d → check F d ≡ took v n → (s : List ℕ) → length d ≤ length s
+        → AllDone F (spelled F (v .0)) fresh s
     pub finish-done : (d : List ℕ) (v : Signed F) (n : ℕ) → Bytes d → check F d ≡ took v n → (s : List ℕ) → length d ≤ length s
         → finishBehind (spelled F (v .0)) s .step .answer ≡ W.Done (length d)
     pub blank-written : (d : List ℕ) (v : Signed F) (n : ℕ) → Bytes d → check F d ≡ took v n → (s : List ℕ) → length d ≤ length s

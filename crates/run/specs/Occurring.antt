@@ -34,8 +34,8 @@ pub record Held (w : Writer) : Type 0 where
   pub list : w .list < 2 ^ 64
   pub last : w .last < 2 ^ 64
 
--- a call of the method answers with n, over some state and some bytes
-pub record Occurs (m : Method) (n : ℕ) : Type 0 where
+-- with memos of at most `most` bytes a call of the method answers with n, over some state and some bytes
+pub record Occurs (most : ℕ) (m : Method) (n : ℕ) : Type 0 where
   pub call : Call
   pub of : methodOf call ≡ m
   pub typed : Typed call
@@ -43,8 +43,8 @@ pub record Occurs (m : Method) (n : ℕ) : Type 0 where
   pub held : Held before
   pub buffer : List ℕ
   pub bytes : Bytes buffer
-  pub answers : numberOf call before buffer ≡ n
+  pub answers : numberOf most call before buffer ≡ n
 
 -- with `MethodsOwe.number`, a list has exactly the numbers that its method answers with
-pub record WriterNumbersOccur : Type 0 where
-  pub each : (c : Call) (n : ℕ) → OneOf n (callNumbers c) → Occurs (methodOf c) n
+pub record WriterNumbersOccur (most : ℕ) : Type 0 where
+  pub each : (c : Call) (n : ℕ) → OneOf n (callNumbers c) → Occurs most (methodOf c) n

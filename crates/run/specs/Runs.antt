@@ -6,25 +6,32 @@ use mathlib.Core.List.{List, [], _∷_, _++_}
 use lib.ListN.{length}
 use Rattle.wire.specs.Bytes.{Bytes}
 use Rattle.transaction.specs.Signed.{mostBytes}
-use Rattle.transaction.specs.Plan.{Plan, shut, end, field, many, Elements, Value}
+use Rattle.transaction.specs.Plan.{Plan, shut, end, field, many, contentOf, elementsOf}
+use Rattle.transaction.specs.Form.{Value}
 use Rattle.transaction.specs.Family.{Family, Unsigned}
-use Rattle.transaction.specs.declared.Segment.{Segment}
+use Rattle.transaction.specs.declared.FieldName.{FieldName}
+use Rattle.transaction.specs.declared.ListName.{ListName}
 use Rattle.judge.specs.Given.{Given, given}
 use Rattle.writer.specs.declared.Writer.{Writer}
 use Rattle.writer.specs.declared.Written.the-variants as W
-use Rattle.writer.specs.Steps.{Turn, start, put, close, finish}
+use Rattle.writer.specs.Steps.{Turn, start, putField, putElement, close, finish}
 
 -- a step and what it is given
 pub data Act : Type 0 where
   starts : ℕ → ℕ → List ℕ → Act
-  puts : Segment → Given → Act
+  putsField : FieldName → Given → Act
+  putsElement : ListName → Given → Act
   closes finishes : Act
 
--- what code can be given: bytes, and numbers and identifiers of their widths. What could not be made, or is longer than a transaction, need not be
--- said to be bytes: a count of it may be too large for its width
+-- what could not be made, or is longer than a transaction, need not be said to be bytes: a count of it may be too large for its width
+abbrev pub FairBytes : Given → Type 0
+FairBytes g = g .whole ≡ true → length (g .bytes) ≤ mostBytes → Bytes (g .bytes)
+
+-- what code can be given: bytes, and numbers and identifiers of their widths
 abbrev pub Fair : Act → Type 0
 Fair (starts kind network chain) = (kind < 256 ^ 4) × (network < 256 ^ 4) × (length chain ≡ 32) × Bytes chain
-Fair (puts l g) = g .whole ≡ true → length (g .bytes) ≤ mostBytes → Bytes (g .bytes)
+Fair (putsField f g) = FairBytes g
+Fair (putsElement l g) = FairBytes g
 Fair closes = Unit {0}
 Fair finishes = Unit {0}
 
@@ -35,7 +42,8 @@ AllFair (a ∷ l) = Fair a × AllFair l
 module _ (F : Family) where
   abbrev pub act : Act → Writer → List ℕ → Turn
   act (starts kind network chain) w s = start F w s kind network chain
-  act (puts l g) w s = put F w s l g
+  act (putsField f g) w s = putField F w s f g
+  act (putsElement l g) w s = putElement F w s l g
   act closes w s = close F w s
   act finishes w s = finish F w s
 
@@ -50,25 +58,27 @@ module _ (F : Family) where
 
 -- ---- the steps that a value spells: each field, and each element of a list and then its close
 
-unfoldable pub elementActs : (l : Segment) (E : Elements) → List ℕ → List (E .Element) → List Act
-elementActs l E prev [] = []
-elementActs l E prev (a ∷ more) = puts l (given (E .element prev .write a)) ∷ elementActs l E (E .element prev .write a) more
+unfoldable pub elementActs : (l : ListName) → List ℕ → List (elementsOf l .Element) → List Act
+elementActs l prev [] = []
+elementActs l prev (a ∷ more) =
+    putsElement l (given (elementsOf l .element prev .write a)) ∷ elementActs l (elementsOf l .element prev .write a) more
 
-unfoldable pub planActs : (p : Plan) → Value p → List Act
+-- with memos of at most `most` bytes
+unfoldable pub planActs : (most : ℕ) (p : Plan) → Value p → List Act
 unfolding elementActs
-planActs shut v = []
-planActs end v = []
-planActs (field l C q) v = puts l (given (C .content .write (v .0))) ∷ planActs q (v .1)
-planActs (many l E q) v = elementActs l E [] (v .0) ++ (closes ∷ planActs q (v .1))
+planActs most shut v = []
+planActs most end v = []
+planActs most (field f q) v = putsField f (given (contentOf most f .write (v .0))) ∷ planActs most q (v .1)
+planActs most (many l least q) v = elementActs l [] (v .0) ++ (closes ∷ planActs most q (v .1))
 
 -- the plan stops at `end`, where the finish is due, and not at `shut`, where no step is: a value's steps can be followed by the finish
 abbrev pub Ends : Plan → Type 0
 Ends shut = ⊥
 Ends end = Unit {0}
-Ends (field l C q) = Ends q
-Ends (many l E q) = Ends q
+Ends (field f q) = Ends q
+Ends (many l least q) = Ends q
 
 module _ (F : Family) where
   unfoldable pub spelled : Unsigned F → List Act
   unfolding planActs
-  spelled u = starts (F .code (u .0 .kind)) (u .0 .network) (u .0 .chain) ∷ planActs (F .plan (u .0 .kind)) (u .1)
+  spelled u = starts (F .code (u .0 .kind)) (u .0 .network) (u .0 .chain) ∷ planActs (F .memoMost) (F .plan (u .0 .kind)) (u .1)

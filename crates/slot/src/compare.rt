@@ -4,8 +4,6 @@ ghost use lib.ListN.{length};
 ghost use Rattle.transaction.specs.Slots.{blank, slotAt};
 ghost use Rattle.slot.specs.Joining.{same, clashes};
 
-const SIGNATURE_WIDTH: usize = 65;
-
 const BLOCK: usize = 64;
 
 // No early exit, so that the compiler compares many bytes at once.
@@ -47,18 +45,18 @@ pub fn slot_of(s: &[u8], at: usize) -> &[u8]
     if s.len() < at {
         return &s[..0];
     }
-    if s.len() - at < SIGNATURE_WIDTH {
+    if s.len() - at < transaction::SIGNATURE_WIDTH {
         return &s[at..];
     }
-    &s[at..at + SIGNATURE_WIDTH]
+    &s[at..at + transaction::SIGNATURE_WIDTH]
 }
 
 // Is it the content of an empty slot?
 pub fn is_blank(s: &[u8]) -> bool
     ensures { λ r. ⌜ r ≡ same (now (s .entry)) blank ⌝ }
 {
-    let zeros = [0u8; 65];
-    if s.len() != SIGNATURE_WIDTH {
+    let zeros = [0u8; transaction::SIGNATURE_WIDTH];
+    if s.len() != transaction::SIGNATURE_WIDTH {
         return false;
     }
     same_run(s, &zeros)

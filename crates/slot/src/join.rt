@@ -12,11 +12,11 @@ use wire::Number;
 pub fn join_at(draft: &mut [u8], at: usize, other: &[u8])
     ensures { λ _. ⌜ now (draft .exit) ≡ joinedAt at (now (other .entry)) (now (draft .entry)) ⌝ }
 {
-    if other.len() != 65 {
+    if other.len() != transaction::SIGNATURE_WIDTH {
         return;
     }
     if compare::is_blank(compare::slot_of(draft, at)) {
-        wire::put_bytes(&mut draft[at..at + 65], other);
+        wire::put_bytes(&mut draft[at..at + transaction::SIGNATURE_WIDTH], other);
     }
 }
 
@@ -29,7 +29,7 @@ fn join_run(draft: &mut [u8], other: &[u8], at: usize, count: u64)
     let mut p = at;
     while 0 < left {
         join_at(draft, p, compare::slot_of(other, p));
-        p += 65;
+        p += transaction::SIGNATURE_WIDTH;
         left -= 1;
     }
 }

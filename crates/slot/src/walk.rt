@@ -20,7 +20,8 @@ pub fn run_at(s: &[u8], at: usize) -> Run
     let Number::Value(count, first) = wire::u32_at(s, i) else {
         return Run::End;
     };
-    let Part::Next(next) = wire::part_at(s, first, 65 * count as usize) else {
+    let Part::Next(next) = wire::part_at(s, first, transaction::SIGNATURE_WIDTH * count as usize)
+    else {
         return Run::End;
     };
     Run::Slots(first, count, next)
@@ -39,7 +40,7 @@ fn clash_in(first: &[u8], second: &[u8], at: usize, count: u64, k: usize) -> Fou
         if compare::clash(compare::slot_of(first, p), compare::slot_of(second, p)) {
             return Found::At(n);
         }
-        p += 65;
+        p += transaction::SIGNATURE_WIDTH;
         n += 1;
         left -= 1;
     }
@@ -89,7 +90,7 @@ pub fn place_of(s: &[u8], at: usize, k: usize) -> Found
             return Found::Nothing;
         };
         if before < n as usize {
-            return Found::At(p + 65 * before);
+            return Found::At(p + transaction::SIGNATURE_WIDTH * before);
         }
         before -= n as usize;
         q = next;

@@ -1,26 +1,22 @@
 -- The call that lists slots: what each answer of the check and of the count comes to. Assumes nothing.
 use Prim.Native.Nat.{ℕ, _+_, _*_, _/_, _≤_, _<_}
-use mathlib.Core.Path.{_≡_, refl, sym, ap, ap₂, _∙_}
-use mathlib.Core.Bool.{Bool, true, false}
+use mathlib.Core.Path.{_≡_, sym, ap, ap₂, _∙_}
 use mathlib.Core.List.{List, _++_}
 use native.Mathlib.Omega.{arith}
 use native.Mathlib.Nat.{mod-lt, div-add-mod', zero-lt-suc}
 use lib.ListN.{length, drop}
 use lib.Seq.{sets-eq}
-use lib.Dec.{leb}
 use borrow.Author.Tests.{le-leb, lt-leb}
 use Rattle.wire.specs.declared.Refusal.{Refusal}
-use Rattle.wire.specs.Bytes.{pick}
 use Rattle.wire.specs.Numbers.{refusal, noRoom}
-use Rattle.wire.specs.Format.{Result, took, refused, onResult}
+use Rattle.wire.specs.Format.{onResult}
 use Rattle.wire.proofs.Bytes.{Slice, found}
-use Rattle.transaction.specs.Family.{Signed, unsigned, wants, check}
+use Rattle.transaction.specs.Family.{unsigned, wants}
 use Rattle.transaction.specs.Avm.{avm}
-use Rattle.transaction.specs.Answer.{memoMost, checked}
+use Rattle.transaction.specs.Answer.{checked}
 use Rattle.transaction.specs.declared.Layout.{Layout}
 use Rattle.transaction.specs.declared.Checked.{Checked}
 use Rattle.transaction.specs.declared.Checked.the-variants as C
-use Rattle.transaction.proofs.Codec.{codec}
 use Rattle.transaction.proofs.Verdicts.{refused-check, checked-accepted}
 use Rattle.table.specs.Table.{filled}
 use Rattle.table.specs.declared.Tabled.the-variants as T
@@ -31,62 +27,44 @@ use Rattle.slot_table.specs.Walk.{walk, put}
 use Rattle.slot_table.proofs.Rows.{length-rows}
 use Rattle.slot_table.proofs.Accepted.{walked-slots}
 
-pub on-refused : (s t : List ℕ) (x : Checked) (e : Refusal) → x ≡ checked s → x ≡ C.Refused e → filled (T.Refused e) t ≡ tabledSlots s t
-on-refused s t x e p q = sym (ap (λ o. onResult o (λ e. filled (T.Refused e) t) (λ v end. listed end s (slots s) t)) (refused-check s e (found q p)))
+module _ (most : ℕ) where
+  pub on-refused : (s t : List ℕ) (x : Checked) (e : Refusal) → x ≡ checked most s → x ≡ C.Refused e → filled (T.Refused e) t ≡ tabledSlots most s t
+  on-refused s t x e p q = sym (ap (λ o. onResult o (λ e. filled (T.Refused e) t) (λ v end. listed end s (slots most s) t)) (refused-check most s e (found q p)))
 
-module _ (s : List ℕ) (x : Checked) (w : Layout) (k : ℕ) (p : x ≡ checked s) (q : x ≡ C.Accepted w k) where
-  accepted : (t : List ℕ) → tabledSlots s t ≡ listed k s (slots s) t
-  accepted t =
-      let (v, r, h) = checked-accepted s w k (found q p) in
-      ap (λ o. onResult o (λ e. filled (T.Refused e) t) (λ v end. listed end s (slots s) t)) r
+  module _ (s : List ℕ) (x : Checked) (w : Layout) (k : ℕ) (p : x ≡ checked most s) (q : x ≡ C.Accepted w k) where
+    accepted : (t : List ℕ) → tabledSlots most s t ≡ listed k s (slots most s) t
+    accepted t =
+        let (v, r, h) = checked-accepted most s w k (found q p) in
+        ap (λ o. onResult o (λ e. filled (T.Refused e) t) (λ v end. listed end s (slots most s) t)) r
 
-  module _ (b : Slice s) where
-    pub short : length s ≤ 65536
-    short = let d = known s b x w k p q in d .parts .short
+    module _ (b : Slice s) where
+      pub short : length s ≤ 65536
+      short = let d = known most s b x w k p q in d .parts .short
 
-    met : walk s (w .«credentials_at») ≡ slots s
-    met =
-        let d = known s b x w k p q in
-        ap (walk s) (d .end) ∙ walked-slots (unsigned (avm memoMost)) (wants (avm memoMost)) s (d .value) (d .signatures) (d .parts)
+      met : walk s (w .«credentials_at») ≡ slots most s
+      met =
+          let d = known most s b x w k p q in
+          ap (walk s) (d .end) ∙ walked-slots (unsigned (avm most)) (wants (avm most)) s (d .value) (d .signatures) (d .parts)
 
-    module _ (t : List ℕ) (n : ℕ) (c : n ≡ length (walk s (w .«credentials_at»))) where
-      pub on-no-room : length t / 3 < n → filled (T.Refused (refusal noRoom 0)) t ≡ tabledSlots s t
-      on-no-room h =
-          let few : length t < 3 * length (slots s) = omega (arith, ap length met, div-add-mod' (length t) 3, mod-lt (length t) (zero-lt-suc 2)) in
-          sym (accepted t ∙ rw (lt-leb (3 * length (slots s)) (length t) few))
+      module _ (t : List ℕ) (n : ℕ) (c : n ≡ length (walk s (w .«credentials_at»))) where
+        pub on-no-room : length t / 3 < n → (f : Refusal) → f ≡ refusal noRoom 0 → filled (T.Refused f) t ≡ tabledSlots most s t
+        on-no-room h f made =
+            let few : length t < 3 * length (slots most s) = omega (arith, ap length met, div-add-mod' (length t) 3, mod-lt (length t) (zero-lt-suc 2)) in
+            ap (λ (r : Refusal). filled (T.Refused r) t) made ∙ sym (accepted t ∙ rw (lt-leb (3 * length (slots most s)) (length t) few))
 
-      pub room : n ≤ length t / 3 → 3 * length (walk s (w .«credentials_at»)) ≤ length t
-      room h = omega (arith, div-add-mod' (length t) 3)
+        pub room : n ≤ length t / 3 → 3 * length (walk s (w .«credentials_at»)) ≤ length t
+        room h = omega (arith, div-add-mod' (length t) 3)
 
-      pub on-listed : n ≤ length t / 3 → (u : List ℕ) → u ≡ put t 0 (rows s (walk s (w .«credentials_at»))) → filled (T.Listed n k) u ≡ tabledSlots s t
-      unfolding put
-      on-listed h u e =
-          let l : List Slot = slots s in
-          let long : length (rows s l) ≡ 3 * length l = length-rows s l in
-          let few : 3 * length l ≤ length t = omega (arith, ap length met, room h) in
-          let size : 0 + length (rows s l) ≡ 3 * length l = omega arith in
-          let all : u ≡ rows s l ++ drop (3 * length l) t =
-          e ∙ ap (λ (m : List Slot). put t 0 (rows s m)) met ∙ sets-eq (rows s l) t 0 (omega arith) ∙ ap (λ (i : ℕ). rows s l ++ drop i t) size in
-          let count : n ≡ length l = c ∙ ap length met in
-          ap₂ filled (ap (λ (m : ℕ). T.Listed m k) count) all ∙ sym (accepted t ∙ rw (le-leb (3 * length l) (length t) few))
+        pub on-listed : n ≤ length t / 3 → (u : List ℕ) → u ≡ put t 0 (rows s (walk s (w .«credentials_at»))) → filled (T.Listed n k) u ≡ tabledSlots most s t
+        unfolding put
+        on-listed h u e =
+            let l : List Slot = slots most s in
+            let long : length (rows s l) ≡ 3 * length l = length-rows s l in
+            let few : 3 * length l ≤ length t = omega (arith, ap length met, room h) in
+            let size : 0 + length (rows s l) ≡ 3 * length l = omega arith in
+            let all : u ≡ rows s l ++ drop (3 * length l) t =
+            e ∙ ap (λ (m : List Slot). put t 0 (rows s m)) met ∙ sets-eq (rows s l) t 0 (omega arith) ∙ ap (λ (i : ℕ). rows s l ++ drop i t) size in
+            let count : n ≡ length l = c ∙ ap length met in
+            ap₂ filled (ap (λ (m : ℕ). T.Listed m k) count) all ∙ sym (accepted t ∙ rw (le-leb (3 * length l) (length t) few))
 
 pub ruleset listing = (on-refused, on-no-room, on-listed)
-
--- demand 1: a refusal's number is one of 1 to 14
-listed-number : (k : ℕ) (s : List ℕ) (l : List Slot) (t : List ℕ) (e : Refusal) → listed k s l t .answer ≡ T.Refused e
-    → (1 ≤ e .number) × (e .number ≤ 14)
-listed-number k s l t e = go (leb (3 * length l) (length t))
-  where
-    go : (b : Bool)
-        → pick b (filled (T.Listed (length l) k) (rows s l ++ drop (3 * length l) t)) (filled (T.Refused (refusal noRoom 0)) t) .answer ≡ T.Refused e
-        → (1 ≤ e .number) × (e .number ≤ 14)
-    go true h = let z : _≡_ {A = ℕ} 0 1 = cc in absurd (omega arith)
-    go false h = let i : refusal noRoom 0 ≡ e = cc in rw (← i) (omega arith, omega arith)
-
-pub slots-number : (s t : List ℕ) (e : Refusal) → tabledSlots s t .answer ≡ T.Refused e → (1 ≤ e .number) × (e .number ≤ 14)
-slots-number s t e = go (check (avm memoMost) s) refl
-  where
-    go : (o : Result (Signed (avm memoMost))) → check (avm memoMost) s ≡ o
-        → onResult o (λ e. filled (T.Refused e) t) (λ v end. listed end s (slots s) t) .answer ≡ T.Refused e → (1 ≤ e .number) × (e .number ≤ 14)
-    go (took v n) r h = listed-number n s (slots s) t e h
-    go (refused d) r h = let i : d ≡ e = cc in let (a, c) = codec (avm memoMost) .refused-by s d r in rw (← i) (a, omega arith)

@@ -8,7 +8,6 @@ use Rattle.wire.specs.Numbers.{refusal, noRoom}
 use Rattle.wire.specs.Format.{onResult}
 use Rattle.transaction.specs.Family.{unsigned, wants, check}
 use Rattle.transaction.specs.Avm.{avm}
-use Rattle.transaction.specs.Answer.{memoMost}
 use Rattle.table.specs.Table.{Filled, filled}
 use Rattle.table.specs.declared.Tabled.the-variants as T
 use Rattle.slot_table.specs.Slots.{Slot, slotList, rows}
@@ -18,10 +17,12 @@ abbrev pub listed : ℕ → List ℕ → List Slot → List ℕ → Filled
 listed end s l t =
     pick (leb (3 * length l) (length t)) (filled (T.Listed (length l) end) (rows s l ++ drop (3 * length l) t)) (filled (T.Refused (refusal noRoom 0)) t)
 
--- the slots of s
-abbrev pub slots : List ℕ → List Slot
-slots s = slotList (unsigned (avm memoMost)) (wants (avm memoMost)) s
+-- with memos of at most `most` bytes
+module _ (most : ℕ) where
+  -- the slots of s
+  abbrev pub slots : List ℕ → List Slot
+  slots s = slotList (unsigned (avm most)) (wants (avm most)) s
 
--- room is judged after all rules
-abbrev pub tabledSlots : List ℕ → List ℕ → Filled
-tabledSlots s t = onResult (check (avm memoMost) s) (λ e. filled (T.Refused e) t) (λ v end. listed end s (slots s) t)
+  -- room is judged after all rules
+  abbrev pub tabledSlots : List ℕ → List ℕ → Filled
+  tabledSlots s t = onResult (check (avm most) s) (λ e. filled (T.Refused e) t) (λ v end. listed end s (slots s) t)

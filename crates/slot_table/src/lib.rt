@@ -2,6 +2,7 @@
 ghost use mathlib.Core.Path.{_≡_};
 ghost use Prim.Native.Nat.{_+_, _*_, _≤_};
 ghost use lib.ListN.{length};
+ghost use Rattle.transaction.specs.Answer.{memoMost};
 ghost use Rattle.table.specs.Table.{filled};
 ghost use Rattle.slot_table.specs.Slots.{slotIn, filledAt, row, rows};
 ghost use Rattle.slot_table.specs.Table.{tabledSlots};
@@ -10,9 +11,7 @@ use slot::Run;
 use table::Tabled;
 use transaction::Checked;
 use wire::Number;
-use wire::Refusal;
-
-const SIGNATURE_WIDTH: usize = 65;
+use wire::Rule;
 
 // The numbers of a row: credential, place, filled.
 const ROW: usize = 3;
@@ -79,7 +78,7 @@ fn put_run(s: &[u8], table: &mut [u32], i: usize, credential: usize, at: usize, 
     while 0 < left {
         put_row(s, table, j, credential, p);
         j += ROW;
-        p += SIGNATURE_WIDTH;
+        p += transaction::SIGNATURE_WIDTH;
         left -= 1;
     }
 }
@@ -109,23 +108,26 @@ fn put_slots(s: &[u8], table: &mut [u32], at: usize)
     }
 }
 
-// Checks the bytes, and writes a row of three numbers for each slot: credential, place, filled.
-pub fn list_slots(s: &[u8], table: &mut [u32]) -> Tabled
-    ensures { λ r. ⌜ filled r (now (table .exit)) ≡ tabledSlots (now (s .entry)) (now (table .entry)) ⌝ }
+// Checks the bytes, and writes a row of three numbers for each slot: credential, place, filled. A memo has at most so many bytes.
+pub fn list_slots_within(s: &[u8], table: &mut [u32], most: u64) -> Tabled
+    ensures { λ r. ⌜ filled r (now (table .exit)) ≡ tabledSlots most (now (s .entry)) (now (table .entry)) ⌝ }
 {
-    match checker::check::check(s) {
+    match checker::check::check_within(s, most) {
         Checked::Refused(refusal) => Tabled::Refused(refusal),
         Checked::Accepted(layout, end) => {
             let at = layout.credentials_at;
             let slots = count(s, at);
             if table.len() / ROW < slots {
-                return Tabled::Refused(Refusal {
-                    number: wire::numbers::NO_ROOM,
-                    place: 0,
-                });
+                return Tabled::Refused(wire::refuse(Rule::NoRoom, 0));
             }
             put_slots(s, table, at);
             Tabled::Listed(slots, end)
         }
     }
+}
+
+pub fn list_slots(s: &[u8], table: &mut [u32]) -> Tabled
+    ensures { λ r. ⌜ filled r (now (table .exit)) ≡ tabledSlots memoMost (now (s .entry)) (now (table .entry)) ⌝ }
+{
+    list_slots_within(s, table, transaction::MEMO_MOST)
 }

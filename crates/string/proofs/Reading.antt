@@ -62,11 +62,11 @@ module _ (k : ℕ) (s : List ℕ) (at : ℕ) (z X : Part) (x : Part) (n : ℕ) (
   pub if-printable : u ≡ k → z ≡ X → z ≡ pick (eqb (unprintable (part at n s)) (length (part at n s))) X (P.Refused (by notPrintable (at + unprintable (part at n s))))
   if-printable h i = rw (← e, ← d, h, e, W.part-long k s at x n p q c, eq-eqb k k refl) i
 
-  pub if-unprintable : (u ≡ k → ⊥) → z ≡ P.Refused (by notPrintable (at + u)) → z ≡ pick (eqb (unprintable (part at n s)) (length (part at n s))) X (P.Refused (by notPrintable (at + unprintable (part at n s))))
-  if-unprintable h i = rw (W.part-long k s at x n p q c, ← e, ← d, ne-eqb u k h) i
+  pub if-unprintable : (u ≡ k → ⊥) → (f : Refusal) → f ≡ by notPrintable (at + u) → z ≡ P.Refused f → z ≡ pick (eqb (unprintable (part at n s)) (length (part at n s))) X (P.Refused (by notPrintable (at + unprintable (part at n s))))
+  if-unprintable h f g i = rw (W.part-long k s at x n p q c, ← e, ← d, ne-eqb u k h) (i ∙ ap P.Refused g)
 
 -- and its place is a number of 64 bits
 pub unprintable-fits : (s b : List ℕ) (a e u : ℕ) → b ≡ part a e s → u ≡ unprintable b → length s < 2 ^ 64 → a < 2 ^ 64 → a + u < 2 ^ 64
 unprintable-fits s b a e u h k i j = omega (arith, k, unprintable-le b, ap length h, length-take (e - a) (drop a s), length-drop a s)
 
-pub ruleset reading = (W.on-value, W.on-short, W.on-part, W.on-cut, W.on-part-refused, W.tests)
+pub ruleset reading = (W.on-value, W.on-short, W.on-part, W.on-cut, W.on-part-refused, W.tests, W.part-made)

@@ -1,28 +1,29 @@
--- By which numbers strings are refused. Assumes nothing.
+-- By which rules strings are refused. Assumes nothing.
 use Prim.Native.Nat.{ℕ, _+_}
 use lib.ListN.{length}
 use lib.Dec.{eqb}
-use Rattle.wire.specs.Numbers.{ruleNumber, cutShort, badLength, notPrintable, badDenomination}
+use Rattle.wire.specs.declared.Rule.{Rule}
+use Rattle.wire.specs.Numbers.{ruleOf, cutShort, badLength, notPrintable, badDenomination}
 use Rattle.wire.specs.Fields.{number, blob}
 use Rattle.wire.specs.Sequence.{andThen, guard}
 use Rattle.wire.proofs.Refusing.{RefusesBy, blob-refuses, number-refuses, then-refuses, guard-refuses, guardAt-refuses, mapped-refuses}
 use Rattle.string.specs.Strings.{lengthFits, notEmpty, textLength, denominationFits, lengthTo, string, unprintable, unprintable-within, printable, text, denomination}
 
-module _ (P : ℕ → Type 0) (short : P (ruleNumber cutShort)) where
-  pub string-refuses : (w most : ℕ) → P (ruleNumber badLength) → RefusesBy (string w most) P
+module _ (P : Rule → Type 0) (short : P (ruleOf cutShort)) where
+  pub string-refuses : (w most : ℕ) → P (ruleOf badLength) → RefusesBy (string w most) P
   unfolding string
   string-refuses w most h =
       mapped-refuses P (andThen (lengthTo w most) blob) (λ v. v .1)
       (then-refuses P (lengthTo w most) blob
       (guard-refuses P (number w) (λ n. lengthFits most n) badLength (number-refuses P w short) h) (λ n. blob-refuses P n short))
 
-  printable-refuses : (n : ℕ) → P (ruleNumber notPrintable) → RefusesBy (printable n) P
+  printable-refuses : (n : ℕ) → P (ruleOf notPrintable) → RefusesBy (printable n) P
   unfolding printable
   printable-refuses n h =
       guardAt-refuses P (blob n) (λ b. eqb (unprintable b) (length b)) notPrintable (blob-refuses P n short) h
       (λ at b. at + unprintable b) (λ at b k. unprintable-within n at b)
 
-  pub text-refuses : (most : ℕ) → P (ruleNumber badLength) → P (ruleNumber notPrintable) → RefusesBy (text most) P
+  pub text-refuses : (most : ℕ) → P (ruleOf badLength) → P (ruleOf notPrintable) → RefusesBy (text most) P
   unfolding text
   text-refuses most h k =
       mapped-refuses P (andThen (textLength most) printable) (λ v. v .1)
@@ -31,6 +32,6 @@ module _ (P : ℕ → Type 0) (short : P (ruleNumber cutShort)) where
       (guard-refuses P (number 2) (λ n. notEmpty n) badLength (number-refuses P 2 short) h) h)
       (λ n. printable-refuses n k))
 
-  pub denomination-refuses : P (ruleNumber badDenomination) → RefusesBy denomination P
+  pub denomination-refuses : P (ruleOf badDenomination) → RefusesBy denomination P
   unfolding denomination
   denomination-refuses h = guard-refuses P (number 1) (λ n. denominationFits n) badDenomination (number-refuses P 1 short) h

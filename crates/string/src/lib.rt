@@ -1,11 +1,19 @@
 // Strings: a length and so many bytes.
 ghost use mathlib.Core.Path.{_≡_};
+ghost use Prim.Native.Nat.{ℕ};
 ghost use Rattle.wire.specs.Bytes.{part};
-ghost use Rattle.wire.specs.Answer.{ended};
-ghost use Rattle.string.specs.Strings.{string, unprintable, text, denomination};
+ghost use Rattle.wire.specs.Answer.{ended, Passes};
+ghost use Rattle.string.specs.Strings.{string, memo, unprintable, text, denomination};
 use wire::Number;
 use wire::Part;
-use wire::Refusal;
+use wire::Rule;
+
+// The most bytes that a name, a symbol and a payload have.
+pub const NAME_MOST: u64 = 128;
+
+pub const SYMBOL_MOST: u64 = 4;
+
+pub const PAYLOAD_MOST: u64 = 1024;
 
 // A memo or a payload: a 32-bit length, at most so many bytes.
 pub fn string_at(s: &[u8], at: usize, most: u64) -> Part
@@ -15,10 +23,7 @@ pub fn string_at(s: &[u8], at: usize, most: u64) -> Part
         return Part::Refused(wire::cut(s, at, 4));
     };
     if most < length {
-        return Part::Refused(Refusal {
-            number: wire::numbers::BAD_LENGTH,
-            place: at,
-        });
+        return Part::Refused(wire::refuse(Rule::BadLength, at));
     }
     wire::part_at(s, first, length as usize)
 }
@@ -48,26 +53,17 @@ pub fn text_at(s: &[u8], at: usize, most: u64) -> Part
         return Part::Refused(wire::cut(s, at, 2));
     };
     if length == 0 {
-        return Part::Refused(Refusal {
-            number: wire::numbers::BAD_LENGTH,
-            place: at,
-        });
+        return Part::Refused(wire::refuse(Rule::BadLength, at));
     }
     if most < length {
-        return Part::Refused(Refusal {
-            number: wire::numbers::BAD_LENGTH,
-            place: at,
-        });
+        return Part::Refused(wire::refuse(Rule::BadLength, at));
     }
     let Part::Next(next) = wire::part_at(s, first, length as usize) else {
         return Part::Refused(wire::cut(s, first, length as usize));
     };
     let printable = first_unprintable(wire::between(s, first, next));
     if printable as u64 != length {
-        return Part::Refused(Refusal {
-            number: wire::numbers::NOT_PRINTABLE,
-            place: first + printable,
-        });
+        return Part::Refused(wire::refuse(Rule::NotPrintable, first + printable));
     }
     Part::Next(next)
 }
@@ -79,10 +75,27 @@ pub fn denomination_at(s: &[u8], at: usize) -> Part
         return Part::Refused(wire::cut(s, at, 1));
     };
     if 32 < value {
-        return Part::Refused(Refusal {
-            number: wire::numbers::BAD_DENOMINATION,
-            place: at,
-        });
+        return Part::Refused(wire::refuse(Rule::BadDenomination, at));
     }
     Part::Next(next)
+}
+
+// Passes a memo or a payload that was read: its length is not judged again.
+pub fn string_past(s: &[u8], at: usize) -> Part
+    ensures { λ r. ⌜ ((most : ℕ) → Passes (memo most) (now (s .entry)) at r) ⌝ }
+{
+    let Number::Value(length, first) = wire::u32_at(s, at) else {
+        return Part::Refused(wire::cut(s, at, 4));
+    };
+    wire::part_at(s, first, length as usize)
+}
+
+// Passes a name or a symbol that was read: neither its length nor its characters are judged again.
+pub fn text_past(s: &[u8], at: usize) -> Part
+    ensures { λ r. ⌜ ((most : ℕ) → Passes (text most) (now (s .entry)) at r) ⌝ }
+{
+    let Number::Value(length, first) = wire::u16_at(s, at) else {
+        return Part::Refused(wire::cut(s, at, 2));
+    };
+    wire::part_at(s, first, length as usize)
 }

@@ -18,14 +18,14 @@ use Rattle.transaction.specs.Slots.{signatureWidth}
 use Rattle.transaction.specs.Credentials.{Want, each, size, credentials}
 use Rattle.transaction.proofs.CredentialLaws.{size-each, length-credentials, total-cons}
 use Rattle.transaction.specs.Entries.{EntryAt, stateOutputEntry, stateEntries, entriesFrom, credentialEntries}
-use Rattle.transaction.specs.Plan.{Plan, shut, end, field, many, Value, form, atLeast, planEntries}
+use Rattle.transaction.specs.Plan.{contentOf, elementsOf, Plan, shut, end, field, many, plan}
+use Rattle.transaction.specs.Form.{atLeast, listOf, Value, form, planEntries}
+use Rattle.transaction.specs.Avm.{avm}
 use Rattle.transaction.specs.Signed as Any
 use Rattle.transaction.specs.Family.{Signed, unsigned, head, wants, entries}
-use Rattle.transaction.specs.Avm.{ownPlan, plan, avm}
 use Rattle.transaction.specs.Codec.{Writing}
-use Rattle.transaction.specs.declared.Kind.{Kind}
-use Rattle.transaction.specs.declared.Kind.the-variants as K
-use Rattle.transaction.specs.Answer.{memoMost}
+use Rattle.transaction.specs.declared.ListName.{ListName}
+use Rattle.transaction.specs.declared.ListName.the-variants as L
 
 -- ---- every element has bytes
 
@@ -99,42 +99,33 @@ state-few prev at v =
       list-few E stateOutputEntry (λ prev at o. output-some (fxOutputs (v .fx)) o) [] (at + 8) (v .outputs),
     )
 
--- each list of a plan has elements with no more entries than bytes
-abbrev Few : Plan → Type 0
-Few shut = Unit {0}
-Few end = Unit {0}
-Few (field l F q) = Few q
-Few (many l E q) =
-    ((prev : List ℕ) (at : ℕ) (a : E .Element) → length (E .entries at (at + length (E .element prev .write a)) a) ≤ length (E .element prev .write a)) × Few q
+element-few : (l : ListName) (prev : List ℕ) (at : ℕ) (a : elementsOf l .Element)
+    → length (elementsOf l .entries at (at + length (elementsOf l .element prev .write a)) a) ≤ length (elementsOf l .element prev .write a)
+unfolding guard
+element-few L.Output prev at a = transferable-some a
+element-few L.Input prev at a = input-some prev a
+element-few L.State prev at a = state-few prev at a
+element-few L.Operation prev at a = operation-some a
+element-few L.Imported prev at a = input-some prev a
+element-few L.Exported prev at a = transferable-some a
 
-plan-few : (p : Plan) → Few p → (v : Value p) (at : ℕ) → length (planEntries p v at) ≤ length (form p .write v)
+plan-few : (most : ℕ) (p : Plan) (v : Value p) (at : ℕ) → length (planEntries most p v at) ≤ length (form most p .write v)
 unfolding form planEntries
-plan-few shut f v at = omega arith
-plan-few end f v at = omega arith
-plan-few (field l F q) f (x, v) at =
-    omega (arith, length-append (F .content .write x) (form q .write v), plan-few q f v (at + length (F .content .write x)))
-plan-few (many l E q) f (x, v) at =
-    let w : List ℕ = atLeast (E .least) (E .element) .write x in
-    let es : List EntryAt = entriesFrom (E .element) (E .entries) [] (at + 4) x in
+plan-few most shut v at = omega arith
+plan-few most end v at = omega arith
+plan-few most (field f q) (x, v) at =
+    let w : List ℕ = contentOf most f .write x in
+    omega (arith, length-append w (form most q .write v), plan-few most q v (at + length w))
+plan-few most (many l least q) (x, v) at =
+    let w : List ℕ = listOf l least .write x in
+    let es : List EntryAt = entriesFrom (elementsOf l .element) (elementsOf l .entries) [] (at + 4) x in
     omega (
       arith,
-      length-append w (form q .write v),
-      length-append es (planEntries q v (at + length w)),
-      counted-few (E .element) (E .entries) (f .0) (E .least) at x,
-      plan-few q (f .1) v (at + length w),
+      length-append w (form most q .write v),
+      length-append es (planEntries most q v (at + length w)),
+      counted-few (elementsOf l .element) (elementsOf l .entries) (element-few l) least at x,
+      plan-few most q v (at + length w),
     )
-
-own-few : (k : Kind) → Few (ownPlan k)
-unfolding guard
-own-few K.Base = tt
-own-few K.CreateAsset = (state-few, tt)
-own-few K.Operation = (λ prev at v. operation-some v, tt)
-own-few K.Import = (λ prev at i. input-some prev i, tt)
-own-few K.Export = (λ prev at o. transferable-some o, tt)
-
-few : (k : Kind) → Few (plan memoMost k)
-unfolding guard
-few k = (λ prev at o. transferable-some o, (λ prev at i. input-some prev i, own-few k))
 
 credentials-few : (ws : List Want) (at : ℕ) → length (credentialEntries ws at) ≤ size (each ws)
 unfolding credentialEntries
@@ -145,12 +136,13 @@ credentials-few (w ∷ ws) at =
 
 -- ---- all entries
 
-pub entries-few : (s : List ℕ) (v : Signed (avm memoMost)) → Writing (avm memoMost) s v → length (entries (avm memoMost) v) ≤ length s
+pub entries-few : (most : ℕ) (s : List ℕ) (v : Signed (avm most)) → Writing (avm most) s v → length (entries (avm most) v) ≤ length s
 unfolding entries Any.signed unsigned wants
-entries-few s (u, l) w =
-    let h : List ℕ = head (avm memoMost) .write (u .0) in
-    let f : List ℕ = form (plan memoMost (u .0 .kind)) .write (u .1) in
-    let ws : List Want = wants (avm memoMost) u in
+entries-few most s (u, l) w =
+    let p : Plan = plan (u .0 .kind) in
+    let h : List ℕ = head (avm most) .write (u .0) in
+    let f : List ℕ = form most p .write (u .1) in
+    let ws : List Want = wants (avm most) u in
     let c : List ℕ = credentials ws .write l in
     omega (
       arith,
@@ -158,8 +150,8 @@ entries-few s (u, l) w =
       length-append h f,
       length-append (h ++ f) c,
       credentials-length ws l (w .good .1),
-      length-append (planEntries (plan memoMost (u .0 .kind)) (u .1) (length h)) (credentialEntries ws (length (h ++ f) + 4)),
-      plan-few (plan memoMost (u .0 .kind)) (few (u .0 .kind)) (u .1) (length h),
+      length-append (planEntries most p (u .1) (length h)) (credentialEntries ws (length (h ++ f) + 4)),
+      plan-few most p (u .1) (length h),
       credentials-few ws (length (h ++ f) + 4),
     )
   where

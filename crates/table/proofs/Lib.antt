@@ -1,6 +1,5 @@
-pub mod Rest
-pub mod Counting
-pub mod Entries
+-- The laws that proofs cite
+pub mod Looping
 pub mod Inside
 pub mod Bounding
 pub mod Tabling

@@ -1,9 +1,13 @@
--- The table: three numbers for each entry, in byte order; and the entry of a number. Assumes nothing.
-use Prim.Native.Nat.{ℕ, zero, suc, _+_, _-_, _*_, _%_}
+-- Rows put into a table, counted, and found by their number; and what is said of them where es are ahead of the first cursor. Assumes nothing.
+use mathlib.Core.Path.{_≡_}
+use Prim.Native.Nat.{ℕ, _+_, _-_, _*_, _%_}
 use mathlib.Core.List.{List, [], _∷_, _++_}
+use mathlib.Core.Option.{Option, none, some}
 use lib.ListN.{length, take, drop}
 use lib.Dec.{leb}
 use Rattle.wire.specs.Bytes.{pick}
+use Rattle.transaction.specs.Entries.{EntryAt, nth}
+use Rattle.walk.specs.Walk.{located, start, Ahead}
 use Rattle.walk.specs.declared.Row.{Row}
 use Rattle.table.specs.declared.Count.{Count}
 use Rattle.table.specs.declared.Count.the-variants as C
@@ -19,16 +23,23 @@ unfoldable pub putRow : ℕ → Row → List ℕ → List ℕ
 putRow i r t = take (3 * i) t ++ (numbers r ++ drop (3 * i + 3) t)
 
 -- rows from the i-th on
-unfoldable pub putRows : ℕ → List Row → List ℕ → List ℕ
+unfoldable pub putRows : ℕ → List EntryAt → List ℕ → List ℕ
 putRows i [] t = t
-putRows i (r ∷ rs) t = putRows (i + 1) rs (putRow i r t)
+putRows i (e ∷ es) t = putRows (i + 1) es (putRow i (located e) t)
 
--- how many, if at most `most`
-abbrev pub counted : ℕ → List Row → Count
-counted most rs = pick (leb (length rs) most) (C.Rows (length rs)) C.TooMany
+-- how many, if there is room
+abbrev pub counted : ℕ → List EntryAt → Count
+counted room es = pick (leb (length es) room) (C.Rows (length es)) C.TooMany
 
--- the n-th, from 0
-unfoldable pub nth : ℕ → List Row → Nth
-nth n [] = N.Missing
-nth zero (r ∷ rs) = N.Entry r
-nth (suc n) (r ∷ rs) = nth n rs
+abbrev pub rowOf : Option EntryAt → Nth
+rowOf none = N.Missing
+rowOf (some e) = N.Entry (located e)
+
+unfoldable pub Counts : ℕ → ℕ → List ℕ → Count → Type 0
+Counts room kind s r = (most : ℕ) (es : List EntryAt) → Ahead s most kind start es → r ≡ counted room es
+
+unfoldable pub Finds : ℕ → ℕ → List ℕ → Nth → Type 0
+Finds n kind s r = (most : ℕ) (es : List EntryAt) → Ahead s most kind start es → r ≡ rowOf (nth es n)
+
+unfoldable pub Puts : ℕ → ℕ → List ℕ → List ℕ → List ℕ → Type 0
+Puts n kind s t u = (most : ℕ) (es : List EntryAt) → Ahead s most kind start es → length es ≡ n → u ≡ putRows 0 es t

@@ -4,6 +4,9 @@ pub mod rows;
 use walk::Row;
 use wire::Refusal;
 
+// The numbers of a row: kind, start, length.
+pub const ROW_NUMBERS: usize = 3;
+
 // How many entries there are, if not more than asked for.
 pub enum Count {
     Rows(usize),

@@ -2,26 +2,27 @@
 ghost use mathlib.Core.Path.{_≡_};
 ghost use Prim.Native.Nat.{_+_, _-_, _*_, _≤_};
 ghost use lib.ListN.{length};
-ghost use Rattle.walk.specs.Walk.{start, rest};
+ghost use Rattle.transaction.specs.Answer.{memoMost};
 ghost use Rattle.table.specs.Table.{filled, tabled};
-ghost use Rattle.table.specs.Rows.{putRow, putRows, counted, nth};
+ghost use Rattle.table.specs.Rows.{putRow, Counts, Finds, Puts};
 use crate::Count;
 use crate::Nth;
+use crate::ROW_NUMBERS;
 use crate::Tabled;
 use transaction::Checked;
-use transaction::Layout;
 use walk::Row;
 use walk::Step;
-use wire::Refusal;
+use walk::steps;
+use wire::Rule;
 
-// How many entries there are, if at most so many.
-fn count(s: &[u8], layout: Layout, most: usize) -> Count
-    ensures { λ r. ⌜ r ≡ counted most (rest layout (now (s .entry)) (start layout)) ⌝ }
+// How many entries there are, if there is room for them.
+fn count(s: &[u8], kind: u32, room: usize) -> Count
+    ensures { λ r. ⌜ Counts room kind (now (s .entry)) r ⌝ }
 {
-    let mut cursor = walk::steps::first(layout);
+    let mut cursor = steps::first();
     let mut n: usize = 0;
     loop {
-        match walk::steps::step(s, layout, cursor) {
+        match steps::step(s, kind, cursor) {
             Step::Done => {
                 return Count::Rows(n);
             }
@@ -29,7 +30,7 @@ fn count(s: &[u8], layout: Layout, most: usize) -> Count
                 cursor = next;
             }
             Step::Found(_, next) => {
-                if n == most {
+                if n == room {
                     return Count::TooMany;
                 }
                 n += 1;
@@ -40,13 +41,13 @@ fn count(s: &[u8], layout: Layout, most: usize) -> Count
 }
 
 // The n-th entry, from 0.
-pub fn find(s: &[u8], layout: Layout, n: u64) -> Nth
-    ensures { λ r. ⌜ r ≡ nth n (rest layout (now (s .entry)) (start layout)) ⌝ }
+pub fn find(s: &[u8], kind: u32, n: u64) -> Nth
+    ensures { λ r. ⌜ Finds n kind (now (s .entry)) r ⌝ }
 {
-    let mut cursor = walk::steps::first(layout);
+    let mut cursor = steps::first();
     let mut left = n;
     loop {
-        match walk::steps::step(s, layout, cursor) {
+        match steps::step(s, kind, cursor) {
             Step::Done => {
                 return Nth::Missing;
             }
@@ -79,21 +80,21 @@ fn put_row(table: &mut [u32], i: usize, row: Row)
     requires { ⌜ 3 * i + 3 ≤ length (now table) ⌝ }
     ensures { λ _. ⌜ now (table .exit) ≡ putRow i row (now (table .entry)) ⌝ }
 {
-    let at = 3 * i;
+    let at = ROW_NUMBERS * i;
     table[at] = row.kind;
     table[at + 1] = (row.start % 4294967296) as u32;
     table[at + 2] = (span(row) % 4294967296) as u32;
 }
 
-// Puts every row, for which there is room.
-fn put_rows(s: &[u8], layout: Layout, table: &mut [u32])
-    requires { ⌜ 3 * length (rest layout (now s) (start layout)) ≤ length (now table) ⌝ }
-    ensures { λ _. ⌜ now (table .exit) ≡ putRows 0 (rest layout (now (s .entry)) (start layout)) (now (table .entry)) ⌝ }
+// Puts n rows, for which there is room.
+fn put_rows(s: &[u8], kind: u32, n: usize, table: &mut [u32])
+    requires { ⌜ 3 * n ≤ length (now table) ⌝ }
+    ensures { λ _. ⌜ Puts n kind (now (s .entry)) (now (table .entry)) (now (table .exit)) ⌝ }
 {
-    let mut cursor = walk::steps::first(layout);
+    let mut cursor = steps::first();
     let mut i: usize = 0;
     loop {
-        match walk::steps::step(s, layout, cursor) {
+        match steps::step(s, kind, cursor) {
             Step::Done => {
                 return;
             }
@@ -101,6 +102,9 @@ fn put_rows(s: &[u8], layout: Layout, table: &mut [u32])
                 cursor = next;
             }
             Step::Found(row, next) => {
+                if i == n {
+                    return;
+                }
                 put_row(table, i, row);
                 i += 1;
                 cursor = next;
@@ -109,21 +113,24 @@ fn put_rows(s: &[u8], layout: Layout, table: &mut [u32])
     }
 }
 
-// Checks the bytes, and writes a row of three numbers for each entry.
-pub fn check_table(s: &[u8], table: &mut [u32]) -> Tabled
-    ensures { λ r. ⌜ filled r (now (table .exit)) ≡ tabled (now (s .entry)) (now (table .entry)) ⌝ }
+// Checks the bytes, where a memo has at most so many of them, and writes a row of three numbers for each entry.
+pub fn check_table_within(s: &[u8], table: &mut [u32], most: u64) -> Tabled
+    ensures { λ r. ⌜ filled r (now (table .exit)) ≡ tabled most (now (s .entry)) (now (table .entry)) ⌝ }
 {
-    match checker::check::check(s) {
+    match checker::check::check_within(s, most) {
         Checked::Refused(refusal) => Tabled::Refused(refusal),
-        Checked::Accepted(layout, end) => match count(s, layout, table.len() / 3) {
-            Count::TooMany => Tabled::Refused(Refusal {
-                number: wire::numbers::NO_ROOM,
-                place: 0,
-            }),
+        Checked::Accepted(layout, end) => match count(s, layout.kind, table.len() / ROW_NUMBERS) {
+            Count::TooMany => Tabled::Refused(wire::refuse(Rule::NoRoom, 0)),
             Count::Rows(n) => {
-                put_rows(s, layout, table);
+                put_rows(s, layout.kind, n, table);
                 Tabled::Listed(n, end)
             }
         },
     }
+}
+
+pub fn check_table(s: &[u8], table: &mut [u32]) -> Tabled
+    ensures { λ r. ⌜ filled r (now (table .exit)) ≡ tabled memoMost (now (s .entry)) (now (table .entry)) ⌝ }
+{
+    check_table_within(s, table, transaction::MEMO_MOST)
 }

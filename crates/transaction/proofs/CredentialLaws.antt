@@ -11,7 +11,7 @@ use lib.ListN.{length, take, getD, length-append, List·getD-append}
 use lib.Seq.{take-at, drop-at, getD-append-add}
 use borrow.Author.Tests.{eq-eqb}
 use Rattle.wire.specs.Bytes.{Bytes, digits, length-digits, pick}
-use Rattle.wire.specs.Numbers.{Rule, by, unknownType, wrongCount}
+use Rattle.wire.specs.Numbers.{by, unknownType, wrongCount}
 use Rattle.wire.specs.Format.{Format, run-alike}
 use Rattle.wire.specs.Fields.{number, blob}
 use Rattle.wire.specs.declared.Refusal.{Refusal}

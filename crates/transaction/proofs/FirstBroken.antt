@@ -10,10 +10,12 @@ use native.Mathlib.Nat.{not-suc-le-zero, zero-add}
 use lib.ListN.{length, take, drop, length-take, take-append-drop}
 use lib.Seq.{take-length, take-take, length-take-le}
 use lib.Dec.{leb, eqb}
-use borrow.Author.Tests.{le-leb, lt-leb, leb-true, leb-false, eqb-true, eqb-false, eq-eqb, ne-eqb}
+use borrow.Author.Tests.{le-leb, lt-leb, leb-true, leb-false, eqb-false, eq-eqb, ne-eqb}
 use Rattle.wire.specs.Bytes.{Bytes, pick, bytes-take}
 use Rattle.wire.specs.Format.{Format, Result, took, refused, onResult, read, read-complete, kept, local, took-refused, stands-inside}
-use Rattle.wire.specs.Numbers.{refusal, cutShort, ruleNumber, tooLong, bytesAfterEnd, ruled-range, numberOf}
+use Rattle.wire.specs.declared.Rule.{Rule}
+use Rattle.wire.specs.Numbers.{refusal, numberOf, ruleOf, cutShort, tooLong, bytesAfterEnd, ruled-range}
+use Rattle.wire.proofs.Refusing.{cut-or-other}
 use Rattle.wire.specs.Whole.{whole, whole-sound}
 use Rattle.wire.specs.declared.Refusal.{Refusal}
 use Rattle.transaction.specs.Signed.{mostBytes, taken}
@@ -25,13 +27,16 @@ use Rattle.transaction.proofs.Signed.{taken-inv}
 abbrev placeOf : Refusal → ℕ
 placeOf e = e .place
 
+abbrev brokenBy : Refusal → Rule
+brokenBy e = e .rule
+
 length-beginning : (k : ℕ) (s : List ℕ) → length (take k s) ≤ length s
 length-beginning k s = simp length-take (omega arith)
 
 module _ {A : Type 0} (G : Format A) where
   -- s is read as cut short, at some place
   abbrev ReadCut : List ℕ → Type 0
-  ReadCut s = (p : ℕ) × (read G s 0 ≡ refused (refusal (ruleNumber cutShort) p))
+  ReadCut s = (p : ℕ) × (read G s 0 ≡ refused (refusal (ruleOf cutShort) p))
 
   -- a beginning is cut short, or read as the whole is
   beginning : (s : List ℕ) (k : ℕ) → Bytes s → ReadCut (take k s) ⊎ (read G (take k s) 0 ≡ read G s 0)
@@ -40,14 +45,13 @@ module _ {A : Type 0} (G : Format A) where
       whole-of : {o : Result A} → read G (take k s ++ drop k s) 0 ≡ o → o ≡ read G s 0
       whole-of e = sym e ∙ ap (λ (t : List ℕ). read G t 0) (take-append-drop k s)
 
-      named : (e : Refusal) (t : Bool) → eqb (e .number) (ruleNumber cutShort) ≡ t → read G (take k s) 0 ≡ refused e
-          → ReadCut (take k s) ⊎ (read G (take k s) 0 ≡ read G s 0)
-      named e true q r = inl (e .place, r ∙ ap (λ (n : ℕ). refused (refusal n (e .place))) (eqb-true (e .number) (ruleNumber cutShort) q))
-      named e false q r = inr (r ∙ whole-of (G .stable (take k s) (drop k s) 0 e (bytes-take k s b) (eqb-false (e .number) (ruleNumber cutShort) q) r))
-
       judge : (o : Result A) → read G (take k s) 0 ≡ o → ReadCut (take k s) ⊎ (read G (take k s) 0 ≡ read G s 0)
       judge (took v n) r = inr (r ∙ whole-of (kept G (take k s) (drop k s) 0 v n (bytes-take k s b) r))
-      judge (refused e) r = named e (eqb (e .number) (ruleNumber cutShort)) refl r
+      judge (refused e) r =
+          ⊎-elim
+          (λ q. inl (e .place, r ∙ ap (λ (x : Rule). refused (refusal x (e .place))) q))
+          (λ ne. inr (r ∙ whole-of (G .stable (take k s) (drop k s) 0 e (bytes-take k s b) ne r)))
+          (cut-or-other (e .rule) (G .ruled (take k s) 0 e r))
 
   -- what is cut short is cut short at every earlier byte
   cut-beginning : (s : List ℕ) (k : ℕ) → Bytes s → ReadCut s → ReadCut (take k s)
@@ -130,10 +134,10 @@ module _ {A : Type 0} (G : Format A) (most : ℕ) where
 
   -- refused by 2 at some place
   abbrev AnswerCut : List ℕ → Type 0
-  AnswerCut s = (p : ℕ) × (answer s ≡ refused (refusal (ruleNumber cutShort) p))
+  AnswerCut s = (p : ℕ) × (answer s ≡ refused (refusal (ruleOf cutShort) p))
 
   beginning-cut : (s : List ℕ) (k : ℕ) → length s ≤ most → ReadCut G (take k s) → AnswerCut (take k s)
-  beginning-cut s k h (p, r) = (p, answer-refused (take k s) (refusal (ruleNumber cutShort) p) (omega (arith, length-beginning k s)) r)
+  beginning-cut s k h (p, r) = (p, answer-refused (take k s) (refusal (ruleOf cutShort) p) (omega (arith, length-beginning k s)) r)
 
   -- ---- each sentence
 
@@ -173,10 +177,10 @@ module _ {A : Type 0} (G : Format A) (most : ℕ) where
           ∙ kept G (take n s) (drop n s) 0 v (length (take n s)) (bytes-take n s b) r
           ∙ ap (took v) (length-take-le n s (omega arith)))
 
-  cut-throughout : (s : List ℕ) (p : ℕ) → Bytes s → answer s ≡ refused (refusal (ruleNumber cutShort) p) → (k : ℕ) → AnswerCut (take k s)
-  cut-throughout s p b q k = from (cause s (refusal (ruleNumber cutShort) p) q)
+  cut-throughout : (s : List ℕ) (p : ℕ) → Bytes s → answer s ≡ refused (refusal (ruleOf cutShort) p) → (k : ℕ) → AnswerCut (take k s)
+  cut-throughout s p b q k = from (cause s (refusal (ruleOf cutShort) p) q)
     where
-      from : Cause s (refusal (ruleNumber cutShort) p) → AnswerCut (take k s)
+      from : Cause s (refusal (ruleOf cutShort) p) → AnswerCut (take k s)
       from (long h e) = absurd (let z = ap numberOf e in omega arith)
       from (after h v n r ne e) = absurd (let z = ap numberOf e in omega arith)
       from (rule h r) = beginning-cut s k h (cut-beginning G s k b (p, r))
@@ -189,7 +193,7 @@ module _ {A : Type 0} (G : Format A) (most : ℕ) where
       (beginning G s k b)
 
   -- what the first m bytes are refused by, all bytes that start with them are
-  settled : (s : List ℕ) (e : Refusal) (m : ℕ) → Bytes s → (e .number ≡ ruleNumber cutShort → ⊥) → read G (take m s) 0 ≡ refused e
+  settled : (s : List ℕ) (e : Refusal) (m : ℕ) → Bytes s → (e .rule ≡ ruleOf cutShort → ⊥) → read G (take m s) 0 ≡ refused e
       → (t : List ℕ) → length t ≤ most → take m t ≡ take m s → answer t ≡ refused e
   settled s e m b ne r t h q =
       answer-refused t e h
@@ -197,23 +201,23 @@ module _ {A : Type 0} (G : Format A) (most : ℕ) where
       ∙ G .stable (take m s) (drop m t) 0 e (bytes-take m s b) ne r)
 
   -- a refusal of a rule that the bytes break while they are read is that of the reading
-  rule-read : (s : List ℕ) (e : Refusal) → (e .number ≡ tooLong → ⊥) → (e .number ≡ bytesAfterEnd → ⊥) → answer s ≡ refused e
+  rule-read : (s : List ℕ) (e : Refusal) → (e .rule ≡ tooLong → ⊥) → (e .rule ≡ bytesAfterEnd → ⊥) → answer s ≡ refused e
       → (length s ≤ most) × (read G s 0 ≡ refused e)
   rule-read s e n₁ n₁₃ q = from (cause s e q)
     where
       from : Cause s e → (length s ≤ most) × (read G s 0 ≡ refused e)
-      from (long h z) = absurd (n₁ (sym (ap numberOf z)))
+      from (long h z) = absurd (n₁ (sym (ap brokenBy z)))
       from (rule h r) = (h, r)
-      from (after h v n r ne z) = absurd (n₁₃ (sym (ap numberOf z)))
+      from (after h v n r ne z) = absurd (n₁₃ (sym (ap brokenBy z)))
 
 module _ (F : Family) where
-  moment : (s : List ℕ) (n p : ℕ) → Bytes s → (n ≡ tooLong → ⊥) → (n ≡ ruleNumber cutShort → ⊥) → (n ≡ bytesAfterEnd → ⊥)
-      → Refuses F s n p → (m : ℕ) × Moment F s n p m
+  moment : (s : List ℕ) (x : Rule) (p : ℕ) → Bytes s → (x ≡ tooLong → ⊥) → (x ≡ ruleOf cutShort → ⊥) → (x ≡ bytesAfterEnd → ⊥)
+      → Refuses F s x p → (m : ℕ) × Moment F s x p m
   unfolding Any.check
-  moment s n p b n₁ n₂ n₁₃ q =
-      let (h, r) = rule-read (signed F) mostBytes s (refusal n p) n₁ n₁₃ q in
+  moment s x p b n₁ n₂ n₁₃ q =
+      let (h, r) = rule-read (signed F) mostBytes s (refusal x p) n₁ n₁₃ q in
       let (m, i, f, w) = shortest (signed F) s b in
-      let all = settled (signed F) mostBytes s (refusal n p) m b n₂ (w ∙ r) in (
+      let all = settled (signed F) mostBytes s (refusal x p) m b n₂ (w ∙ r) in (
         m,
         record {
           inside = i;

@@ -11,6 +11,7 @@ use lib.Dec.{leb}
 use borrow.Author.Tests.{leb-true, le-leb}
 use Rattle.wire.specs.Bytes.{digits, length-digits, below}
 use Rattle.wire.specs.Numbers.{wrongCodec, unknownType, wrongCount, emptyList}
+use Rattle.wire.specs.Format.{Format}
 use Rattle.wire.specs.Fields.{Sized, number, blob}
 use Rattle.wire.specs.Sequence.{guard}
 use Rattle.wire.specs.Series.{left, Chain, notBelow}
@@ -25,11 +26,11 @@ use Rattle.element.proofs.Writing.{transferableOutput-bytes}
 use Rattle.element.proofs.Good.{string-good, text-good, denomination-good, transferableOutput-good, key-width, input-good, input-front, operation-good, fxCode-fits, initialState-good, initialState-front}
 use Rattle.transaction.specs.Slots.{signatureWidth}
 use Rattle.transaction.specs.Credentials.{credentialCode, Want, Piece, signatures, each, pieces, credentials, total}
-use Rattle.transaction.specs.Entries.{EntryAt, importedEntry, exportedEntry, outputEntry, inputEntry}
-use Rattle.transaction.specs.Plan.{Elements, atLeast, listOf, Value, form, asked, wanted}
+use Rattle.transaction.specs.Plan.{ownPlan, kindCode, kindOf, kindOf-code, kinds}
+use Rattle.transaction.specs.Form.{atLeast, Value, form, asked, wanted}
+use Rattle.transaction.specs.Avm.{avm}
 use Rattle.transaction.specs.Family.{Head, head, unsigned, wants, Signed, signed}
 use Rattle.transaction.specs.Signed as Any
-use Rattle.transaction.specs.Avm.{asksNothing, outputs, inputs, operations, states, kindCode, kindOf, kindOf-code, ownPlan, avm}
 use Rattle.transaction.specs.Transaction.{Own, plain, createAsset, operate, importFrom, exportTo, Transaction, inputWant, operationWant, ownWants, credentialsOf, GoodOutputs, GoodInputs, GoodOperations, GoodStates, GoodOwn, GoodTransaction}
 use Rattle.transaction.specs.Accepted.{ownOf, reading, kindOwn, ownValue, valueOf}
 use Rattle.transaction.specs.declared.Kind.{Kind}
@@ -109,22 +110,21 @@ credentials-good ws l = (
 -- ---- lists
 
 -- a list of at least so many elements
-list-good : (E : Elements) (P : List (E .Element) → Type 0) → ((l : List (E .Element)) → Chain (E .element) (left (E .element)) [] l ↔ P l)
-    → (l : List (E .Element)) → listOf E .Good l ↔ ((E .least ≤ length l) × (length l < 256 ^ 4) × P l)
+list-good : {A : Type 0} (least : ℕ) (E : List ℕ → Format A) (P : List A → Type 0) → ((l : List A) → Chain E (left E) [] l ↔ P l)
+    → (l : List A) → atLeast least E .Good l ↔ ((least ≤ length l) × (length l < 256 ^ 4) × P l)
 unfolding atLeast number
-list-good E P good l =
-    let on = counted-good (E .element) P good (guard (number 4) (λ n. leb (E .least) n) emptyList) l in (
+list-good least E P good l =
+    let on = counted-good E P good (guard (number 4) (λ n. leb least n) emptyList) l in (
       λ h.
-          let ((count, least), p) = on .0 h in
-          (leb-true (E .least) (length l) least, count, p),
-      λ g. on .1 ((g .1, le-leb (E .least) (length l) (g .0)), g .2),
+          let ((count, some), p) = on .0 h in
+          (leb-true least (length l) some, count, p),
+      λ g. on .1 ((g .1, le-leb least (length l) (g .0)), g .2),
     )
 
-module _ (least : ℕ) (entry : ℕ → ℕ → TransferableOutput → List EntryAt) where
-  pub outputs-good : (l : List TransferableOutput) → unfold outputs in (listOf (outputs least entry) .Good l ↔ ((least ≤ length l) × GoodOutputs l))
-  unfolding outputs
+module _ (least : ℕ) where
+  pub outputs-good : (l : List TransferableOutput) → atLeast least (notBelow transferableOutput) .Good l ↔ ((least ≤ length l) × GoodOutputs l)
   outputs-good l =
-      let on = list-good (outputs least entry) Sorted chain l in (
+      let on = list-good least (notBelow transferableOutput) Sorted chain l in (
         λ h.
             let (some, count, (each, sorted)) = on .0 h in
             (some, record { count = count; each = each; order = sorted }),
@@ -141,11 +141,10 @@ module _ (least : ℕ) (entry : ℕ → ℕ → TransferableOutput → List Entr
           (Iff·and Iff·rfl (rw (map-congr-left {f = transferableOutput .write} {g = transferableOutputBytes} {l = l} (λ o m. transferableOutput-bytes o)) at
           (adjacent-map (transferableOutput .write) (λ a b. below b a ≡ false) l)))
 
-module _ (least : ℕ) (entry : ℕ → ℕ → Input → List EntryAt) where
-  pub inputs-good : (l : List Input) → unfold inputs in (listOf (inputs least entry) .Good l ↔ ((least ≤ length l) × GoodInputs l))
-  unfolding inputs
+module _ (least : ℕ) where
+  pub inputs-good : (l : List Input) → atLeast least input .Good l ↔ ((least ≤ length l) × GoodInputs l)
   inputs-good l =
-      let on = list-good (inputs least entry) Sorted chain l in (
+      let on = list-good least input Sorted chain l in (
         λ h.
             let (some, count, (each, sorted)) = on .0 h in
             (some, record { count = count; each = each; order = sorted }),
@@ -162,18 +161,18 @@ module _ (least : ℕ) (entry : ℕ → ℕ → Input → List EntryAt) where
           (λ i g. key-width (i .txid, i .index) (g .key)) (λ a b ga gb. Iff·rfl) l)
           (Iff·and Iff·rfl (adjacent-map inputKey (λ a b. below a b ≡ true) l))
 
-pub operations-good : (l : List Operation) → unfold operations in (listOf operations .Good l ↔ GoodOperations l)
+pub operations-good : (l : List Operation) → atLeast 1 (λ prev. operation) .Good l ↔ GoodOperations l
 operations-good l =
-    let on = list-good operations (All GoodOperation) (unordered-good operation GoodOperation operation-good []) l in (
+    let on = list-good 1 (λ prev. operation) (All GoodOperation) (unordered-good operation GoodOperation operation-good []) l in (
       λ h.
           let (some, count, each) = on .0 h in
           record { some = some; count = count; each = each },
       λ g. on .1 (g .some, g .count, g .each),
     )
 
-pub states-good : (l : List InitialState) → unfold states in (listOf states .Good l ↔ GoodStates l)
+pub states-good : (l : List InitialState) → atLeast 1 initialState .Good l ↔ GoodStates l
 states-good l =
-    let on = list-good states Sorted chain l in (
+    let on = list-good 1 initialState Sorted chain l in (
       λ h.
           let (some, count, (each, sorted)) = on .0 h in
           record { some = some; count = count; each = each; order = sorted },
@@ -195,10 +194,10 @@ states-good l =
 
 -- ---- what a type has of its own
 
-pub own-good : (k : Kind) (w : Value (ownPlan k)) → form (ownPlan k) .Good w ↔ GoodOwn (ownOf k w)
+pub own-good : (most : ℕ) (k : Kind) (w : Value (ownPlan k)) → form most (ownPlan k) .Good w ↔ GoodOwn (ownOf k w)
 unfolding ownOf form blob
-own-good K.Base w = (λ h. tt, λ g. refl)
-own-good K.CreateAsset (name, (symbol, (denomination, (list, w)))) = (
+own-good most K.Base w = (λ h. tt, λ g. refl)
+own-good most K.CreateAsset (name, (symbol, (denomination, (list, w)))) = (
   λ h.
       record {
         name-good = text-good 128 (omega arith) name .0 (h .0);
@@ -211,23 +210,23 @@ own-good K.CreateAsset (name, (symbol, (denomination, (list, w)))) = (
     (text-good 4 (omega arith) symbol .1 (g .symbol-good), (denomination-good denomination .1 (g .denomination-good), (states-good list .1 (g .states-good), refl))),
   ),
 )
-own-good K.Operation (list, w) = (λ h. operations-good list .0 (h .0), λ g. (operations-good list .1 g, refl))
-own-good K.Import (chain, (list, w)) = (
+own-good most K.Operation (list, w) = (λ h. operations-good list .0 (h .0), λ g. (operations-good list .1 g, refl))
+own-good most K.Import (chain, (list, w)) = (
   λ h.
-      let (some, good) = inputs-good 1 importedEntry list .0 (h .1 .0) in
+      let (some, good) = inputs-good 1 list .0 (h .1 .0) in
       record { chain-good = h .0; some = some; inputs-good = good },
-  λ g. (g .chain-good, (inputs-good 1 importedEntry list .1 (g .some, g .inputs-good), refl)),
+  λ g. (g .chain-good, (inputs-good 1 list .1 (g .some, g .inputs-good), refl)),
 )
-own-good K.Export (chain, (list, w)) = (
+own-good most K.Export (chain, (list, w)) = (
   λ h.
-      let (some, good) = outputs-good 1 exportedEntry list .0 (h .1 .0) in
+      let (some, good) = outputs-good 1 list .0 (h .1 .0) in
       record { chain-good = h .0; some = some; outputs-good = good },
-  λ g. (g .chain-good, (outputs-good 1 exportedEntry list .1 (g .some, g .outputs-good), refl)),
+  λ g. (g .chain-good, (outputs-good 1 list .1 (g .some, g .outputs-good), refl)),
 )
 
 -- ---- the credentials that a transaction wants
 
-asked-none : {A : Type 0} (l : List A) → asked asksNothing l ≡ []
+asked-none : {A : Type 0} (l : List A) → asked {A = A} (λ a. []) l ≡ []
 unfolding asked
 asked-none [] = refl
 asked-none (a ∷ l) = asked-none l
@@ -240,10 +239,10 @@ asked-one f (a ∷ l) = ap (λ (ws : List Want). f a ∷ ws) (asked-one f l)
 own-wanted : (k : Kind) (w : Value (ownPlan k)) → wanted (ownPlan k) w ≡ ownWants (ownOf k w)
 unfolding ownOf wanted
 own-wanted K.Base w = refl
-own-wanted K.CreateAsset (name, (symbol, (denomination, (list, w)))) = append-nil (asked asksNothing list) ∙ asked-none list
+own-wanted K.CreateAsset (name, (symbol, (denomination, (list, w)))) = append-nil _ ∙ asked-none list
 own-wanted K.Operation (list, w) = append-nil _ ∙ asked-one operationWant list
 own-wanted K.Import (chain, (list, w)) = append-nil _ ∙ asked-one inputWant list
-own-wanted K.Export (chain, (list, w)) = append-nil (asked asksNothing list) ∙ asked-none list
+own-wanted K.Export (chain, (list, w)) = append-nil _ ∙ asked-none list
 
 -- one for each input, then for each operation or imported input
 pub wants-credentials : (most : ℕ) (v : Signed (avm most)) → wants (avm most) (v .0) ≡ credentialsOf (reading most v)
@@ -280,7 +279,7 @@ kindCode-fits K.Operation = omega arith
 kindCode-fits K.Import = omega arith
 kindCode-fits K.Export = omega arith
 
-kind-listed : (k : Kind) → OneOf k (K.Base ∷ K.CreateAsset ∷ K.Operation ∷ K.Import ∷ K.Export ∷ [])
+kind-listed : (k : Kind) → OneOf k kinds
 kind-listed K.Base = inl refl
 kind-listed K.CreateAsset = inr (inl refl)
 kind-listed K.Operation = inr (inr (inl refl))
@@ -295,7 +294,7 @@ head-good most h = (
   λ g. (
     constant-good 2 0 wrongCodec .1 (omega arith),
     (
-      tag-good kindCode kindOf kindOf-code (number 4) (K.Base ∷ K.CreateAsset ∷ K.Operation ∷ K.Import ∷ K.Export ∷ []) unknownType (h .kind) (kindCode-fits (h .kind)) .1
+      tag-good kindCode kindOf kindOf-code (number 4) kinds unknownType (h .kind) (kindCode-fits (h .kind)) .1
           (kind-listed (h .kind)),
       g,
     ),
@@ -314,12 +313,12 @@ transaction-good most ((h, (outs, (ins, (memo, own)))), signatures) = (
             record {
               network = network;
               chain = chain;
-              outputs = outputs-good 0 outputEntry outs .0 (g .0 .1 .0) .1;
-              inputs = inputs-good 0 inputEntry ins .0 (g .0 .1 .1 .0) .1;
+              outputs = outputs-good 0 outs .0 (g .0 .1 .0) .1;
+              inputs = inputs-good 0 ins .0 (g .0 .1 .1 .0) .1;
               memo = note;
               memo-length = length-fits;
             };
-        own = own-good (h .kind) own .0 (g .0 .1 .1 .1 .1);
+        own = own-good most (h .kind) own .0 (g .0 .1 .1 .1 .1);
         credentials = credentials;
         count = count;
         signatures = sized;
@@ -328,10 +327,10 @@ transaction-good most ((h, (outs, (ins, (memo, own)))), signatures) = (
     (
       head-good most h .1 (g .base .network, g .base .chain),
       (
-        outputs-good 0 outputEntry outs .1 (omega arith, g .base .outputs),
+        outputs-good 0 outs .1 (omega arith, g .base .outputs),
         (
-          inputs-good 0 inputEntry ins .1 (omega arith, g .base .inputs),
-          (string-good 4 most memo .1 (g .base .memo, g .base .memo-length), own-good (h .kind) own .1 (g .own)),
+          inputs-good 0 ins .1 (omega arith, g .base .inputs),
+          (string-good 4 most memo .1 (g .base .memo, g .base .memo-length), own-good most (h .kind) own .1 (g .own)),
         ),
       ),
     ),

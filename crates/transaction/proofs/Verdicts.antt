@@ -1,27 +1,22 @@
 -- What a caller of the check knows by its answer: the number, the place and the verdict. Assumes nothing.
-use Prim.Native.Nat.{ℕ, _+_, _≤_}
-use mathlib.Core.Path.{_≡_, refl, sym, ap, _∙_}
+use Prim.Native.Nat.{ℕ, _≤_}
+use mathlib.Core.Path.{_≡_, refl, sym, ap}
 use mathlib.Core.Bool.{Bool, true, false}
-use mathlib.Core.List.{List, _++_}
+use mathlib.Core.List.{List}
 use native.Mathlib.Omega.{arith}
 use lib.ListN.{length, length-append}
 use lib.Dec.{leb}
 use borrow.Author.Tests.{leb-true}
 use Rattle.wire.specs.declared.Refusal.{Refusal}
 use Rattle.wire.specs.Bytes.{Bytes}
-use Rattle.wire.specs.Numbers.{refusal, tooLong}
+use Rattle.wire.specs.Numbers.{numberOf, refusal, tooLong}
 use Rattle.wire.specs.Format.{Result, took, refused, onResult, verdict, refused-placed}
-use Rattle.wire.specs.Series.{notBelow}
-use Rattle.string.specs.Strings.{memo}
-use Rattle.element.specs.Outputs.{transferableOutput}
-use Rattle.element.specs.Inputs.{input}
 use Rattle.transaction.specs.Signed as Any
-use Rattle.transaction.specs.Plan.{Value, form, atLeast}
+use Rattle.transaction.specs.Plan.{plan}
+use Rattle.transaction.specs.Form.{form}
+use Rattle.transaction.specs.Avm.{avm}
 use Rattle.transaction.specs.Family.{head, Unsigned, unsigned, Signed, check}
-use Rattle.transaction.specs.Codec.{Codec}
-use Rattle.transaction.specs.Avm.{ownPlan, plan, avm}
-use Rattle.transaction.specs.Answer.{memoMost, layoutFrom, layout, checked}
-use Rattle.transaction.specs.declared.Kind.{Kind}
+use Rattle.transaction.specs.Answer.{layout, checked}
 use Rattle.transaction.specs.declared.Layout.{Layout}
 use Rattle.transaction.specs.declared.Checked.the-variants as C
 use Rattle.transaction.proofs.Codec.{codec}
@@ -35,43 +30,29 @@ module _ {A : Type 0} (w : A → Layout) where
   accepted-inv (took v n) l k q = let i : n ≡ k = cc in let j : l ≡ w v = cc in (v, ap (took v) i, j)
   accepted-inv (refused d) l k q = let z : _≡_ {A = ℕ} 0 1 = cc in absurd (omega arith)
 
-pub refused-check : (s : List ℕ) (e : Refusal) → C.Refused e ≡ checked s → check (avm memoMost) s ≡ refused e
-refused-check s e = refused-inv (λ v. layout (v .0)) (check (avm memoMost) s) e
+module _ (most : ℕ) where
+  pub refused-check : (s : List ℕ) (e : Refusal) → C.Refused e ≡ checked most s → check (avm most) s ≡ refused e
+  refused-check s e = refused-inv (λ v. layout most (v .0)) (check (avm most) s) e
 
--- the number is of the table, 1 to 13
-pub checked-number : (s : List ℕ) (e : Refusal) → C.Refused e ≡ checked s → (1 ≤ e .number) × (e .number ≤ 13)
-checked-number s e q = codec (avm memoMost) .refused-by s e (refused-check s e q)
+  -- the place is inside the bytes or at their end, and rule 1, of bytes too many, is placed at 0
+  pub checked-place : (s : List ℕ) (e : Refusal) → Bytes s → C.Refused e ≡ checked most s → e .place ≤ Any.mostBytes
+  unfolding Any.check
+  checked-place s e bs q = fits (leb (length s) Any.mostBytes) refl (refused-check s e q)
+    where
+      fits : (b : Bool) → leb (length s) Any.mostBytes ≡ b → check (avm most) s ≡ refused e → e .place ≤ Any.mostBytes
+      fits true p r = omega (arith, leb-true (length s) Any.mostBytes p, codec (avm most) .refused-at s e bs r)
+      fits false p r = refused-placed {A = Signed (avm most)} Any.mostBytes (refusal tooLong 0) e (omega arith) (rw p at r)
 
--- the place is inside the bytes or at their end, and rule 1, of bytes too many, is placed at 0
-pub checked-place : (s : List ℕ) (e : Refusal) → Bytes s → C.Refused e ≡ checked s → e .place ≤ Any.mostBytes
-unfolding Any.check
-checked-place s e bs q = fits (leb (length s) Any.mostBytes) refl (refused-check s e q)
-  where
-    fits : (b : Bool) → leb (length s) Any.mostBytes ≡ b → check (avm memoMost) s ≡ refused e → e .place ≤ Any.mostBytes
-    fits true p r = omega (arith, leb-true (length s) Any.mostBytes p, codec (avm memoMost) .refused-at s e bs r)
-    fits false p r = refused-placed {A = Signed (avm memoMost)} Any.mostBytes (refusal tooLong 0) e (omega arith) (rw p at r)
+  -- the verdict of a check that refuses
+  pub checked-refused : (s : List ℕ) (e : Refusal) → C.Refused e ≡ checked most s → verdict (check (avm most) s) ≡ (numberOf e, e .place)
+  checked-refused s e q = ap verdict (refused-check s e q)
 
--- the verdict of a check that refuses
-pub checked-refused : (s : List ℕ) (e : Refusal) → C.Refused e ≡ checked s → verdict (check (avm memoMost) s) ≡ (e .number, e .place)
-checked-refused s e q = ap verdict (refused-check s e q)
+  -- what was read, where the lists are, and how many bytes there are
+  pub checked-accepted : (s : List ℕ) (w : Layout) (n : ℕ) → C.Accepted w n ≡ checked most s → (v : Signed (avm most)) × (check (avm most) s ≡ took v n) × (w ≡ layout most (v .0))
+  checked-accepted s w n = accepted-inv (λ v. layout most (v .0)) (check (avm most) s) w n
 
--- what was read, where the lists are, and how many bytes there are
-pub checked-accepted : (s : List ℕ) (w : Layout) (n : ℕ) → C.Accepted w n ≡ checked s → (v : Signed (avm memoMost)) × (check (avm memoMost) s ≡ took v n) × (w ≡ layout (v .0))
-checked-accepted s w n = accepted-inv (λ v. layout (v .0)) (check (avm memoMost) s) w n
+  -- ---- where the credentials' count stands
 
--- ---- where the credentials' count stands
-
-pub layout-end : (k : Kind) (at : ℕ) (v : Value (plan memoMost k)) → layoutFrom k at v .«credentials_at» ≡ at + length (form (plan memoMost k) .write v)
-unfolding form
-layout-end k at (outs, (ins, (note, own))) =
-    let a : List ℕ = atLeast 0 (notBelow transferableOutput) .write outs in
-    let b : List ℕ = atLeast 0 input .write ins in
-    let c : List ℕ = memo memoMost .write note in
-    let d : List ℕ = form (ownPlan k) .write own in
-    omega (arith, length-append a (b ++ (c ++ d)), length-append b (c ++ d), length-append c d)
-
-pub layout-credentials : (u : Unsigned (avm memoMost)) → layout u .«credentials_at» ≡ length (unsigned (avm memoMost) .write u)
-unfolding unsigned
-layout-credentials (h, v) =
-    layout-end (h .kind) (length (head (avm memoMost) .write h)) v
-    ∙ sym (length-append (head (avm memoMost) .write h) (form (plan memoMost (h .kind)) .write v))
+  pub layout-credentials : (u : Unsigned (avm most)) → layout most u .«credentials_at» ≡ length (unsigned (avm most) .write u)
+  unfolding unsigned
+  layout-credentials (h, v) = sym (length-append (head (avm most) .write h) (form most (plan (h .kind)) .write v))

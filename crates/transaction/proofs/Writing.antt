@@ -5,19 +5,21 @@ use mathlib.Core.List.{List, [], _∷_, _++_, append-nil, append-assoc}
 use lib.ListN.{length, take, drop}
 use Rattle.wire.specs.Fields.{number, blob, constant}
 use Rattle.wire.specs.Sequence.{guard, tag}
-use Rattle.wire.specs.Series.{items}
+use Rattle.wire.specs.Format.{Format}
+use Rattle.wire.specs.Series.{items, notBelow}
 use Rattle.element.specs.Layout.{u16, u32, joined, listBytes, transferableOutputBytes, inputBytes, operationBytes, initialStateBytes}
 use Rattle.element.proofs.Writing.{joined-write, string-bytes, text-bytes, denomination-bytes, transferableOutput-bytes, input-bytes, operation-bytes}
 use Rattle.element.proofs.Writing.{initialState-bytes}
 use Rattle.transaction.specs.Credentials.{CredentialType, secpCredential, nftCredential, credentialCode, Want, Piece, signatures, each, pieces}
 use Rattle.transaction.specs.Credentials.{credentials}
-use Rattle.element.specs.Outputs.{TransferableOutput}
-use Rattle.element.specs.Inputs.{Input}
-use Rattle.transaction.specs.Entries.{EntryAt, importedEntry, exportedEntry, outputEntry, inputEntry}
-use Rattle.transaction.specs.Plan.{Elements, atLeast, listOf, form}
+use Rattle.element.specs.Outputs.{TransferableOutput, transferableOutput}
+use Rattle.element.specs.Inputs.{Input, input}
+use Rattle.element.specs.Operations.{operation, initialState}
+use Rattle.transaction.specs.Plan.{ownPlan, kindCode}
+use Rattle.transaction.specs.Form.{atLeast, form}
+use Rattle.transaction.specs.Avm.{avm}
 use Rattle.transaction.specs.Family.{Head, head, unsigned, wants, signed}
 use Rattle.transaction.specs.Signed as Any
-use Rattle.transaction.specs.Avm.{outputs, inputs, operations, states, kindCode, ownPlan, avm}
 use Rattle.transaction.specs.Transaction.{Own, plain, createAsset, operate, importFrom, exportTo, Transaction, credentialsOf}
 use Rattle.transaction.specs.Layout.{typeNumber, ownBytes, baseBytes, credentialNumber, credentialBytes, bytesOf}
 use Rattle.transaction.specs.Accepted.{kindOwn, ownValue, valueOf}
@@ -26,10 +28,10 @@ use Rattle.transaction.proofs.Good.{reading-value, wants-credentials}
 
 -- ---- lists
 
-list-bytes : (E : Elements) (f : E .Element → List ℕ) → ((prev : List ℕ) (a : E .Element) → E .element prev .write a ≡ f a)
-    → (l : List (E .Element)) → listOf E .write l ≡ listBytes f l
+list-bytes : {A : Type 0} (least : ℕ) (E : List ℕ → Format A) (f : A → List ℕ) → ((prev : List ℕ) (a : A) → E prev .write a ≡ f a)
+    → (l : List A) → atLeast least E .write l ≡ listBytes f l
 unfolding atLeast items number
-list-bytes E f same l = ap (λ (z : List ℕ). u32 (length l) ++ z) (joined-write (E .element) f same [] l)
+list-bytes least E f same l = ap (λ (z : List ℕ). u32 (length l) ++ z) (joined-write E f same [] l)
 
 -- ---- the credentials
 
@@ -67,30 +69,28 @@ type-number (operate list) = refl
 type-number (importFrom chain list) = refl
 type-number (exportTo chain list) = refl
 
-module _ (least : ℕ) (entry : ℕ → ℕ → TransferableOutput → List EntryAt) where
-  outputs-bytes : (l : List TransferableOutput) → listOf (outputs least entry) .write l ≡ listBytes transferableOutputBytes l
-  unfolding guard
-  outputs-bytes l = list-bytes (outputs least entry) transferableOutputBytes (λ prev. transferableOutput-bytes) l
+outputs-bytes : (least : ℕ) (l : List TransferableOutput) → atLeast least (notBelow transferableOutput) .write l ≡ listBytes transferableOutputBytes l
+unfolding guard
+outputs-bytes least = list-bytes least (notBelow transferableOutput) transferableOutputBytes (λ prev. transferableOutput-bytes)
 
-module _ (least : ℕ) (entry : ℕ → ℕ → Input → List EntryAt) where
-  inputs-bytes : (l : List Input) → listOf (inputs least entry) .write l ≡ listBytes inputBytes l
-  inputs-bytes l = list-bytes (inputs least entry) inputBytes input-bytes l
+inputs-bytes : (least : ℕ) (l : List Input) → atLeast least input .write l ≡ listBytes inputBytes l
+inputs-bytes least = list-bytes least input inputBytes input-bytes
 
-own-bytes : (o : Own) → form (ownPlan (kindOwn o)) .write (ownValue o) ≡ ownBytes o
+own-bytes : (most : ℕ) (o : Own) → form most (ownPlan (kindOwn o)) .write (ownValue o) ≡ ownBytes o
 unfolding form ownValue ownBytes blob
-own-bytes plain = refl
-own-bytes (createAsset name symbol denomination list) =
+own-bytes most plain = refl
+own-bytes most (createAsset name symbol denomination list) =
     simp (
       text-bytes 128 name,
       text-bytes 4 symbol,
       denomination-bytes denomination,
-      list-bytes states initialStateBytes initialState-bytes list,
+      list-bytes 1 initialState initialStateBytes initialState-bytes list,
       append-nil,
       append-assoc,
     )
-own-bytes (operate list) = simp (list-bytes operations operationBytes (λ prev. operation-bytes) list, append-nil)
-own-bytes (importFrom chain list) = simp (inputs-bytes 1 importedEntry list, append-nil)
-own-bytes (exportTo chain list) = simp (outputs-bytes 1 exportedEntry list, append-nil)
+own-bytes most (operate list) = simp (list-bytes 1 (λ prev. operation) operationBytes (λ prev. operation-bytes) list, append-nil)
+own-bytes most (importFrom chain list) = simp (inputs-bytes 1 list, append-nil)
+own-bytes most (exportTo chain list) = simp (outputs-bytes 1 list, append-nil)
 
 -- ---- the whole
 
@@ -109,10 +109,10 @@ unsigned-bytes most t =
     simp (
       head-bytes most (record { kind = kindOwn (t .own); network = b .network; chain = b .chain }),
       type-number (t .own),
-      outputs-bytes 0 outputEntry (b .outputs),
-      inputs-bytes 0 inputEntry (b .inputs),
+      outputs-bytes 0 (b .outputs),
+      inputs-bytes 0 (b .inputs),
       string-bytes most (b .memo),
-      own-bytes (t .own),
+      own-bytes most (t .own),
       append-assoc,
     )
 

@@ -7,9 +7,10 @@ use mathlib.Core.List.{List}
 use lib.ListN.{length}
 use Rattle.wire.specs.Bytes.{Bytes}
 use Rattle.wire.specs.Format.{took}
-use Rattle.transaction.specs.Plan.{Value}
+use Rattle.transaction.specs.Plan.{ownPlan}
+use Rattle.transaction.specs.Form.{Value}
 use Rattle.transaction.specs.Family.{Signed, check, accepted}
-use Rattle.transaction.specs.Avm.{ownPlan, avm}
+use Rattle.transaction.specs.Avm.{avm}
 use Rattle.transaction.specs.Transaction.{Own, plain, createAsset, operate, importFrom, exportTo, Transaction, GoodTransaction}
 use Rattle.transaction.specs.Layout.{bytesOf}
 use Rattle.transaction.specs.declared.Kind.{Kind}

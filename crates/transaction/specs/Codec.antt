@@ -8,6 +8,7 @@ use lib.ListN.{length, take}
 use Rattle.wire.specs.Bytes.{Bytes}
 use Rattle.wire.specs.Format.{took, refused, read}
 use Rattle.wire.specs.declared.Refusal.{Refusal}
+use Rattle.wire.specs.Numbers.{numberOf}
 use Rattle.transaction.specs.Signed.{mostBytes}
 use Rattle.transaction.specs.Family.{Family, Unsigned, unsigned, Signed, signed, check, accepted}
 
@@ -27,7 +28,7 @@ pub record Codec (F : Family) : Type 0 where
   -- every accepted transaction has one reading
   pub one-reading : (s : List ℕ) (u v : Signed F) → Writing F s u → Writing F s v → u ≡ v
   -- a refusal's number is of the table, 1 to 13
-  pub refused-by : (s : List ℕ) (e : Refusal) → check F s ≡ refused e → (1 ≤ e .number) × (e .number ≤ 13)
+  pub refused-by : (s : List ℕ) (e : Refusal) → check F s ≡ refused e → (1 ≤ numberOf e) × (numberOf e ≤ 13)
   -- a refusal's place is inside the bytes, or at their end
   pub refused-at : (s : List ℕ) (e : Refusal) → Bytes s → check F s ≡ refused e → e .place ≤ length s
   -- the unsigned part is read the same from any bytes that start the same

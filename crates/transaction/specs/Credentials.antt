@@ -5,7 +5,7 @@ use mathlib.Core.Path.{_≡_, refl}
 use mathlib.Core.List.{List, [], _∷_}
 use Prim.Native.Nat.{ℕ, zero, suc, _+_}
 use lib.ListN.{length}
-use Rattle.wire.specs.Numbers.{Rule, unknownType, wrongCount}
+use Rattle.wire.specs.Numbers.{ReadingRule, unknownType, wrongCount}
 use Rattle.wire.specs.Format.{Format}
 use Rattle.wire.specs.Fields.{number, blob, constant}
 use Rattle.wire.specs.Sequence.{andThen, guard, «as», named, only}
@@ -25,7 +25,7 @@ pub record Want : Type 0 where
 
 -- a field of the list: a 32-bit number that has to be v, refused by rule x (due x v); or a signature
 pub data Piece : Type 0 where
-  due : Rule → ℕ → Piece
+  due : ReadingRule → ℕ → Piece
   signature : Piece
 
 -- n signatures, and then ps

@@ -12,7 +12,8 @@ use Rattle.wire.specs.Fields.{number, blob, constant}
 use Rattle.wire.specs.Sequence.{andThen, named, tag}
 use Rattle.transaction.specs.Credentials.{Want}
 use Rattle.transaction.specs.Entries.{EntryAt, nth, credentialEntries}
-use Rattle.transaction.specs.Plan.{Plan, Value, form, wanted, planEntries}
+use Rattle.transaction.specs.Plan.{Plan}
+use Rattle.transaction.specs.Form.{Value, form, wanted, planEntries}
 use Rattle.transaction.specs.Signed as Any
 
 pub record Family : Type 1 where
@@ -22,6 +23,8 @@ pub record Family : Type 1 where
   pub kind-code : (k : Kind) → kind (code k) ≡ k
   pub kinds : List Kind
   pub plan : Kind → Plan
+  -- the most bytes that a memo has
+  pub memoMost : ℕ
 
 -- codec, type, network, chain id
 pub record Head (K : Type 0) : Type 0 where
@@ -48,7 +51,7 @@ module _ (F : Family) where
 
   unfoldable pub unsigned : Format Unsigned
   unfolding andThen
-  unsigned = andThen head (λ h. form (F .plan (h .kind)))
+  unsigned = andThen head (λ h. form (F .memoMost) (F .plan (h .kind)))
 
   unfoldable pub wants : Unsigned → List Want
   unfolding wanted
@@ -70,7 +73,7 @@ module _ (F : Family) where
   unfoldable pub entries : Signed → List EntryAt
   unfolding planEntries credentialEntries
   entries (u, l) =
-      planEntries (F .plan (u .0 .kind)) (u .1) (length (head .write (u .0)))
+      planEntries (F .memoMost) (F .plan (u .0 .kind)) (u .1) (length (head .write (u .0)))
       ++ credentialEntries (wants u) (length (unsigned .write u) + 4)
 
   abbrev pub entry : Signed → ℕ → Option EntryAt

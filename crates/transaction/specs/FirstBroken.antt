@@ -9,28 +9,29 @@ use Prim.Native.Nat.{ℕ, _≤_, _<_}
 use lib.ListN.{length, take}
 use Rattle.wire.specs.Bytes.{Bytes}
 use Rattle.wire.specs.Format.{refused}
-use Rattle.wire.specs.Numbers.{cutShort, ruleNumber, tooLong, bytesAfterEnd, refusal}
+use Rattle.wire.specs.declared.Rule.{Rule}
+use Rattle.wire.specs.Numbers.{refusal, ruleOf, cutShort, tooLong, bytesAfterEnd}
 use Rattle.transaction.specs.Signed.{mostBytes}
 use Rattle.transaction.specs.Family.{Family, check, accepted}
 
 module _ (F : Family) where
-  -- s is refused by number n at place p
-  abbrev pub Refuses : List ℕ → ℕ → ℕ → Type 0
-  Refuses s n p = check F s ≡ refused (refusal n p)
+  -- s is refused by rule r at place p
+  abbrev pub Refuses : List ℕ → Rule → ℕ → Type 0
+  Refuses s r p = check F s ≡ refused (refusal r p)
 
   -- s is refused by 2, at some place
   abbrev pub Cut : List ℕ → Type 0
-  Cut s = (p : ℕ) × Refuses s (ruleNumber cutShort) p
+  Cut s = (p : ℕ) × Refuses s (ruleOf cutShort) p
 
-  -- the first m bytes of s are the fewest that break the rule of number n, at place p
-  pub record Moment (s : List ℕ) (n p m : ℕ) : Type 0 where
+  -- the first m bytes of s are the fewest that break rule r, at place p
+  pub record Moment (s : List ℕ) (r : Rule) (p m : ℕ) : Type 0 where
     pub inside : m ≤ length s
     -- fewer bytes break no rule: they are cut short
     pub before : (k : ℕ) → k < m → Cut (take k s)
-    -- as many or more are refused by n at p
-    pub since : (k : ℕ) → m ≤ k → Refuses (take k s) n p
+    -- as many or more are refused by r at p
+    pub since : (k : ℕ) → m ≤ k → Refuses (take k s) r p
     -- and so are all bytes that begin with these m, if they are not too long
-    pub whatever-follows : (t : List ℕ) → length t ≤ mostBytes → take m t ≡ take m s → Refuses t n p
+    pub whatever-follows : (t : List ℕ) → length t ≤ mostBytes → take m t ≡ take m s → Refuses t r p
 
   pub record FirstBroken : Type 0 where
     -- "Rule 1 comes first": longer than 65,536 bytes, and then at place 0
@@ -39,9 +40,9 @@ module _ (F : Family) where
     pub after-end : (s : List ℕ) (n : ℕ) → Bytes s
         → Refuses s bytesAfterEnd n ↔ ((length s ≤ mostBytes) × (n < length s) × (accepted F (take n s) ≡ true))
     -- "A field cut short ends the reading there": nothing that is there breaks a rule, and no beginning is accepted
-    pub cut-short : (s : List ℕ) (p : ℕ) → Bytes s → Refuses s (ruleNumber cutShort) p → (k : ℕ) → Cut (take k s)
+    pub cut-short : (s : List ℕ) (p : ℕ) → Bytes s → Refuses s (ruleOf cutShort) p → (k : ℕ) → Cut (take k s)
     -- "Then fields are taken left to right; a rule is judged at the moment named below": every other refusal has its moment
-    pub broken : (s : List ℕ) (n p : ℕ) → Bytes s → (n ≡ tooLong → ⊥) → (n ≡ ruleNumber cutShort → ⊥) → (n ≡ bytesAfterEnd → ⊥)
-        → Refuses s n p → (m : ℕ) × Moment s n p m
+    pub broken : (s : List ℕ) (r : Rule) (p : ℕ) → Bytes s → (r ≡ tooLong → ⊥) → (r ≡ ruleOf cutShort → ⊥) → (r ≡ bytesAfterEnd → ⊥)
+        → Refuses s r p → (m : ℕ) × Moment s r p m
     -- of accepted bytes every shorter prefix is cut short, and breaks no other rule
     pub accepted : (s : List ℕ) → Bytes s → accepted F s ≡ true → (k : ℕ) → k < length s → Cut (take k s)

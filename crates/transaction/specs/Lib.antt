@@ -4,6 +4,7 @@ pub mod Credentials
 pub mod Signed
 pub mod Entries
 pub mod Plan
+pub mod Form
 pub mod Family
 pub mod Avm
 pub mod Codec

@@ -1,77 +1,205 @@
--- A transaction's plan: its segments in byte order behind the chain id. The format of the unsigned part, the credentials that it wants, its entries
--- and the writer's due order all come from the plan. Assumes nothing.
-use Prim.Native.Nat.{ℕ, _+_, _<_}
+-- The plans: what each type of transaction consists of behind the chain id. A name stands for a field or a list; a row has the names of a type in
+-- byte order, and how many elements a list needs. Value, format, credentials wanted, entries and the writer's due order come from the names
+-- (specs/Form). A new field is a name here, a new type a row. Assumes nothing.
+use mathlib.Core.Path.{_≡_, refl}
+use Prim.Native.Nat.{ℕ, suc, _<_}
+use native.Mathlib.Omega.{arith}
+use mathlib.Core.Bool.{Bool}
 use mathlib.Core.List.{List, [], _∷_, _++_}
-use lib.ListN.{length}
-use lib.Dec.{leb}
-use Rattle.wire.specs.Numbers.{emptyList}
+use mathlib.Core.Option.{Option, none, some}
+use lib.ListN.{length, length-append}
+use lib.Dec.{eqb}
+use Rattle.wire.specs.Bytes.{pick}
 use Rattle.wire.specs.Format.{Format}
-use Rattle.wire.specs.Fields.{number}
-use Rattle.wire.specs.Sequence.{andThen, guard, only}
-use Rattle.wire.specs.Series.{counted}
-use Rattle.transaction.specs.Credentials.{Want}
-use Rattle.transaction.specs.Entries.{EntryAt, entriesFrom}
-use Rattle.transaction.specs.declared.Segment.{Segment}
+use Rattle.wire.specs.Fields.{number, length-number, blob}
+use Rattle.wire.specs.Sequence.{guard, listed}
+use Rattle.wire.specs.Series.{notBelow}
+use Rattle.string.specs.Strings.{memo, name, symbol, denomination}
+use Rattle.element.specs.Outputs.{TransferableOutput, transferableOutput}
+use Rattle.element.specs.Inputs.{Input, key, inputAfter, input}
+use Rattle.element.specs.Operations.{Operation, operation, InitialState, fxCode, fxId, initialStateAfter, initialState}
+use Rattle.transaction.specs.Credentials.{CredentialType, secpCredential, nftCredential, Want}
+use Rattle.transaction.specs.Entries.{EntryAt, outputEntry, exportedEntry, inputEntry, importedEntry, operationEntry, stateEntries}
+use Rattle.transaction.specs.declared.Kind.{Kind}
+use Rattle.transaction.specs.declared.Kind.the-variants as K
+use Rattle.transaction.specs.declared.FieldName.{FieldName}
+use Rattle.transaction.specs.declared.FieldName.the-variants as F
+use Rattle.transaction.specs.declared.ListName.{ListName}
+use Rattle.transaction.specs.declared.ListName.the-variants as L
 
-pub record Field : Type 1 where
-  pub Content : Type 0
-  pub content : Format Content
-  pub asks : Content → List Want
+-- ---- what a name stands for
 
--- a counted list of at least `least` elements, each read in view of the bytes of the one before ([] before the first)
+-- elements of a counted list, each read in view of the bytes of the one before ([] before the first)
 pub record Elements : Type 1 where
   pub Element : Type 0
   pub element : List ℕ → Format Element
   -- no element is of no bytes
   pub solid : (prev : List ℕ) (v : Element) → element prev .Good v → 0 < length (element prev .write v)
-  pub least : ℕ
-  pub asks : Element → List Want
+  -- the credential that each asks for, if they do, and of how many signatures
+  pub credential : Option CredentialType
+  pub signatures : Element → ℕ
   -- its entries, from its start and its end
   pub entries : ℕ → ℕ → Element → List EntryAt
 
--- `end`: only the credentials are still to come; `shut`: nothing is. The segment's name tells by which step the writer is given it
-pub data Plan : Type 1 where
+abbrev pub wantOf : Option CredentialType → ℕ → List Want
+wantOf none n = []
+wantOf (some t) n = record { type = t; signatures = n } ∷ []
+
+-- ---- no element is of no bytes: each has a field of some width in front
+
+longer : (a b : List ℕ) (n : ℕ) → length a ≡ suc n → 0 < length (a ++ b)
+longer a b n h = omega (arith, length-append a b)
+
+pub output-solid : (prev : List ℕ) (v : TransferableOutput) → notBelow transferableOutput prev .Good v → 0 < length (notBelow transferableOutput prev .write v)
+unfolding guard transferableOutput blob
+output-solid prev v h = longer (v .asset) _ 31 (h .0 .0 .0)
+
+pub input-solid : (prev : List ℕ) (v : Input) → input prev .Good v → 0 < length (input prev .write v)
+unfolding inputAfter guard key blob
+input-solid prev v h = longer (v .txid ++ number 4 .write (v .index)) _ 35 (omega (arith, h .0 .0 .0 .0, length-append (v .txid) (number 4 .write (v .index)), length-number 4 (v .index)))
+
+pub operation-solid : (prev : List ℕ) (v : Operation) → operation .Good v → 0 < length (operation .write v)
+unfolding operation blob
+operation-solid prev v h = longer (v .asset) _ 31 (h .0 .0)
+
+pub state-solid : (prev : List ℕ) (v : InitialState) → initialState prev .Good v → 0 < length (initialState prev .write v)
+unfolding initialStateAfter guard fxId
+state-solid prev v h = longer (number 4 .write (fxCode (v .fx))) _ 3 (length-number 4 (fxCode (v .fx)))
+
+-- ---- fields
+
+abbrev pub Content : FieldName → Type 0
+Content F.Memo = List ℕ
+Content F.Name = List ℕ
+Content F.Symbol = List ℕ
+Content F.Denomination = ℕ
+Content F.Chain = List ℕ
+
+-- the memo has at most `most` bytes
+abbrev pub contentOf : (most : ℕ) (f : FieldName) → Format (Content f)
+contentOf most F.Memo = memo most
+contentOf most F.Name = name
+contentOf most F.Symbol = symbol
+contentOf most F.Denomination = denomination
+contentOf most F.Chain = blob 32
+
+-- the credential that a field asks for, if it does, and of how many signatures
+abbrev pub fieldCredential : FieldName → Option CredentialType
+fieldCredential F.Memo = none
+fieldCredential F.Name = none
+fieldCredential F.Symbol = none
+fieldCredential F.Denomination = none
+fieldCredential F.Chain = none
+
+abbrev pub fieldSignatures : (f : FieldName) → Content f → ℕ
+fieldSignatures F.Memo v = 0
+fieldSignatures F.Name v = 0
+fieldSignatures F.Symbol v = 0
+fieldSignatures F.Denomination v = 0
+fieldSignatures F.Chain v = 0
+
+-- ---- lists
+
+-- outputs do not decrease
+abbrev pub outputs : (ℕ → ℕ → TransferableOutput → List EntryAt) → Elements
+outputs entry =
+    record {
+      Element = TransferableOutput;
+      element = notBelow transferableOutput;
+      solid = output-solid;
+      credential = none;
+      signatures = λ v. 0;
+      entries = entry;
+    }
+
+-- each input asks for a credential of as many signatures as it has indices
+abbrev pub inputs : (ℕ → ℕ → Input → List EntryAt) → Elements
+inputs entry =
+    record {
+      Element = Input;
+      element = input;
+      solid = input-solid;
+      credential = some secpCredential;
+      signatures = λ v. length (v .indices);
+      entries = entry;
+    }
+
+-- operations carry no order; each asks for a credential of as many signatures as it has indices
+abbrev pub operations : Elements
+operations =
+    record {
+      Element = Operation;
+      element = λ prev. operation;
+      solid = operation-solid;
+      credential = some nftCredential;
+      signatures = λ v. length (v .terms .0);
+      entries = operationEntry;
+    }
+
+-- FxIDs strictly increase
+abbrev pub states : Elements
+states =
+    record {
+      Element = InitialState;
+      element = initialState;
+      solid = state-solid;
+      credential = none;
+      signatures = λ v. 0;
+      entries = stateEntries;
+    }
+
+abbrev pub elementsOf : ListName → Elements
+elementsOf L.Output = outputs outputEntry
+elementsOf L.Input = inputs inputEntry
+elementsOf L.State = states
+elementsOf L.Operation = operations
+elementsOf L.Imported = inputs importedEntry
+elementsOf L.Exported = outputs exportedEntry
+
+-- ---- the rows
+
+-- `end`: only the credentials are still to come; `shut`: nothing is. A list has at least so many elements
+pub data Plan : Type 0 where
   shut end : Plan
-  field : Segment → Field → Plan → Plan
-  many : Segment → Elements → Plan → Plan
+  field : FieldName → Plan → Plan
+  many : ListName → ℕ → Plan → Plan
 
--- a count of at least `least`, and as many elements
-unfoldable pub atLeast : {A : Type 0} → ℕ → (List ℕ → Format A) → Format (List A)
-unfolding counted guard
-atLeast least E = counted (guard (number 4) (λ n. leb least n) emptyList) E
+-- what a type has behind the memo
+abbrev pub ownPlan : Kind → Plan
+ownPlan K.Base = end
+ownPlan K.CreateAsset = field F.Name (field F.Symbol (field F.Denomination (many L.State 1 end)))
+ownPlan K.Operation = many L.Operation 1 end
+ownPlan K.Import = field F.Chain (many L.Imported 1 end)
+ownPlan K.Export = field F.Chain (many L.Exported 1 end)
 
-abbrev pub listOf : (E : Elements) → Format (List (E .Element))
-listOf E = atLeast (E .least) (E .element)
+-- outputs, inputs and memo in every type
+abbrev pub plan : Kind → Plan
+plan k = many L.Output 0 (many L.Input 0 (field F.Memo (ownPlan k)))
 
-abbrev pub Value : Plan → Type 0
-Value shut = Unit {0}
-Value end = Unit {0}
-Value (field l F q) = F .Content × Value q
-Value (many l E q) = List (E .Element) × Value q
+-- ---- the types' numbers; between them there may be others
 
-unfoldable pub form : (p : Plan) → Format (Value p)
-unfolding andThen only
-form shut = only tt
-form end = only tt
-form (field l F q) = andThen (F .content) (λ v. form q)
-form (many l E q) = andThen (listOf E) (λ v. form q)
+abbrev pub kindCode : Kind → ℕ
+kindCode K.Base = 0
+kindCode K.CreateAsset = 1
+kindCode K.Operation = 2
+kindCode K.Import = 3
+kindCode K.Export = 4
 
-unfoldable pub asked : {A : Type 0} → (A → List Want) → List A → List Want
-asked f [] = []
-asked f (a ∷ l) = f a ++ asked f l
+abbrev pub kindOf : ℕ → Kind
+kindOf n = pick (eqb n 0) K.Base (pick (eqb n 1) K.CreateAsset (pick (eqb n 2) K.Operation (pick (eqb n 3) K.Import K.Export)))
 
--- the credentials wanted, in byte order
-unfoldable pub wanted : (p : Plan) → Value p → List Want
-unfolding asked
-wanted shut v = []
-wanted end v = []
-wanted (field l F q) v = F .asks (v .0) ++ wanted q (v .1)
-wanted (many l E q) v = asked (E .asks) (v .0) ++ wanted q (v .1)
+pub kindOf-code : (k : Kind) → kindOf (kindCode k) ≡ k
+kindOf-code K.Base = refl
+kindOf-code K.CreateAsset = refl
+kindOf-code K.Operation = refl
+kindOf-code K.Import = refl
+kindOf-code K.Export = refl
 
--- the entries of segments that start at `at`
-unfoldable pub planEntries : (p : Plan) → Value p → ℕ → List EntryAt
-unfolding entriesFrom
-planEntries shut v at = []
-planEntries end v at = []
-planEntries (field l F q) v at = planEntries q (v .1) (at + length (F .content .write (v .0)))
-planEntries (many l E q) v at = entriesFrom (E .element) (E .entries) [] (at + 4) (v .0) ++ planEntries q (v .1) (at + length (listOf E .write (v .0)))
+abbrev pub kinds : List Kind
+kinds = K.Base ∷ K.CreateAsset ∷ K.Operation ∷ K.Import ∷ K.Export ∷ []
+
+abbrev pub isKind : ℕ → Bool
+isKind n = listed kindCode kinds n
+
+abbrev pub planOf : ℕ → Plan
+planOf n = plan (kindOf n)

@@ -10,6 +10,14 @@ pub const MOST_BYTES: usize = 65536;
 // The most bytes that a memo has.
 pub const MEMO_MOST: u64 = 256;
 
+// The bytes of a signature.
+pub const SIGNATURE_WIDTH: usize = 65;
+
+// The types of a credential: for an input, for an operation.
+pub const SECP_CREDENTIAL: u64 = 9;
+
+pub const NFT_CREDENTIAL: u64 = 14;
+
 // The types of a transaction: 0 to 4.
 pub enum Kind {
     Base,
@@ -19,17 +27,22 @@ pub enum Kind {
     Export,
 }
 
-// What stands between the chain id and the credentials, named by the step that writes it.
-pub enum Segment {
-    Output,
-    Input,
+// What stands between the chain id and the credentials: fields and lists, by their names.
+pub enum FieldName {
     Memo,
     Name,
     Symbol,
     Denomination,
+    Chain,
+}
+
+pub enum ListName {
+    Output,
+    Input,
     State,
     Operation,
-    Chain,
+    Imported,
+    Exported,
 }
 
 pub struct CredentialFields {
@@ -49,33 +62,17 @@ pub enum Entry {
     Credential(CredentialFields),
 }
 
-// Codec, type, network and chain id that are wholly there: the type, and the place behind them.
-pub enum HeadRead {
-    Whole(Kind, usize),
-    Refused(Refusal),
-}
-
-// A list that is wholly there: its first element's place, how many it has, and the place behind them.
-pub enum ListRead {
-    Whole(usize, u64, usize),
-    Refused(Refusal),
-}
-
-// Where the lists of a transaction stand: the inputs, the list of the type's own part, if it has one, and the credentials' count. The outputs
-// stand from place 46 on.
+// The type's number, where the inputs' count stands, how many credentials are wanted, and where their count stands.
 pub struct Layout {
-    pub kind: Kind,
-    pub outputs_count: u64,
+    pub kind: u32,
     pub inputs_at: usize,
-    pub inputs_count: u64,
-    pub own_at: usize,
-    pub own_count: u64,
+    pub credentials_count: u64,
     pub credentials_at: usize,
 }
 
-// An unsigned part that is wholly there, and the place behind it.
+// An unsigned part that is wholly there.
 pub enum UnsignedRead {
-    Whole(Layout, usize),
+    Whole(Layout),
     Refused(Refusal),
 }
 

@@ -1,129 +1,146 @@
--- The entries that are still to come at a cursor, and the step to the next one. What cannot be read has no entries: in an accepted transaction
--- all can (`walked`, of proofs/Entries). Assumes nothing.
-use Prim.Native.Nat.{ℕ, zero, suc, _+_, _-_, _*_}
-use mathlib.Core.List.{List, [], _∷_}
+-- The entries that are ahead of a cursor, in bytes whose transaction was read, and what the steps from one to the next answer. Assumes nothing.
+use mathlib.Core.Path.{_≡_}
+use Prim.Native.Nat.{ℕ, _+_, _-_, _*_, _<_}
+use mathlib.Core.List.{List, [], _∷_, _++_}
 use lib.ListN.{length}
-use lib.Dec.{eqb}
-use Rattle.wire.specs.Bytes.{pick}
+use Rattle.wire.specs.Format.{Format, took, read}
 use Rattle.wire.specs.Fields.{number, blob}
-use Rattle.element.specs.Outputs.{output, transferableOutput}
-use Rattle.element.specs.Operations.{operation, fxOf, fxOutputs}
-use Rattle.transaction.specs.declared.Kind.{Kind}
-use Rattle.transaction.specs.declared.Kind.the-variants as K
-use Rattle.transaction.specs.declared.Layout.{Layout}
-use Rattle.walk.specs.declared.Stage.{Stage}
-use Rattle.walk.specs.declared.Stage.the-variants as S
+use Rattle.wire.specs.Sequence.{andThen}
+use Rattle.wire.specs.Series.{seriesFrom, notBelow}
+use Rattle.element.specs.Outputs.{output}
+use Rattle.element.specs.Operations.{Fx, fxOutputs}
+use Rattle.transaction.specs.Slots.{signatureWidth}
+use Rattle.transaction.specs.Credentials.{Want, each, pieces}
+use Rattle.transaction.specs.Entries.{EntryAt, entryKind, entriesFrom, stateOutputEntry, credentialEntries}
+use Rattle.transaction.specs.Plan.{contentOf, elementsOf, Plan, shut, end, field, many, planOf}
+use Rattle.transaction.specs.declared.ListName.{ListName}
+use Rattle.due.specs.declared.Due.the-variants as D
+use Rattle.due.specs.Plans.{due, dueOf}
 use Rattle.walk.specs.declared.Cursor.{Cursor}
 use Rattle.walk.specs.declared.Row.{Row}
 use Rattle.walk.specs.declared.Step.{Step}
 use Rattle.walk.specs.declared.Step.the-variants as T
 
-abbrev pub row : ℕ → ℕ → ℕ → Row
-row kind start end = record { kind = kind; start = start; end = end }
+-- an entry's row
+abbrev pub located : EntryAt → Row
+located e = record { kind = entryKind (e .fields); start = e .start; end = e .end }
 
-abbrev pub cursor : Stage → ℕ → ℕ → Cursor
-cursor stage at left = record { stage = stage; at = at; left = left; fx = 0; inner = 0 }
+-- before the first segment
+abbrev pub start : Cursor
+start = record { phase = 0; at = 42; left = 0; inner = 0 }
 
-abbrev pub stateCursor : ℕ → ℕ → ℕ → ℕ → Cursor
-stateCursor at left fx inner = record { stage = S.Own; at = at; left = left; fx = fx; inner = inner }
+-- type, count, and as many signatures
+abbrev pub credentialBytes : Format (ℕ × (ℕ × List ℕ))
+credentialBytes = andThen (number 4) (λ t. andThen (number 4) (λ n. blob (signatureWidth * n)))
 
--- ---- n elements from `at` on, and then what is later
+module _ (s : List ℕ) where
+  -- a value stands at `at`, and Later holds of it and its end
+  pub record Behind {A : Type 0} (F : Format A) (at : ℕ) (Later : A → ℕ → Type 0) : Type 0 where
+    pub value : A
+    pub next : ℕ
+    pub stands : read F s at ≡ took value next
+    pub behind : Later value next
 
-unfoldable pub outputRows : ℕ → ℕ → List ℕ → ℕ → List Row → List Row
-outputRows kind zero s at later = later
-outputRows kind (suc n) s at later = transferableOutput .run s at (λ e. []) λ v next. row kind at next ∷ outputRows kind n s next later
+  -- c elements of a list stand from `at` on; es are their entries, and those that Later has behind them
+  pub record Rest {A : Type 0} (E : List ℕ → Format A) (entry : ℕ → ℕ → A → List EntryAt) (Later : ℕ → List EntryAt → Type 0) (c at : ℕ)
+      (es : List EntryAt) : Type 0 where
+    pub prev : List ℕ
+    pub values : List A
+    pub next : ℕ
+    pub later : List EntryAt
+    pub stands : read (seriesFrom E prev c) s at ≡ took values next
+    pub behind : Later next later
+    pub entries : es ≡ entriesFrom E entry prev at values ++ later
 
--- an input is passed by its lengths: 80 bytes, its indices' count, these
-unfoldable pub inputRows : ℕ → ℕ → List ℕ → ℕ → List Row → List Row
-inputRows kind zero s at later = later
-inputRows kind (suc n) s at later =
-    blob 80 .run s at (λ e. []) λ f i. number 4 .run s i (λ e. []) λ c l. blob (4 * c) .run s l (λ e. []) λ b next. row kind at next ∷ inputRows kind n s next later
+  -- c credentials stand from `at` on
+  pub record Credentials (c at : ℕ) (es : List EntryAt) : Type 0 where
+    pub wants : List Want
+    pub slots : List (List ℕ)
+    pub next : ℕ
+    pub stands : read (pieces (each wants)) s at ≡ took slots next
+    pub count : c ≡ length wants
+    pub entries : es ≡ credentialEntries wants at
 
-unfoldable pub operationRows : ℕ → List ℕ → ℕ → List Row → List Row
-operationRows zero s at later = later
-operationRows (suc n) s at later = operation .run s at (λ e. []) λ v next. row 3 at next ∷ operationRows n s next later
+  module _ (most : ℕ) where
+    -- the segments of a plan from `at` on, and the credentials
+    abbrev pub PlanAhead : Plan → ℕ → List EntryAt → Type 0
+    PlanAhead shut at es = ⊥
+    PlanAhead end at es = Behind (number 4) at (λ c n. Credentials c n es)
+    PlanAhead (field f p) at es = Behind (contentOf most f) at (λ v n. PlanAhead p n es)
+    PlanAhead (many l least p) at es = Behind (number 4) at (λ c n. Rest (elementsOf l .element) (elementsOf l .entries) (PlanAhead p) c n es)
 
--- the outputs of an initial state, and then the states behind it
-unfoldable pub stateOutputRows : ℕ → ℕ → List ℕ → ℕ → (ℕ → List Row) → List Row
-stateOutputRows fx zero s at go = go at
-stateOutputRows fx (suc n) s at go = output (fxOutputs (fxOf fx)) .run s at (λ e. []) λ v next. row 6 at next ∷ stateOutputRows fx n s next go
+    -- c elements of a list, and what is behind it
+    abbrev pub ListAhead : ListName → ℕ → Plan → ℕ → List EntryAt → Type 0
+    ListAhead l c p at es = Rest (elementsOf l .element) (elementsOf l .entries) (PlanAhead p) c at es
 
-unfoldable pub stateRows : ℕ → List ℕ → ℕ → List Row → List Row
-stateRows zero s at later = later
-stateRows (suc n) s at later = number 4 .run s at (λ e. []) λ fx i. number 4 .run s i (λ e. []) λ c first. stateOutputRows fx c s first (λ next. stateRows n s next later)
+    -- outputs of an initial state, and what is behind it; as long as there are none of them this is the list alone
+    abbrev pub StateAhead : ListName → ℕ → ℕ → Plan → ℕ → List EntryAt → Type 0
+    StateAhead l inner c p at es = (fx : Fx) × Rest (notBelow (output (fxOutputs fx))) stateOutputEntry (ListAhead l c p) inner at es
 
-unfoldable pub credentialRows : ℕ → List ℕ → ℕ → List Row
-credentialRows zero s at = []
-credentialRows (suc n) s at =
-    number 4 .run s at (λ e. []) λ t i. number 4 .run s i (λ e. []) λ c first. blob (65 * c) .run s first (λ e. []) λ b next. row 7 at next ∷ credentialRows n s next
+    -- inside the segment that was begun last, and what is behind it
+    abbrev pub AheadIn : Plan → Plan → Cursor → List EntryAt → Type 0
+    AheadIn shut later c es = PlanAhead later (c .at) es
+    AheadIn end later c es = Credentials (c .left) (c .at) es
+    AheadIn (field f p) later c es = PlanAhead later (c .at) es
+    AheadIn (many l least p) later c es = StateAhead l (c .inner) (c .left) later (c .at) es
 
--- ---- what a cursor still has before it
+    module _ (kind : ℕ) where
+      -- es are ahead of a cursor, in a transaction of that type
+      abbrev pub Ahead : Cursor → List EntryAt → Type 0
+      Ahead c es = AheadIn (due (c .phase) (planOf kind)) (due (c .phase + 1) (planOf kind)) c es
 
-abbrev pub credentialsRest : Layout → List ℕ → List Row
-credentialsRest w s = number 4 .run s (w .«credentials_at») (λ e. []) λ n first. credentialRows n s first
+      -- of es, the first has that row, and the others are ahead
+      pub record First (r : Row) (c : Cursor) (es : List EntryAt) : Type 0 where
+        pub entry : EntryAt
+        pub others : List EntryAt
+        pub all : es ≡ entry ∷ others
+        pub row : r ≡ located entry
+        pub ahead : Ahead c others
 
-abbrev pub ownRest : Kind → ℕ → ℕ → ℕ → List ℕ → ℕ → List Row → List Row
-ownRest K.Base left fx inner s at later = later
-ownRest K.CreateAsset left fx inner s at later = stateOutputRows fx inner s at (λ next. stateRows left s next later)
-ownRest K.Operation left fx inner s at later = operationRows left s at later
-ownRest K.Import left fx inner s at later = inputRows 4 left s at later
-ownRest K.Export left fx inner s at later = outputRows 5 left s at later
+      abbrev pub Steps : List EntryAt → Step → Type 0
+      Steps es (T.Found r c) = First r c es
+      Steps es (T.Moved c) = Ahead c es
+      Steps es T.Done = es ≡ []
 
-abbrev pub afterInputs : Layout → List ℕ → List Row
-afterInputs w s = ownRest (w .kind) (w .«own_count») 0 0 s (w .«own_at») (credentialsRest w s)
+-- one step: of what is ahead the first is met, or something is passed that is no entry
+unfoldable pub StepAhead : ℕ → List ℕ → Cursor → Step → Type 0
+StepAhead kind s c r = (most : ℕ) (es : List EntryAt) → Ahead s most kind c es → Steps s most kind es r
 
-abbrev pub afterOutputs : Layout → List ℕ → List Row
-afterOutputs w s = inputRows 2 (w .«inputs_count») s (w .«inputs_at») (afterInputs w s)
+-- a step where the list at hand has that name, or where the credentials are at hand
+unfoldable pub ElementStep : ListName → List ℕ → Cursor → Step → Type 0
+ElementStep l s c r =
+    (kind least most : ℕ) (es : List EntryAt) → dueOf (due (c .phase) (planOf kind)) ≡ D.List l least
+    → ListAhead s most l (c .left) (due (c .phase + 1) (planOf kind)) (c .at) es → Steps s most kind es r
 
-abbrev pub restIn : Stage → ℕ → ℕ → ℕ → ℕ → Layout → List ℕ → List Row
-restIn S.Outputs at left fx inner w s = outputRows 1 left s at (afterOutputs w s)
-restIn S.Inputs at left fx inner w s = inputRows 2 left s at (afterInputs w s)
-restIn S.Own at left fx inner w s = ownRest (w .kind) left fx inner s at (credentialsRest w s)
-restIn S.Credentials at left fx inner w s = credentialRows left s at
+unfoldable pub StateOutputStep : List ℕ → Cursor → Step → Type 0
+unfolding StepAhead
+StateOutputStep s c r = (kind least : ℕ) (l : ListName) → dueOf (due (c .phase) (planOf kind)) ≡ D.List l least → StepAhead kind s c r
 
-abbrev pub rest : Layout → List ℕ → Cursor → List Row
-rest w s c = restIn (c .stage) (c .at) (c .left) (c .fx) (c .inner) w s
+unfoldable pub CredentialStep : List ℕ → Cursor → Step → Type 0
+unfolding StepAhead
+CredentialStep s c r = (kind : ℕ) → dueOf (due (c .phase) (planOf kind)) ≡ D.End → StepAhead kind s c r
 
-abbrev pub start : Layout → Cursor
-start w = cursor S.Outputs 46 (w .«outputs_count»)
+-- a step to the next segment
+unfoldable pub LaterStep : ℕ → List ℕ → Cursor → Step → Type 0
+LaterStep kind s c r = (most : ℕ) (es : List EntryAt) → PlanAhead s most (due (c .phase + 1) (planOf kind)) (c .at) es → Steps s most kind es r
 
--- ---- one step
+unfoldable pub CountedStep : ℕ → List ℕ → ℕ → Step → Type 0
+CountedStep phase s at r = (c n : ℕ) → read (number 4) s at ≡ took c n → r ≡ T.Moved record { phase = phase; at = n; left = c; inner = 0 }
 
-abbrev pub outputStep : ℕ → Stage → List ℕ → ℕ → ℕ → Step
-outputStep kind stage s at left = transferableOutput .run s at (λ e. T.Done) λ v next. T.Found (row kind at next) (cursor stage next (left - 1))
+-- ---- so that steps end on any bytes
 
-abbrev pub inputStep : ℕ → Stage → List ℕ → ℕ → ℕ → Step
-inputStep kind stage s at left =
-    blob 80 .run s at (λ e. T.Done) λ f i. number 4 .run s i (λ e. T.Done) λ c l. blob (4 * c) .run s l (λ e. T.Done) λ b next. T.Found (row kind at next) (cursor stage next (left - 1))
+-- how much is still to pass: a list has fewer than 2^32 elements, and an initial state fewer than 2^32 outputs
+abbrev pub ahead : Cursor → ℕ
+ahead c = (9 - c .phase) * 18446744073709551616 + c .left * 4294967296 + c .inner
 
-abbrev pub operationStep : List ℕ → ℕ → ℕ → Step
-operationStep s at left = operation .run s at (λ e. T.Done) λ v next. T.Found (row 3 at next) (cursor S.Own next (left - 1))
+abbrev pub Below : ℕ → Step → Type 0
+Below m (T.Found r c) = ahead c < m
+Below m (T.Moved c) = ahead c < m
+Below m T.Done = Unit {0}
 
-abbrev pub stateOutputStep : List ℕ → ℕ → ℕ → ℕ → ℕ → Step
-stateOutputStep s at left fx inner = output (fxOutputs (fxOf fx)) .run s at (λ e. T.Done) λ v next. T.Found (row 6 at next) (stateCursor next left fx (inner - 1))
+abbrev pub Shorter : Cursor → Step → Type 0
+Shorter c r = Below (ahead c) r
 
-abbrev pub stateStep : List ℕ → ℕ → ℕ → Step
-stateStep s at left = number 4 .run s at (λ e. T.Done) λ fx i. number 4 .run s i (λ e. T.Done) λ c first. T.Moved (stateCursor first (left - 1) fx c)
-
-abbrev pub credentialStep : List ℕ → ℕ → ℕ → Step
-credentialStep s at left =
-    number 4 .run s at (λ e. T.Done) λ t i. number 4 .run s i (λ e. T.Done) λ c first. blob (65 * c) .run s first (λ e. T.Done) λ b next. T.Found (row 7 at next) (cursor S.Credentials next (left - 1))
-
-abbrev pub toCredentials : Layout → List ℕ → Step
-toCredentials w s = number 4 .run s (w .«credentials_at») (λ e. T.Done) λ n first. T.Moved (cursor S.Credentials first n)
-
-abbrev pub ownStep : Kind → ℕ → ℕ → ℕ → List ℕ → ℕ → Layout → Step
-ownStep K.Base left fx inner s at w = toCredentials w s
-ownStep K.CreateAsset left fx inner s at w = pick (eqb inner 0) (pick (eqb left 0) (toCredentials w s) (stateStep s at left)) (stateOutputStep s at left fx inner)
-ownStep K.Operation left fx inner s at w = pick (eqb left 0) (toCredentials w s) (operationStep s at left)
-ownStep K.Import left fx inner s at w = pick (eqb left 0) (toCredentials w s) (inputStep 4 S.Own s at left)
-ownStep K.Export left fx inner s at w = pick (eqb left 0) (toCredentials w s) (outputStep 5 S.Own s at left)
-
-abbrev pub stepIn : Stage → ℕ → ℕ → ℕ → ℕ → Layout → List ℕ → Step
-stepIn S.Outputs at left fx inner w s = pick (eqb left 0) (T.Moved (cursor S.Inputs (w .«inputs_at») (w .«inputs_count»))) (outputStep 1 S.Outputs s at left)
-stepIn S.Inputs at left fx inner w s = pick (eqb left 0) (T.Moved (cursor S.Own (w .«own_at») (w .«own_count»))) (inputStep 2 S.Inputs s at left)
-stepIn S.Own at left fx inner w s = ownStep (w .kind) left fx inner s at w
-stepIn S.Credentials at left fx inner w s = pick (eqb left 0) T.Done (credentialStep s at left)
-
-abbrev pub stepOf : Layout → List ℕ → Cursor → Step
-stepOf w s c = stepIn (c .stage) (c .at) (c .left) (c .fx) (c .inner) w s
+-- at the start of that phase's segment
+abbrev pub Entered : ℕ → Step → Type 0
+Entered phase r = Below ((9 - phase) * 18446744073709551616 + 18446744073709551616) r

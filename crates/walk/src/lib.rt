@@ -1,21 +1,24 @@
-// From one entry of an accepted transaction to the next, in byte order.
+// From one entry of an accepted transaction to the next, in byte order. The bytes have been checked, so what stands there is passed by its length
+// and not judged again.
 pub mod steps;
 
-// Which list a cursor is in: outputs, inputs, that of the type's own part, credentials.
-pub enum Stage {
-    Outputs,
-    Inputs,
-    Own,
-    Credentials,
-}
+// The kinds of entries that are no elements of a list: an initial state's output, a credential.
+pub const STATE_OUTPUT: u32 = 6;
 
-// Where the next entry stands, and how many elements of its list are left. Among initial states: the outputs that are left of the one at hand,
-// and its FxID.
+pub const CREDENTIAL: u32 = 7;
+
+// Codec, type, network and chain id, before the first segment.
+pub const HEAD_WIDTH: usize = 42;
+
+// The phase of the longest plan's last segment.
+pub const LAST_PHASE: u32 = 8;
+
+// Where the next entry stands: how many of the plan's segments are begun, the place, and how many elements of the last one begun are left; the
+// credentials are the last. Among initial states: the outputs that are left of the one at hand.
 pub struct Cursor {
-    pub stage: Stage,
+    pub phase: u32,
     pub at: usize,
     pub left: u64,
-    pub fx: u64,
     pub inner: u64,
 }
 

@@ -1,247 +1,202 @@
-// From one entry of an accepted transaction to the next.
+// From one entry of an accepted transaction to the next. On other bytes the steps come to an end, with no promise.
 ghost use mathlib.Core.Path.{_≡_};
 ghost use Prim.Native.Nat.{_<_};
-ghost use Rattle.wire.specs.Fields.{number};
 ghost use Rattle.wire.specs.Answer.{ended};
-ghost use Rattle.element.specs.Operations.{fxOf, fxOutputs};
-ghost use Rattle.element.specs.Outputs.{output};
-ghost use Rattle.walk.specs.Walk.{start, cursor, outputStep, inputStep, operationStep, stateStep, stateOutputStep, credentialStep, ownStep, stepOf};
+ghost use Rattle.transaction.specs.declared.ListName.the-variants as L;
+ghost use Rattle.walk.specs.Walk.{start, credentialBytes, Entered, Shorter};
+ghost use Rattle.walk.specs.Walk.{CountedStep, LaterStep, ElementStep, StateOutputStep, CredentialStep, StepAhead};
+use crate::CREDENTIAL;
 use crate::Cursor;
+use crate::HEAD_WIDTH;
+use crate::LAST_PHASE;
 use crate::Row;
-use crate::Stage;
+use crate::STATE_OUTPUT;
 use crate::Step;
-use transaction::Kind;
-use transaction::Layout;
+use due::Due;
+use due::plans;
+use transaction::ListName;
 use wire::Number;
 use wire::Part;
 
-// Before the first entry.
-pub fn first(layout: Layout) -> Cursor
-    ensures { λ r. ⌜ r ≡ start layout ⌝ }
+// Before the first segment.
+pub fn first() -> Cursor
+    ensures { λ r. ⌜ r ≡ start ⌝ }
 {
     Cursor {
-        stage: Stage::Outputs,
-        at: 46,
-        left: layout.outputs_count,
-        fx: 0,
+        phase: 0,
+        at: HEAD_WIDTH,
+        left: 0,
         inner: 0,
     }
 }
 
-fn onward(stage: Stage, at: usize, left: u64) -> Cursor
-    ensures { λ r. ⌜ r ≡ cursor stage at left ⌝ }
+// Into the list whose count is at hand.
+fn counted_step(s: &[u8], phase: u32, at: usize) -> Step
+    ensures { λ r. ⌜ CountedStep phase (now (s .entry)) at r ⌝ }
+    ensures { λ r. ⌜ Entered phase r ⌝ }
 {
-    Cursor {
-        stage,
-        at,
-        left,
-        fx: 0,
-        inner: 0,
-    }
-}
-
-fn output_step(s: &[u8], kind: u32, stage: Stage, at: usize, left: u64) -> Step
-    requires { ⌜ 0 < left ⌝ }
-    ensures { λ r. ⌜ r ≡ outputStep kind stage (now (s .entry)) at left ⌝ }
-{
-    match element::outputs::transferable_at(s, at) {
-        Part::Refused(_) => Step::Done,
-        Part::Next(end) => Step::Found(
-            Row {
-                kind,
-                start: at,
-                end,
-            },
-            onward(stage, end, left - 1),
-        ),
-    }
-}
-
-fn input_step(s: &[u8], kind: u32, stage: Stage, at: usize, left: u64) -> Step
-    requires { ⌜ 0 < left ⌝ }
-    ensures { λ r. ⌜ r ≡ inputStep kind stage (now (s .entry)) at left ⌝ }
-{
-    let Part::Next(i) = wire::part_at(s, at, 80) else {
-        return Step::Done;
-    };
-    let Number::Value(indices, l) = wire::u32_at(s, i) else {
-        return Step::Done;
-    };
-    let Part::Next(end) = wire::part_at(s, l, 4 * indices as usize) else {
-        return Step::Done;
-    };
-    Step::Found(
-        Row {
-            kind,
-            start: at,
-            end,
-        },
-        onward(stage, end, left - 1),
-    )
-}
-
-fn operation_step(s: &[u8], at: usize, left: u64) -> Step
-    requires { ⌜ 0 < left ⌝ }
-    ensures { λ r. ⌜ r ≡ operationStep (now (s .entry)) at left ⌝ }
-{
-    match element::operations::asked_by_operation(s, at) {
-        Number::Refused(_) => Step::Done,
-        Number::Value(_, end) => Step::Found(
-            Row {
-                kind: 3,
-                start: at,
-                end,
-            },
-            onward(Stage::Own, end, left - 1),
-        ),
-    }
-}
-
-// Into an initial state: its FxID, and how many outputs it has.
-fn state_step(s: &[u8], at: usize, left: u64) -> Step
-    requires { ⌜ 0 < left ⌝ }
-    ensures { λ r. ⌜ r ≡ stateStep (now (s .entry)) at left ⌝ }
-{
-    let Number::Value(fx, i) = wire::u32_at(s, at) else {
-        return Step::Done;
-    };
-    let Number::Value(inner, first) = wire::u32_at(s, i) else {
+    let Number::Value(left, first) = wire::u32_at(s, at) else {
         return Step::Done;
     };
     Step::Moved(Cursor {
-        stage: Stage::Own,
+        phase,
         at: first,
-        left: left - 1,
-        fx,
+        left,
+        inner: 0,
+    })
+}
+
+// Into the next segment, or past it if it is a field.
+fn later_step(s: &[u8], kind: u32, c: Cursor) -> Step
+    ensures { λ r. ⌜ LaterStep kind (now (s .entry)) c r ⌝ }
+    ensures { λ r. ⌜ Shorter c r ⌝ }
+{
+    if LAST_PHASE < c.phase {
+        return Step::Done;
+    }
+    let phase = c.phase + 1;
+    match plans::due_at(kind, phase) {
+        Due::Nothing => Step::Done,
+        Due::End => counted_step(s, phase, c.at),
+        Due::List(_, _) => counted_step(s, phase, c.at),
+        Due::Field(field) => Step::Moved(Cursor {
+            phase,
+            at: plans::field_past(s, c.at, field),
+            left: 0,
+            inner: 0,
+        }),
+    }
+}
+
+// Into an initial state: behind its FxID and the count of its outputs.
+fn state_step(s: &[u8], c: Cursor) -> Step
+    requires { ⌜ 0 < c .left ⌝ }
+    ensures { λ r. ⌜ ElementStep L.State (now (s .entry)) c r ⌝ }
+    ensures { λ r. ⌜ Shorter c r ⌝ }
+{
+    let Number::Value(_, outputs) = wire::u32_at(s, c.at) else {
+        return Step::Done;
+    };
+    let Number::Value(inner, first) = wire::u32_at(s, outputs) else {
+        return Step::Done;
+    };
+    Step::Moved(Cursor {
+        phase: c.phase,
+        at: first,
+        left: c.left - 1,
         inner,
     })
 }
 
-fn state_output_at(s: &[u8], at: usize, fx: u64) -> Part
-    ensures { λ r. ⌜ r ≡ ended (output (fxOutputs (fxOf fx))) (now (s .entry)) at ⌝ }
+// An element: an entry, or an initial state, whose outputs are entries.
+fn element_step(s: &[u8], list: ListName, c: Cursor) -> Step
+    requires { ⌜ 0 < c .left ⌝ }
+    ensures { λ r. ⌜ ElementStep list (now (s .entry)) c r ⌝ }
+    ensures { λ r. ⌜ Shorter c r ⌝ }
 {
-    if fx == 0 {
-        return element::outputs::secp_at(s, at);
+    let kind = plans::entry_of(list);
+    if kind == STATE_OUTPUT {
+        return state_step(s, c);
     }
-    element::outputs::nft_at(s, at)
-}
-
-fn state_output_step(s: &[u8], at: usize, left: u64, fx: u64, inner: u64) -> Step
-    requires { ⌜ 0 < inner ⌝ }
-    ensures { λ r. ⌜ r ≡ stateOutputStep (now (s .entry)) at left fx inner ⌝ }
-{
-    match state_output_at(s, at, fx) {
-        Part::Refused(_) => Step::Done,
-        Part::Next(end) => Step::Found(
+    match plans::element_past(s, c.at, list) {
+        Number::Refused(_) => Step::Done,
+        Number::Value(_, end) => Step::Found(
             Row {
-                kind: 6,
-                start: at,
+                kind,
+                start: c.at,
                 end,
             },
             Cursor {
-                stage: Stage::Own,
+                phase: c.phase,
                 at: end,
-                left,
-                fx,
-                inner: inner - 1,
+                left: c.left - 1,
+                inner: 0,
             },
         ),
     }
 }
 
-fn credential_step(s: &[u8], at: usize, left: u64) -> Step
-    requires { ⌜ 0 < left ⌝ }
-    ensures { λ r. ⌜ r ≡ credentialStep (now (s .entry)) at left ⌝ }
+fn state_output_step(s: &[u8], c: Cursor) -> Step
+    requires { ⌜ 0 < c .inner ⌝ }
+    ensures { λ r. ⌜ StateOutputStep (now (s .entry)) c r ⌝ }
+    ensures { λ r. ⌜ Shorter c r ⌝ }
 {
-    let Number::Value(_, i) = wire::u32_at(s, at) else {
-        return Step::Done;
-    };
-    let Number::Value(signatures, first) = wire::u32_at(s, i) else {
-        return Step::Done;
-    };
-    let Part::Next(end) = wire::part_at(s, first, 65 * signatures as usize) else {
-        return Step::Done;
-    };
-    Step::Found(
-        Row {
-            kind: 7,
-            start: at,
-            end,
-        },
-        onward(Stage::Credentials, end, left - 1),
-    )
-}
-
-fn to_credentials(s: &[u8], at: usize) -> Step
-    ensures { λ r. ⌜ r ≡ number 4 .run (now (s .entry)) at (λ e. Step.Done) (λ n first. Step.Moved (cursor Stage.Credentials first n)) ⌝ }
-{
-    let Number::Value(count, first) = wire::u32_at(s, at) else {
-        return Step::Done;
-    };
-    Step::Moved(onward(Stage::Credentials, first, count))
-}
-
-// In the list of the type's own part.
-fn own_step(s: &[u8], layout: Layout, c: Cursor) -> Step
-    ensures { λ r. ⌜ r ≡ ownStep (layout .kind) (c .left) (c .fx) (c .inner) (now (s .entry)) (c .at) layout ⌝ }
-{
-    let kind = layout.kind;
-    match kind {
-        Kind::Base => to_credentials(s, layout.credentials_at),
-        Kind::CreateAsset => {
-            if c.inner == 0 {
-                if c.left == 0 {
-                    return to_credentials(s, layout.credentials_at);
-                }
-                return state_step(s, c.at, c.left);
-            }
-            state_output_step(s, c.at, c.left, c.fx, c.inner)
-        }
-        Kind::Operation => {
-            if c.left == 0 {
-                return to_credentials(s, layout.credentials_at);
-            }
-            operation_step(s, c.at, c.left)
-        }
-        Kind::Import => {
-            if c.left == 0 {
-                return to_credentials(s, layout.credentials_at);
-            }
-            input_step(s, 4, Stage::Own, c.at, c.left)
-        }
-        Kind::Export => {
-            if c.left == 0 {
-                return to_credentials(s, layout.credentials_at);
-            }
-            output_step(s, 5, Stage::Own, c.at, c.left)
-        }
+    match element::lengths::output_past(s, c.at) {
+        Part::Refused(_) => Step::Done,
+        Part::Next(end) => Step::Found(
+            Row {
+                kind: STATE_OUTPUT,
+                start: c.at,
+                end,
+            },
+            Cursor {
+                phase: c.phase,
+                at: end,
+                left: c.left,
+                inner: c.inner - 1,
+            },
+        ),
     }
 }
 
-// The entry at a cursor and the cursor behind it; or, where a list is at its end, the cursor before the next one.
-pub fn step(s: &[u8], layout: Layout, c: Cursor) -> Step
-    ensures { λ r. ⌜ r ≡ stepOf layout (now (s .entry)) c ⌝ }
+// The place behind a credential: its type, the count of its signatures, and these.
+fn credential_past(s: &[u8], at: usize) -> Part
+    ensures { λ r. ⌜ r ≡ ended credentialBytes (now (s .entry)) at ⌝ }
 {
-    let stage = c.stage;
-    match stage {
-        Stage::Outputs => {
-            if c.left == 0 {
-                return Step::Moved(onward(Stage::Inputs, layout.inputs_at, layout.inputs_count));
-            }
-            output_step(s, 1, Stage::Outputs, c.at, c.left)
-        }
-        Stage::Inputs => {
-            if c.left == 0 {
-                return Step::Moved(onward(Stage::Own, layout.own_at, layout.own_count));
-            }
-            input_step(s, 2, Stage::Inputs, c.at, c.left)
-        }
-        Stage::Own => own_step(s, layout, c),
-        Stage::Credentials => {
+    let Number::Value(_, count_at) = wire::u32_at(s, at) else {
+        return Part::Refused(wire::cut(s, at, 4));
+    };
+    let Number::Value(signatures, first) = wire::u32_at(s, count_at) else {
+        return Part::Refused(wire::cut(s, count_at, 4));
+    };
+    wire::part_at(s, first, transaction::SIGNATURE_WIDTH * signatures as usize)
+}
+
+fn credential_step(s: &[u8], c: Cursor) -> Step
+    requires { ⌜ 0 < c .left ⌝ }
+    ensures { λ r. ⌜ CredentialStep (now (s .entry)) c r ⌝ }
+    ensures { λ r. ⌜ Shorter c r ⌝ }
+{
+    match credential_past(s, c.at) {
+        Part::Refused(_) => Step::Done,
+        Part::Next(end) => Step::Found(
+            Row {
+                kind: CREDENTIAL,
+                start: c.at,
+                end,
+            },
+            Cursor {
+                phase: c.phase,
+                at: end,
+                left: c.left - 1,
+                inner: 0,
+            },
+        ),
+    }
+}
+
+// The entry at a cursor and the cursor behind it; or, where a segment is at its end, the cursor in the next one.
+pub fn step(s: &[u8], kind: u32, c: Cursor) -> Step
+    ensures { λ r. ⌜ StepAhead kind (now (s .entry)) c r ⌝ }
+    ensures { λ r. ⌜ Shorter c r ⌝ }
+{
+    match plans::due_at(kind, c.phase) {
+        Due::Nothing => later_step(s, kind, c),
+        Due::Field(_) => later_step(s, kind, c),
+        Due::End => {
             if c.left == 0 {
                 return Step::Done;
             }
-            credential_step(s, c.at, c.left)
+            credential_step(s, c)
+        }
+        Due::List(list, _) => {
+            if 0 < c.inner {
+                return state_output_step(s, c);
+            }
+            if 0 < c.left {
+                return element_step(s, list, c);
+            }
+            later_step(s, kind, c)
         }
     }
 }

@@ -1,5 +1,5 @@
 -- Laws of byte strings: numbers byte by byte, the order, parts and copies. Assumes nothing.
-use Prim.Native.Nat.{ℕ, zero, suc, _+_, _-_, _*_, _/_, _%_, _^_, _≤_, _<_}
+use Prim.Native.Nat.{ℕ, zero, suc, _+_, _-_, _*_, _/_, _%_, _^_, _≤_, _<_, min}
 use mathlib.Core.Path.{_≡_, refl, sym, ap, _∙_}
 use mathlib.Core.List.{List, [], _∷_, _++_, append-nil}
 use mathlib.Core.Bool.{Bool, true, false}
@@ -131,10 +131,18 @@ pub below-all : (a b : List ℕ) → belowFrom a b 0 ≡ below a b
 unfolding belowFrom
 below-all a b = refl
 
-module _ (a b : List ℕ) (i : ℕ) (y : Bool) (w : belowFrom a b i ≡ y) where
-  pub below-differ : i < length a → i < length b → (getD a i 0 ≡ getD b i 0 → ⊥) → ltb (getD a i 0) (getD b i 0) ≡ y
+-- nothing is below the empty string
+pub below-empty : (a : List ℕ) → below a [] ≡ false
+unfolding below
+below-empty [] = refl
+below-empty (x ∷ xs) = refl
+
+-- m is the length of the shorter
+module _ (a b : List ℕ) (i : ℕ) (y : Bool) (w : belowFrom a b i ≡ y) (m : ℕ) (s : m ≡ min (length a) (length b)) where
+  pub below-differ : i < m → (getD a i 0 ≡ getD b i 0 → ⊥) → ltb (getD a i 0) (getD b i 0) ≡ y
   unfolding below belowFrom
-  below-differ h k n = found (rw (drop-cons a i 0, drop-cons b i 0) (cases (ltb (getD a i 0) (getD b i 0)) refl)) w
+  below-differ h n =
+      found (rw (drop-cons a i 0 (omega arith), drop-cons b i 0 (omega arith)) (cases (ltb (getD a i 0) (getD b i 0)) refl)) w
     where
       cases : (t : Bool) → ltb (getD a i 0) (getD b i 0) ≡ t
           → pick t true (pick (ltb (getD b i 0) (getD a i 0)) false (below (drop (suc i) a) (drop (suc i) b))) ≡ t
@@ -147,24 +155,24 @@ module _ (a b : List ℕ) (i : ℕ) (y : Bool) (w : belowFrom a b i ≡ y) where
               apart : (x y : ℕ) → y ≤ x → (x ≡ y → ⊥) → y < x
               apart x y l n = elim (decLe (suc y) x) [ yes m ↦ m | no m ↦ absurd (n (omega arith)) ]
 
-  pub below-on : i < length a → i < length b → getD a i 0 ≡ getD b i 0 → belowFrom a b (i + 1) ≡ y
+  pub below-on : i < m → getD a i 0 ≡ getD b i 0 → belowFrom a b (i + 1) ≡ y
   unfolding below belowFrom
-  below-on h k e =
+  below-on h e =
+      let p : i < length a = omega arith in
+      let q : i < length b = omega arith in
       found (rw (add-one, drop-cons a i 0, drop-cons b i 0, le-ltb (getD a i 0) (getD b i 0) (omega arith), le-ltb (getD b i 0) (getD a i 0) (omega arith))) w
 
-  pub below-longer : i < length a → length b ≤ i → false ≡ y
+  pub below-ended : m ≤ i → ltb i (length b) ≡ y
   unfolding below belowFrom
-  below-longer h k = found (rw (drop-cons a i 0, drop-of-length-le b)) w
-
-  pub below-ended : length a ≤ i → ltb i (length b) ≡ y
-  unfolding below belowFrom
-  below-ended h = found (rw (drop-of-length-le a) (cases (ltb i (length b)) refl)) w
+  below-ended h = found (cases (ltb i (length b)) refl) w
     where
-      cases : (t : Bool) → ltb i (length b) ≡ t → below [] (drop i b) ≡ t
-      cases true e = rw (drop-cons b i 0 (ltb-true i (length b) e))
-      cases false e = rw (drop-of-length-le b (ltb-false i (length b) e))
+      cases : (t : Bool) → ltb i (length b) ≡ t → below (drop i a) (drop i b) ≡ t
+      cases true e =
+          let l : i < length b = ltb-true i (length b) e in
+          rw (drop-of-length-le a {i = i} (omega arith), drop-cons b i 0 l)
+      cases false e = rw (drop-of-length-le b (ltb-false i (length b) e)) (below-empty (drop i a))
 
-pub ruleset separating = (below-differ, below-on, below-longer, below-ended)
+pub ruleset separating = (below-differ, below-on, below-ended)
 
 -- what was compared, a and b, is p and q
 pub below-parts : (a b p q : List ℕ) (t : Bool) → t ≡ below a b → a ≡ p → b ≡ q → t ≡ below p q

@@ -2,4 +2,5 @@
 pub mod Bytes
 pub mod Orders
 pub mod Reading
+pub mod Passing
 pub mod Refusing

@@ -12,14 +12,14 @@ use lib.Seq.{take-at}
 use lib.Dec.{ltb, eqb}
 use borrow.Author.Tests.{ltb-true, ltb-false, lt-ltb, le-ltb, eqb-true, eqb-false, eq-eqb, not-true}
 use Rattle.wire.specs.Bytes.{pick, digits, length-digits, below}
-use Rattle.wire.specs.Numbers.{Rule}
+use Rattle.wire.specs.Numbers.{ReadingRule}
 use Rattle.wire.specs.Format.{Format}
 use Rattle.wire.specs.Fields.{number, constant}
 use Rattle.wire.specs.Sequence.{guard, listed, tag}
 use Rattle.wire.specs.Series.{items, left, Chain, above, notBelow, series, counted}
 use Rattle.wire.specs.Order.{keyBelow}
 use Rattle.wire.specs.Orders.{All, OneOf, Adjacent, Ascending}
-use Rattle.wire.proofs.Bytes.{below-digits}
+use Rattle.wire.proofs.Bytes.{below-empty, below-digits}
 
 -- ---- tests and what they say
 
@@ -32,7 +32,7 @@ test-not false = (λ e. refl, λ e. refl)
 
 -- ---- a number that has to be v, and a number that stands for one of the kinds listed
 
-pub constant-good : (w v : ℕ) (x : Rule) → constant w v x .Good tt ↔ (v < 256 ^ w)
+pub constant-good : (w v : ℕ) (x : ReadingRule) → constant w v x .Good tt ↔ (v < 256 ^ w)
 unfolding constant number
 constant-good w v x = (λ h. h .0, λ h. (h, eq-eqb v v refl))
 
@@ -46,21 +46,16 @@ module _ {K : Type 0} (code : K → ℕ) (kind : ℕ → K) (back : (k : K) → 
       turn true p on = (λ e. inl (sym (back k) ∙ ap kind (eqb-true (code k) (code j) p) ∙ back j), λ h. refl)
       turn false p on = (λ e. inr (on .0 e), ⊎-elim (λ e. absurd (eqb-false (code k) (code j) p (ap code e))) (on .1))
 
-  pub tag-good : (N : Format ℕ) (ks : List K) (x : Rule) (k : K) → N .Good (code k) → tag code kind back N ks x .Good k ↔ OneOf k ks
+  pub tag-good : (N : Format ℕ) (ks : List K) (x : ReadingRule) (k : K) → N .Good (code k) → tag code kind back N ks x .Good k ↔ OneOf k ks
   unfolding tag
   tag-good N ks x k fits = (λ h. listed-good ks k .0 (h .1), λ h. (fits, listed-good ks k .1 h))
 
--- ---- the empty string is below every other, and nothing is below it
+-- ---- the empty string is below every other
 
 pub empty-below : (a : List ℕ) → 0 < length a → below [] a ≡ true
 unfolding below
 empty-below [] h = absurd (omega arith)
 empty-below (x ∷ xs) h = refl
-
-pub below-empty : (a : List ℕ) → below a [] ≡ false
-unfolding below
-below-empty [] = refl
-below-empty (x ∷ xs) = refl
 
 -- ---- none is below itself, and of two different strings one is below the other
 

@@ -167,13 +167,6 @@ pub blob-wide : (k : ℕ) (b : List ℕ) → blob k .Good b → length (blob k .
 unfolding blob
 blob-wide k b h = h .0
 
--- a list of numbers: how many they are
-pub on-numbers : {R : Type 0} (k c : ℕ) (s : List ℕ) (at : ℕ) (z : R) (stop : Refusal → R) (x : Part) (go : List ℕ → ℕ → R) (n : ℕ) → x ≡ ended (increasing (number k) c) s at → x ≡ P.Next n → Slice s
-    → ((l : List ℕ) → c ≡ length l → z ≡ go l n) → z ≡ increasing (number k) c .run s at stop go
-on-numbers k c s at z stop x go n p q b e =
-    let (l, t) = next-took (increasing (number k) c) s at x n p q in
-    e l (wide-took (number k) k (λ v h. length-number k v) c s at l n b t .0) ∙ sym (run-took (increasing (number k) c) s at stop go l n t)
-
 -- a part: its bytes are those of s
 part-took : (k : ℕ) (s : List ℕ) (at : ℕ) (x : Part) (n : ℕ) → x ≡ ended (blob k) s at → x ≡ P.Next n → read (blob k) s at ≡ took (part at n s) n
 part-took k s at x n p q = let (v, t) = next-took (blob k) s at x n p q in t ∙ ap (λ b. took b n) (blob-part k s at v n t)
@@ -230,19 +223,30 @@ module _ (k : ℕ) (s : List ℕ) (at : ℕ) (x : Number) (v n : ℕ) (p : x ≡
   unfolding number
   value-small = value-read .0
 
-  value-next : n ≡ at + k
-  value-next = value-read .1 .ends ∙ ap (λ j. at + j) (length-number k v)
+  pub value-ends : n ≡ at + k
+  value-ends = value-read .1 .ends ∙ ap (λ j. at + j) (length-number k v)
 
-module _ (k : ℕ) (s : List ℕ) (at : ℕ) (x : Part) (n : ℕ) (p : x ≡ ended (blob k) s at) (q : x ≡ P.Next n) (b : Slice s) where
-  pub part-long : length (part at n s) ≡ k
+pub blob-ends : (k : ℕ) (s : List ℕ) (at : ℕ) (v : List ℕ) (n : ℕ) → read (blob k) s at ≡ took v n → n ≡ at + k
+unfolding blob blobRun
+blob-ends k s at v n = cases (leb k (length s - at))
+  where
+    cases : (b : Bool) → pick b (took (take k (drop at s)) (at + k)) (refused (cutAt k s at)) ≡ took v n → n ≡ at + k
+    cases true q = cc
+    cases false q = refused-took (cutAt k s at) v n q
+
+module _ (k : ℕ) (s : List ℕ) (at : ℕ) (x : Part) (n : ℕ) (p : x ≡ ended (blob k) s at) (q : x ≡ P.Next n) where
+  pub part-ends : n ≡ at + k
+  part-ends = let (v, t) = next-took (blob k) s at x n p q in blob-ends k s at v n t
+
+  pub part-long : Slice s → length (part at n s) ≡ k
   unfolding blob
-  part-long =
+  part-long b =
       let (v, t) = next-took (blob k) s at x n p q in
       ap length (sym (blob-part k s at v n t)) ∙ blob k .sound s at v n (slice-bytes s b) t .0 .0
 
 pub on-value-next : {R : Type 0} (s : List ℕ) (at : ℕ) (z : R) (stop : Refusal → R) (b : Slice s) (k : ℕ) (go : ℕ → ℕ → R) (x : Number) (v n : ℕ) → x ≡ valued (number k) s at → x ≡ N.Value v n
     → (n ≡ at + k → z ≡ go v n) → z ≡ number k .run s at stop go
-on-value-next s at z stop b k go x v n p q e = on-value k s at z stop go x v n p q (e (value-next k s at x v n p q b))
+on-value-next s at z stop b k go x v n p q e = on-value k s at z stop go x v n p q (e (value-ends k s at x v n p q b))
 
 -- ---- bytes handed over by value
 
@@ -307,11 +311,16 @@ module _ {R : Type 0} where
 
 pub ruleset tests = (if-lt, if-not-lt, if-le, if-not-le, if-eq, if-ne, if-zero, if-some)
 
--- a let-else chain up to a refusal
-pub ruleset reading = (on-value, on-short, on-part, on-cut, on-part-refused, on-list, on-list-refused, tests)
+-- ---- a refusal f that the code has made by a call, where the definition has d
 
--- a let-else chain that went through to its end: every field was there
-pub ruleset wholly = (on-value, on-part, on-numbers, tests)
+pub part-made : (f d : Refusal) → f ≡ d → P.Refused f ≡ P.Refused d
+part-made f d e = ap P.Refused e
+
+pub number-made : (f d : Refusal) → f ≡ d → N.Refused f ≡ N.Refused d
+number-made f d e = ap N.Refused e
+
+-- a let-else chain up to a refusal
+pub ruleset reading = (on-value, on-short, on-part, on-cut, on-part-refused, on-list, on-list-refused, tests, part-made)
 
 -- ---- a loop: the code counts down, the format goes by `suc`. The invariant is that the rest of the reading is the whole reading, y
 
@@ -337,4 +346,5 @@ module _ {A R : Type 0} (E : List ℕ → Format A) (step : List ℕ → A → L
   list-again p q w h = rw (stands-part s p w q h)
 
 -- a turn: of an element only its end is in hand, and what stands before it
-pub ruleset turn = (list-on, on-value-there, on-short, on-part-there, on-cut, if-above, if-not-above, if-below, if-not-below, stands-append, list-again)
+pub ruleset turn =
+    (list-on, on-value-there, on-short, on-part-there, on-cut, if-above, if-not-above, if-below, if-not-below, stands-append, list-again, part-made)

@@ -1,16 +1,19 @@
--- By which numbers a format refuses: of each combinator, from its parts and from the rule that it adds. `ruled`, of Format, is this for the numbers
--- of the table as a whole; here it is for any numbers P. Assumes nothing.
-use mathlib.Core.Path.{_≡_, refl, sym, _∙_, subst}
+-- By which rules a format refuses: of each combinator, from its parts and from the rule that it adds. `ruled`, of Format, is this for the rules
+-- of reading as a whole; here it is for any rules P. Assumes nothing.
+use mathlib.Core.Path.{_≡_, refl, sym, ap, _∙_, subst}
 use Prim.Native.Nat.{ℕ, zero, suc, _+_, _-_, _≤_}
-use mathlib.Core.Logic.{⊎-elim}
+use native.Mathlib.Omega.{arith}
+use mathlib.Core.Logic.{_⊎_, inl, inr, ⊎-elim}
 use mathlib.Core.Bool.{Bool, true, false, false≢true}
 use mathlib.Core.List.{List, [], _∷_}
 use lib.ListN.{length, take, drop}
 use lib.Dec.{leb, eqb}
+use Rattle.wire.specs.declared.Rule.{Rule}
 use Rattle.wire.specs.declared.Refusal.{Refusal}
 use Rattle.wire.specs.Bytes.{value, pick}
-use Rattle.wire.specs.Numbers.{Rule, ruleNumber, by, refusal, cutShort, outOfOrder, tooLong, bytesAfterEnd}
-use Rattle.wire.specs.Format.{Format, Result, took, refused, onResult, read, refused-number, took-refused}
+use Rattle.wire.specs.Numbers.{ruleNumber, refusal, ReadingRule, ruleOf, Ruled, by, emptyList, wrongCount, tooLong, bytesAfterEnd}
+use Rattle.wire.specs.Numbers.{cutShort, wrongCodec, unknownType, zeroAmount, outOfOrder, badThreshold, badLength, notPrintable, badDenomination}
+use Rattle.wire.specs.Format.{Format, Result, took, refused, onResult, read, refused-rule, took-refused}
 use Rattle.wire.specs.Fields.{blob, blobRun, number, constant}
 use Rattle.wire.specs.Sequence.{andThen, guardAt, guard, only, listed, find-is, tag}
 use Rattle.wire.specs.Series.{listRun, list-same, items, left, seriesFrom, series, above, notBelow, counted}
@@ -18,9 +21,26 @@ use Rattle.wire.specs.Orders.{OneOf}
 use Rattle.wire.specs.Whole.{whole}
 use Rattle.wire.proofs.Orders.{listed-good}
 
--- the number of every refusal is P
-abbrev pub RefusesBy : {A : Type 0} → Format A → (ℕ → Type 0) → Type 0
-RefusesBy F P = (s : List ℕ) (at : ℕ) (e : Refusal) → read F s at ≡ refused e → P (e .number)
+-- a rule of reading is that of a field cut short, or another
+pub cut-or-other : (x : Rule) → Ruled x → (x ≡ ruleOf cutShort) ⊎ (x ≡ ruleOf cutShort → ⊥)
+cut-or-other x (r, e) = rw e (each r)
+  where
+    each : (r : ReadingRule) → (ruleOf r ≡ ruleOf cutShort) ⊎ (ruleOf r ≡ ruleOf cutShort → ⊥)
+    each cutShort = inl refl
+    each wrongCodec = inr (λ q. let z = ap ruleNumber q in omega arith)
+    each unknownType = inr (λ q. let z = ap ruleNumber q in omega arith)
+    each zeroAmount = inr (λ q. let z = ap ruleNumber q in omega arith)
+    each outOfOrder = inr (λ q. let z = ap ruleNumber q in omega arith)
+    each badThreshold = inr (λ q. let z = ap ruleNumber q in omega arith)
+    each badLength = inr (λ q. let z = ap ruleNumber q in omega arith)
+    each notPrintable = inr (λ q. let z = ap ruleNumber q in omega arith)
+    each badDenomination = inr (λ q. let z = ap ruleNumber q in omega arith)
+    each emptyList = inr (λ q. let z = ap ruleNumber q in omega arith)
+    each wrongCount = inr (λ q. let z = ap ruleNumber q in omega arith)
+
+-- the rule of every refusal is P
+abbrev pub RefusesBy : {A : Type 0} → Format A → (Rule → Type 0) → Type 0
+RefusesBy F P = (s : List ℕ) (at : ℕ) (e : Refusal) → read F s at ≡ refused e → P (e .rule)
 
 -- a number is in a list where a test finds it
 pub one-of : (l : List ℕ) (n : ℕ) → listed (λ (k : ℕ). k) l n ≡ true → OneOf n l
@@ -39,34 +59,38 @@ contained m (k ∷ l) e n h = turn (listed (λ (i : ℕ). i) m k) refl e (λ q. 
     turn true p q more = ⊎-elim (λ i. subst (λ (j : ℕ). OneOf j m) (sym i) (one-of m k p)) (more q) h
     turn false p q more = absurd (false≢true q)
 
--- a format that refuses by the numbers of a list refuses by those of a longer one
-pub refuses-more : {A : Type 0} (F : Format A) (l m : List ℕ) → contains m l ≡ true → RefusesBy F (λ n. OneOf n l) → RefusesBy F (λ n. OneOf n m)
-refuses-more F l m h f s at e q = contained m l h (e .number) (f s at e q)
+-- the number of the rule is in l
+abbrev pub NumberIn : List ℕ → Rule → Type 0
+NumberIn l r = OneOf (ruleNumber r) l
 
-module _ (P : ℕ → Type 0) where
+-- a format that refuses by the numbers of a list refuses by those of a longer one
+pub refuses-more : {A : Type 0} (F : Format A) (l m : List ℕ) → contains m l ≡ true → RefusesBy F (NumberIn l) → RefusesBy F (NumberIn m)
+refuses-more F l m h f s at e q = contained m l h (ruleNumber (e .rule)) (f s at e q)
+
+module _ (P : Rule → Type 0) where
   -- ---- readings
 
-  refused-by : {A : Type 0} (d e : Refusal) → P (d .number) → _≡_ {A = Result A} (refused d) (refused e) → P (e .number)
-  refused-by {A} d e h q = subst P (sym (refused-number {A = A} d e q)) h
+  refused-by : {A : Type 0} (d e : Refusal) → P (d .rule) → _≡_ {A = Result A} (refused d) (refused e) → P (e .rule)
+  refused-by {A} d e h q = subst P (sym (refused-rule {A = A} d e q)) h
 
-  pub result-refuses : {A B : Type 0} (o : Result A) (k : A → ℕ → Result B) (e : Refusal) → ((d : Refusal) → o ≡ refused d → P (d .number))
-      → ((a : A) (m : ℕ) → k a m ≡ refused e → P (e .number)) → onResult o refused k ≡ refused e → P (e .number)
+  pub result-refuses : {A B : Type 0} (o : Result A) (k : A → ℕ → Result B) (e : Refusal) → ((d : Refusal) → o ≡ refused d → P (d .rule))
+      → ((a : A) (m : ℕ) → k a m ≡ refused e → P (e .rule)) → onResult o refused k ≡ refused e → P (e .rule)
   result-refuses (took a m) k e f g q = g a m q
   result-refuses {A} {B} (refused d) k e f g q = refused-by {A = B} d e (f d refl) q
 
   pub run-refuses : {A B : Type 0} (F : Format A) (s : List ℕ) (at : ℕ) (k : A → ℕ → Result B) (e : Refusal) → RefusesBy F P
-      → ((a : A) (m : ℕ) → k a m ≡ refused e → P (e .number)) → F .run s at refused k ≡ refused e → P (e .number)
+      → ((a : A) (m : ℕ) → k a m ≡ refused e → P (e .rule)) → F .run s at refused k ≡ refused e → P (e .rule)
   run-refuses F s at k e h g q = result-refuses (read F s at) k e (h s at) g (sym (F .same s at refused k) ∙ q)
 
   -- a test, else a refusal
-  pub pick-refuses : {A : Type 0} (t : Bool) (d : Refusal) (o : Result A) (e : Refusal) → P (d .number) → (o ≡ refused e → P (e .number))
-      → pick t o (refused d) ≡ refused e → P (e .number)
+  pub pick-refuses : {A : Type 0} (t : Bool) (d : Refusal) (o : Result A) (e : Refusal) → P (d .rule) → (o ≡ refused e → P (e .rule))
+      → pick t o (refused d) ≡ refused e → P (e .rule)
   pick-refuses true d o e h g q = g q
   pick-refuses {A} false d o e h g q = refused-by {A = A} d e h q
 
   -- ---- fields
 
-  pub blob-refuses : (n : ℕ) → P (ruleNumber cutShort) → RefusesBy (blob n) P
+  pub blob-refuses : (n : ℕ) → P (ruleOf cutShort) → RefusesBy (blob n) P
   unfolding blob blobRun
   blob-refuses n h s at e = pick-refuses (leb n (length s - at)) (by cutShort at) _ e h (λ q. took-refused (take n (drop at s)) (at + n) e q)
 
@@ -77,7 +101,7 @@ module _ (P : ℕ → Type 0) where
   unfolding andThen
   then-refuses F G f g s at e = run-refuses F s at _ e f (λ a m. run-refuses (G a) s m _ e (g a) (λ b n q. took-refused (a, b) n e q))
 
-  module _ {A : Type 0} (F : Format A) (ok : A → Bool) (x : Rule) (f : RefusesBy F P) (h : P (ruleNumber x)) where
+  module _ {A : Type 0} (F : Format A) (ok : A → Bool) (x : ReadingRule) (f : RefusesBy F P) (h : P (ruleOf x)) where
     pub guardAt-refuses : (place : ℕ → A → ℕ) (within : (at : ℕ) (a : A) → F .Good a → place at a ≤ at + length (F .write a))
         → RefusesBy (guardAt F ok x place within) P
     unfolding guardAt
@@ -89,15 +113,15 @@ module _ (P : ℕ → Type 0) where
 
   -- «as» and named: F is read, and `to` makes of its value what is handed on. Said of the reading, which is all that their formats have of this
   pub mapped-refuses : {A B : Type 0} (F : Format A) (to : A → B) → RefusesBy F P → (s : List ℕ) (at : ℕ) (e : Refusal)
-      → F .run s at refused (λ a m. took (to a) m) ≡ refused e → P (e .number)
+      → F .run s at refused (λ a m. took (to a) m) ≡ refused e → P (e .rule)
   mapped-refuses F to f s at e = run-refuses F s at _ e f (λ a m q. took-refused (to a) m e q)
 
   pub only-refuses : {A : Type 0} (a : A) → RefusesBy (only a) P
   unfolding only
   only-refuses a s at e q = took-refused a at e q
 
-  pub tag-refuses : {K : Type 0} (code : K → ℕ) (kind : ℕ → K) (back : (k : K) → kind (code k) ≡ k) (N : Format ℕ) (ks : List K) (x : Rule)
-      → RefusesBy N P → P (ruleNumber x) → RefusesBy (tag code kind back N ks x) P
+  pub tag-refuses : {K : Type 0} (code : K → ℕ) (kind : ℕ → K) (back : (k : K) → kind (code k) ≡ k) (N : Format ℕ) (ks : List K) (x : ReadingRule)
+      → RefusesBy N P → P (ruleOf x) → RefusesBy (tag code kind back N ks x) P
   unfolding tag
   tag-refuses code kind back N ks x f h s at e =
       run-refuses N s at _ e f λ n m q.
@@ -106,11 +130,11 @@ module _ (P : ℕ → Type 0) where
 
   -- ---- numbers
 
-  pub number-refuses : (w : ℕ) → P (ruleNumber cutShort) → RefusesBy (number w) P
+  pub number-refuses : (w : ℕ) → P (ruleOf cutShort) → RefusesBy (number w) P
   unfolding number
   number-refuses w h = mapped-refuses (blob w) value (blob-refuses w h)
 
-  pub constant-refuses : (w v : ℕ) (x : Rule) → P (ruleNumber cutShort) → P (ruleNumber x) → RefusesBy (constant w v x) P
+  pub constant-refuses : (w v : ℕ) (x : ReadingRule) → P (ruleOf cutShort) → P (ruleOf x) → RefusesBy (constant w v x) P
   unfolding constant
   constant-refuses w v x h k = mapped-refuses (guard (number w) (λ n. eqb n v) x) (λ n. tt) (guard-refuses (number w) (λ n. eqb n v) x (number-refuses w h) k)
 
@@ -130,10 +154,10 @@ module _ (P : ℕ → Type 0) where
       → RefusesBy (seriesFrom E prev n) P
   series-refuses E prev n = items-refuses E (left E) prev n
 
-  pub above-refuses : {A : Type 0} (F : Format A) (prev : List ℕ) → RefusesBy F P → P (ruleNumber outOfOrder) → RefusesBy (above F prev) P
+  pub above-refuses : {A : Type 0} (F : Format A) (prev : List ℕ) → RefusesBy F P → P (ruleOf outOfOrder) → RefusesBy (above F prev) P
   above-refuses F prev f h = guard-refuses F _ outOfOrder f h
 
-  pub notBelow-refuses : {A : Type 0} (F : Format A) (prev : List ℕ) → RefusesBy F P → P (ruleNumber outOfOrder) → RefusesBy (notBelow F prev) P
+  pub notBelow-refuses : {A : Type 0} (F : Format A) (prev : List ℕ) → RefusesBy F P → P (ruleOf outOfOrder) → RefusesBy (notBelow F prev) P
   notBelow-refuses F prev f h = guard-refuses F _ outOfOrder f h
 
   pub counted-refuses : {A : Type 0} (C : Format ℕ) (E : List ℕ → Format A) → RefusesBy C P → ((prev : List ℕ) → RefusesBy (E prev) P)
@@ -144,7 +168,7 @@ module _ (P : ℕ → Type 0) where
   -- ---- the whole of a byte string
 
   pub whole-refuses : {A : Type 0} (F : Format A) (most : ℕ) → RefusesBy F P → P tooLong → P bytesAfterEnd → (s : List ℕ) (e : Refusal)
-      → whole F most s refused took ≡ refused e → P (e .number)
+      → whole F most s refused took ≡ refused e → P (e .rule)
   whole-refuses F most f h k s e =
       pick-refuses (leb (length s) most) (refusal tooLong 0) _ e h
       (run-refuses F s 0 _ e f (λ v n. pick-refuses (eqb n (length s)) (refusal bytesAfterEnd n) _ e k (λ q. took-refused v n e q)))

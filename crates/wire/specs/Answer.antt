@@ -1,8 +1,9 @@
 -- What the readers of fields answer, as the two ends of a format's reading. Assumes nothing.
+use mathlib.Core.Path.{_≡_}
 use Prim.Native.Nat.{ℕ}
 use mathlib.Core.List.{List}
 use lib.ListN.{replicate}
-use Rattle.wire.specs.Format.{Format}
+use Rattle.wire.specs.Format.{Format, read, took}
 use Rattle.wire.specs.Fields.{blob}
 use Rattle.wire.specs.declared.Part.{Part}
 use Rattle.wire.specs.declared.Part.the-variants as P
@@ -20,3 +21,13 @@ valued F s at = F .run s at N.Refused N.Value
 -- the k bytes from at, or k zeros where they are not all there
 abbrev pub wholeAt : ℕ → List ℕ → ℕ → List ℕ
 wholeAt k s at = blob k .run s at (λ e. replicate k 0) (λ b n. b)
+
+-- ---- what was read, passed by its lengths: a promise on bytes that the format has read, and on no others
+
+-- of what was read: the place behind it
+abbrev pub Passes : {A : Type 0} → Format A → List ℕ → ℕ → Part → Type 0
+Passes {A} F s at r = (v : A) (n : ℕ) → read F s at ≡ took v n → r ≡ P.Next n
+
+-- of what was read: a number that its value has, and the place behind it
+abbrev pub Tells : {A : Type 0} → Format A → (A → ℕ) → List ℕ → ℕ → Number → Type 0
+Tells {A} F f s at r = (v : A) (n : ℕ) → read F s at ≡ took v n → r ≡ N.Value (f v) n

@@ -11,8 +11,8 @@ use lib.Dec.{leb, eqb}
 use borrow.Author.Tests.{leb-true, le-leb, eqb-true}
 use Rattle.wire.specs.declared.Refusal.{Refusal}
 use Rattle.wire.specs.Bytes.{Bytes, bytes-take, bytes-drop, value, digits, value-lt, length-digits, bytes-digits, value-digits, digits-value, pick}
-use Rattle.wire.specs.Numbers.{Rule, Ruled, cutShort, cutAt}
-use Rattle.wire.specs.Format.{Format, took, refused, Stands, onResult, moved, pick-inv, pick-same, pick-ruled, pick-placed, refused-number, took-refused}
+use Rattle.wire.specs.Numbers.{ReadingRule, ruleOf, Ruled, cutShort, cutAt}
+use Rattle.wire.specs.Format.{Format, took, refused, Stands, onResult, moved, pick-inv, pick-same, pick-ruled, pick-placed, refused-rule, took-refused}
 use Rattle.wire.specs.Sequence.{«as», guard, named}
 
 -- ---- n bytes
@@ -47,16 +47,16 @@ module _ (n : ℕ) where
   blob-same s at stop go = pick-same (leb n (length s - at)) (cutAt n s at) _ _ stop go
 
   -- it refuses as 2 only
-  pub blob-stable : (s t : List ℕ) (at : ℕ) (e : Refusal) → Bytes s → (e .number ≡ 2 → ⊥) → blobRun s at refused took ≡ refused e
+  pub blob-stable : (s t : List ℕ) (at : ℕ) (e : Refusal) → Bytes s → (e .rule ≡ ruleOf cutShort → ⊥) → blobRun s at refused took ≡ refused e
       → blobRun (s ++ t) at refused took ≡ refused e
   unfolding blobRun
   blob-stable s t at e bs ne q = go (leb n (length s - at)) q
     where
       go : (b : Bool) → pick b (took (take n (drop at s)) (at + n)) (refused (cutAt n s at)) ≡ refused e → blobRun (s ++ t) at refused took ≡ refused e
       go true q = took-refused (take n (drop at s)) (at + n) e q
-      go false q = absurd (ne (refused-number (cutAt n s at) e q))
+      go false q = absurd (ne (refused-rule (cutAt n s at) e q))
 
-  pub blob-ruled : (s : List ℕ) (at : ℕ) (e : Refusal) → blobRun s at refused took ≡ refused e → Ruled (e .number)
+  pub blob-ruled : (s : List ℕ) (at : ℕ) (e : Refusal) → blobRun s at refused took ≡ refused e → Ruled (e .rule)
   unfolding blobRun
   blob-ruled s at e = pick-ruled (leb n (length s - at)) cutShort at (take n (drop at s)) (at + n) e
 
@@ -104,7 +104,7 @@ length-number w v = length-digits w v
 
 -- ---- a number of w bytes that has to be v; any other is refused by x, at its start
 
-unfoldable pub constant : ℕ → ℕ → Rule → Format (Unit {0})
+unfoldable pub constant : ℕ → ℕ → ReadingRule → Format (Unit {0})
 unfolding named guard
 constant w v x =
     named (guard (number w) (λ n. eqb n v) x) (λ n. tt) (λ u. v) (λ n h. sym (eqb-true n v (h .1))) (λ u. refl)

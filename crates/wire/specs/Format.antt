@@ -15,7 +15,7 @@ use lib.ListN.{length, take, drop, length-append, length-drop, take-append-drop,
 use lib.Seq.{drop-append-le, take-at}
 use Rattle.wire.specs.declared.Refusal.{Refusal}
 use Rattle.wire.specs.Bytes.{Bytes, pick, part}
-use Rattle.wire.specs.Numbers.{Rule, Ruled, by, numberOf}
+use Rattle.wire.specs.Numbers.{ReadingRule, ruleOf, Ruled, by, cutShort, numberOf}
 
 -- what a reading comes to: a value and where it ends, or the refusal
 pub data Result (A : Type 0) : Type 0 where
@@ -47,10 +47,10 @@ pub record Format (A : Type 0) : Type 1 where
   -- what is written is bytes
   pub bytes : (v : A) → Good v → Bytes (write v)
   -- a refusal other than 2, cut short, is kept when bytes are added behind
-  pub stable : (s t : List ℕ) (at : ℕ) (e : Refusal) → Bytes s → (e .number ≡ 2 → ⊥) → run s at refused took ≡ refused e
+  pub stable : (s t : List ℕ) (at : ℕ) (e : Refusal) → Bytes s → (e .rule ≡ ruleOf cutShort → ⊥) → run s at refused took ≡ refused e
       → run (s ++ t) at refused took ≡ refused e
-  -- a refusal's number is that of a rule
-  pub ruled : (s : List ℕ) (at : ℕ) (e : Refusal) → run s at refused took ≡ refused e → Ruled (e .number)
+  -- a refusal's rule is one of reading
+  pub ruled : (s : List ℕ) (at : ℕ) (e : Refusal) → run s at refused took ≡ refused e → Ruled (e .rule)
   -- a refusal's place is inside the bytes, or at their end
   pub placed : (s : List ℕ) (at : ℕ) (e : Refusal) → Bytes s → at ≤ length s → run s at refused took ≡ refused e → e .place ≤ length s
 
@@ -61,7 +61,7 @@ read F s at = F .run s at refused took
 -- the number and the place that are reported
 abbrev pub verdict : {A : Type 0} → Result A → ℕ × ℕ
 verdict (took v n) = (0, n)
-verdict (refused e) = (e .number, e .place)
+verdict (refused e) = (numberOf e, e .place)
 
 -- ---- what follows of any reading
 
@@ -124,12 +124,13 @@ pub pick-same : {A R : Type 0} (t : Bool) (e : Refusal) (v : A) (n : ℕ) (stop 
 pick-same true e v n stop go = refl
 pick-same false e v n stop go = refl
 
-pub refused-number : {A : Type 0} (d e : Refusal) → _≡_ {A = Result A} (refused d) (refused e) → e .number ≡ d .number
-refused-number d e q = let z : e ≡ d = cc in ap numberOf z
+pub refused-rule : {A : Type 0} (d e : Refusal) → _≡_ {A = Result A} (refused d) (refused e) → e .rule ≡ d .rule
+refused-rule d e q = let z : e ≡ d = cc in ap (λ (r : Refusal). r .rule) z
 
-pub pick-ruled : {A : Type 0} (t : Bool) (r : Rule) (p : ℕ) (v : A) (n : ℕ) (e : Refusal) → pick t (took v n) (refused (by r p)) ≡ refused e → Ruled (e .number)
+pub pick-ruled : {A : Type 0} (t : Bool) (r : ReadingRule) (p : ℕ) (v : A) (n : ℕ) (e : Refusal) → pick t (took v n) (refused (by r p)) ≡ refused e
+    → Ruled (e .rule)
 pick-ruled true r p v n e q = took-refused v n e q
-pick-ruled false r p v n e q = (r, refused-number (by r p) e q)
+pick-ruled false r p v n e q = (r, refused-rule (by r p) e q)
 
 pub refused-placed : {A : Type 0} (b : ℕ) (d e : Refusal) → d .place ≤ b → _≡_ {A = Result A} (refused d) (refused e) → e .place ≤ b
 refused-placed b d e h q = let z : d ≡ e = cc in subst (λ (r : Refusal). r .place ≤ b) z h
@@ -188,22 +189,22 @@ pub result-stable : {A B : Type 0} (o o′ : Result A) (k k′ : A → ℕ → R
 result-stable (took a m) o′ k k′ e f g h q = rw (f a m refl) (h a m refl q)
 result-stable (refused d) o′ k k′ e f g h q = let z : d ≡ e = cc in rw (g (ap refused z))
 
-pub run-stable : {A B : Type 0} (F : Format A) (s t : List ℕ) (at : ℕ) (k k′ : A → ℕ → Result B) (e : Refusal) → Bytes s → (e .number ≡ 2 → ⊥)
+pub run-stable : {A B : Type 0} (F : Format A) (s t : List ℕ) (at : ℕ) (k k′ : A → ℕ → Result B) (e : Refusal) → Bytes s → (e .rule ≡ ruleOf cutShort → ⊥)
     → ((a : A) (m : ℕ) → read F s at ≡ took a m → k a m ≡ refused e → k′ a m ≡ refused e)
     → F .run s at refused k ≡ refused e → F .run (s ++ t) at refused k′ ≡ refused e
 run-stable F s t at k k′ e bs ne h q =
     F .same (s ++ t) at refused k′
     ∙ result-stable (read F s at) (read F (s ++ t) at) k k′ e (λ a m. kept F s t at a m bs) (F .stable s t at e bs ne) h (sym (F .same s at refused k) ∙ q)
 
--- ---- the number of a refusal
+-- ---- the rule of a refusal
 
-pub result-ruled : {A B : Type 0} (o : Result A) (k : A → ℕ → Result B) (e : Refusal) → ((d : Refusal) → o ≡ refused d → Ruled (d .number))
-    → ((a : A) (m : ℕ) → k a m ≡ refused e → Ruled (e .number)) → onResult o refused k ≡ refused e → Ruled (e .number)
+pub result-ruled : {A B : Type 0} (o : Result A) (k : A → ℕ → Result B) (e : Refusal) → ((d : Refusal) → o ≡ refused d → Ruled (d .rule))
+    → ((a : A) (m : ℕ) → k a m ≡ refused e → Ruled (e .rule)) → onResult o refused k ≡ refused e → Ruled (e .rule)
 result-ruled (took a m) k e f g q = g a m q
 result-ruled (refused d) k e f g q = let z : d ≡ e = cc in f e (ap refused z)
 
 pub run-ruled : {A B : Type 0} (F : Format A) (s : List ℕ) (at : ℕ) (k : A → ℕ → Result B) (e : Refusal)
-    → ((a : A) (m : ℕ) → k a m ≡ refused e → Ruled (e .number)) → F .run s at refused k ≡ refused e → Ruled (e .number)
+    → ((a : A) (m : ℕ) → k a m ≡ refused e → Ruled (e .rule)) → F .run s at refused k ≡ refused e → Ruled (e .rule)
 run-ruled F s at k e g q = result-ruled (read F s at) k e (F .ruled s at) g (sym (F .same s at refused k) ∙ q)
 
 -- ---- the place of a refusal

@@ -1,80 +1,136 @@
--- The numbers that the desk answers with (document 01, "Numbers the desk answers with"). A rule that bars acceptance while fields are read is a
--- `Rule`; a format can refuse by no other. Assumes nothing.
+-- The rules that the desk refuses by, and their numbers (document 01, "Numbers the desk answers with"). A rule that bars acceptance while fields
+-- are read is a `ReadingRule`; a format can refuse by no other. Assumes nothing.
 use mathlib.Core.Path.{_≡_}
 use Prim.Native.Nat.{ℕ, _≤_}
 use native.Mathlib.Omega.{arith}
 use mathlib.Core.List.{List}
+use Rattle.wire.specs.declared.Rule.{Rule}
+use Rattle.wire.specs.declared.Rule.the-variants as R
 use Rattle.wire.specs.declared.Refusal.{Refusal}
 
-pub data Rule : Type 0 where
-  cutShort wrongCodec unknownType zeroAmount outOfOrder badThreshold badLength notPrintable badDenomination emptyList wrongCount : Rule
-
+-- the table
 abbrev pub ruleNumber : Rule → ℕ
-ruleNumber cutShort = 2
-ruleNumber wrongCodec = 3
-ruleNumber unknownType = 4
-ruleNumber zeroAmount = 5
-ruleNumber outOfOrder = 6
-ruleNumber badThreshold = 7
-ruleNumber badLength = 8
-ruleNumber notPrintable = 9
-ruleNumber badDenomination = 10
-ruleNumber emptyList = 11
-ruleNumber wrongCount = 12
+ruleNumber R.TooLong = 1
+ruleNumber R.CutShort = 2
+ruleNumber R.WrongCodec = 3
+ruleNumber R.UnknownType = 4
+ruleNumber R.ZeroAmount = 5
+ruleNumber R.OutOfOrder = 6
+ruleNumber R.BadThreshold = 7
+ruleNumber R.BadLength = 8
+ruleNumber R.NotPrintable = 9
+ruleNumber R.BadDenomination = 10
+ruleNumber R.EmptyList = 11
+ruleNumber R.WrongCount = 12
+ruleNumber R.BytesAfterEnd = 13
+ruleNumber R.NoRoom = 14
+ruleNumber R.NoEntry = 15
+ruleNumber R.StepNotDue = 16
+ruleNumber R.FirstNotAccepted = 17
+ruleNumber R.SecondNotAccepted = 18
+ruleNumber R.DraftsDiffer = 19
+ruleNumber R.Conflict = 20
+ruleNumber R.NotASignature = 21
 
--- the number is that of a rule
-abbrev pub Ruled : ℕ → Type 0
-Ruled n = (r : Rule) × (n ≡ ruleNumber r)
-
--- what is judged of the whole, before and behind all fields
-abbrev pub tooLong : ℕ
-tooLong = 1
-
-abbrev pub bytesAfterEnd : ℕ
-bytesAfterEnd = 13
-
--- what is judged of a request: its room, its number, its step, its drafts
-abbrev pub noRoom : ℕ
-noRoom = 14
-
-abbrev pub noEntry : ℕ
-noEntry = 15
-
-abbrev pub stepNotDue : ℕ
-stepNotDue = 16
-
-abbrev pub firstNotAccepted : ℕ
-firstNotAccepted = 17
-
-abbrev pub secondNotAccepted : ℕ
-secondNotAccepted = 18
-
-abbrev pub draftsDiffer : ℕ
-draftsDiffer = 19
-
-abbrev pub conflict : ℕ
-conflict = 20
-
-abbrev pub notASignature : ℕ
-notASignature = 21
-
-abbrev pub refusal : ℕ → ℕ → Refusal
-refusal n p = record { number = n; place = p }
-
-abbrev pub by : Rule → ℕ → Refusal
-by r p = refusal (ruleNumber r) p
+abbrev pub refusal : Rule → ℕ → Refusal
+refusal r p = record { rule = r; place = p }
 
 abbrev pub numberOf : Refusal → ℕ
-numberOf e = e .number
+numberOf e = ruleNumber (e .rule)
+
+-- ---- what is judged of a field
+
+pub data ReadingRule : Type 0 where
+  cutShort wrongCodec unknownType zeroAmount outOfOrder badThreshold badLength notPrintable badDenomination emptyList wrongCount : ReadingRule
+
+abbrev pub ruleOf : ReadingRule → Rule
+ruleOf cutShort = R.CutShort
+ruleOf wrongCodec = R.WrongCodec
+ruleOf unknownType = R.UnknownType
+ruleOf zeroAmount = R.ZeroAmount
+ruleOf outOfOrder = R.OutOfOrder
+ruleOf badThreshold = R.BadThreshold
+ruleOf badLength = R.BadLength
+ruleOf notPrintable = R.NotPrintable
+ruleOf badDenomination = R.BadDenomination
+ruleOf emptyList = R.EmptyList
+ruleOf wrongCount = R.WrongCount
+
+-- the rule is one of these
+abbrev pub Ruled : Rule → Type 0
+Ruled x = (r : ReadingRule) × (x ≡ ruleOf r)
+
+abbrev pub by : ReadingRule → ℕ → Refusal
+by r p = refusal (ruleOf r) p
 
 -- of the w bytes of the field that starts at `at`, not all are there
 abbrev pub cutAt : ℕ → List ℕ → ℕ → Refusal
 cutAt w s at = by cutShort at
 
-pub ruled-range : (n : ℕ) → Ruled n → (2 ≤ n) × (n ≤ 12)
-ruled-range n (r, e) = rw e (range r)
+-- ---- what is judged of the whole, before and behind all fields
+
+abbrev pub tooLong : Rule
+tooLong = R.TooLong
+
+abbrev pub bytesAfterEnd : Rule
+bytesAfterEnd = R.BytesAfterEnd
+
+-- ---- what is judged of a request: its room, its number, its step, its drafts
+
+abbrev pub noRoom : Rule
+noRoom = R.NoRoom
+
+abbrev pub noEntry : Rule
+noEntry = R.NoEntry
+
+abbrev pub stepNotDue : Rule
+stepNotDue = R.StepNotDue
+
+abbrev pub firstNotAccepted : Rule
+firstNotAccepted = R.FirstNotAccepted
+
+abbrev pub secondNotAccepted : Rule
+secondNotAccepted = R.SecondNotAccepted
+
+abbrev pub draftsDiffer : Rule
+draftsDiffer = R.DraftsDiffer
+
+abbrev pub conflict : Rule
+conflict = R.Conflict
+
+abbrev pub notASignature : Rule
+notASignature = R.NotASignature
+
+-- ---- laws
+
+-- every refusal has a number of the table
+pub number-range : (x : Rule) → (1 ≤ ruleNumber x) × (ruleNumber x ≤ 21)
+number-range R.TooLong = (omega arith, omega arith)
+number-range R.CutShort = (omega arith, omega arith)
+number-range R.WrongCodec = (omega arith, omega arith)
+number-range R.UnknownType = (omega arith, omega arith)
+number-range R.ZeroAmount = (omega arith, omega arith)
+number-range R.OutOfOrder = (omega arith, omega arith)
+number-range R.BadThreshold = (omega arith, omega arith)
+number-range R.BadLength = (omega arith, omega arith)
+number-range R.NotPrintable = (omega arith, omega arith)
+number-range R.BadDenomination = (omega arith, omega arith)
+number-range R.EmptyList = (omega arith, omega arith)
+number-range R.WrongCount = (omega arith, omega arith)
+number-range R.BytesAfterEnd = (omega arith, omega arith)
+number-range R.NoRoom = (omega arith, omega arith)
+number-range R.NoEntry = (omega arith, omega arith)
+number-range R.StepNotDue = (omega arith, omega arith)
+number-range R.FirstNotAccepted = (omega arith, omega arith)
+number-range R.SecondNotAccepted = (omega arith, omega arith)
+number-range R.DraftsDiffer = (omega arith, omega arith)
+number-range R.Conflict = (omega arith, omega arith)
+number-range R.NotASignature = (omega arith, omega arith)
+
+pub ruled-range : (x : Rule) → Ruled x → (2 ≤ ruleNumber x) × (ruleNumber x ≤ 12)
+ruled-range x (r, e) = rw e (range r)
   where
-    range : (r : Rule) → (2 ≤ ruleNumber r) × (ruleNumber r ≤ 12)
+    range : (r : ReadingRule) → (2 ≤ ruleNumber (ruleOf r)) × (ruleNumber (ruleOf r) ≤ 12)
     range cutShort = (omega arith, omega arith)
     range wrongCodec = (omega arith, omega arith)
     range unknownType = (omega arith, omega arith)

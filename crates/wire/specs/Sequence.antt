@@ -11,7 +11,7 @@ use lib.Dec.{eqb}
 use borrow.Author.Tests.{eqb-true}
 use Rattle.wire.specs.declared.Refusal.{Refusal}
 use Rattle.wire.specs.Bytes.{Bytes, bytes-append, drop-step, pick}
-use Rattle.wire.specs.Numbers.{Rule, by}
+use Rattle.wire.specs.Numbers.{ReadingRule, by}
 use Rattle.wire.specs.Format.{Format, took, refused, Stands, onResult, moved, run-inv, run-same, run-stable, run-ruled, run-placed, pick-inv, pick-same, pick-ruled, pick-placed, stands-append, took-refused}
 
 -- ---- a format behind another, which may depend on the first one's value
@@ -62,7 +62,7 @@ module _ {A : Type 0} {B : A → Type 0} (F : Format A) (G : (a : A) → Format 
 
 -- ---- a rule on the value, judged when it is wholly read; a value that breaks it is refused at a place that its start and itself tell
 
-module _ {A : Type 0} (F : Format A) (ok : A → Bool) (x : Rule) (place : ℕ → A → ℕ) where
+module _ {A : Type 0} (F : Format A) (ok : A → Bool) (x : ReadingRule) (place : ℕ → A → ℕ) where
   abbrev pub guardRun : {R : Type 0} → List ℕ → ℕ → (Refusal → R) → (A → ℕ → R) → R
   guardRun s at stop go = F .run s at stop λ a m. pick (ok a) (go a m) (stop (by x (place at a)))
 
@@ -98,7 +98,7 @@ module _ {A : Type 0} (F : Format A) (ok : A → Bool) (x : Rule) (place : ℕ �
         }
 
 -- the usual place: where the value starts
-unfoldable pub guard : {A : Type 0} → Format A → (A → Bool) → Rule → Format A
+unfoldable pub guard : {A : Type 0} → Format A → (A → Bool) → ReadingRule → Format A
 unfolding guardAt
 guard F ok x = guardAt F ok x (λ at a. at) (λ at a h. omega arith)
 
@@ -208,7 +208,7 @@ module _ {K : Type 0} (code : K → ℕ) where
         turn true p q i = let e = eqb-true n (code k) p in ap code (ap kind e ∙ back k) ∙ sym e
         turn false p q i = i q
 
-    module _ (N : Format ℕ) (ks : List K) (x : Rule) where
+    module _ (N : Format ℕ) (ks : List K) (x : ReadingRule) where
       abbrev pub tagRun : {R : Type 0} → List ℕ → ℕ → (Refusal → R) → (K → ℕ → R) → R
       tagRun s at stop go = N .run s at stop λ n m. find ks n (λ k. go k m) (stop (by x at))
 

@@ -8,7 +8,7 @@ use mathlib.Core.List.{List, [], _∷_, _++_, append-assoc, append-nil}
 use lib.ListN.{length, drop, length-append}
 use Rattle.wire.specs.declared.Refusal.{Refusal}
 use Rattle.wire.specs.Bytes.{Bytes, bytes-append, drop-step, below}
-use Rattle.wire.specs.Numbers.{Ruled, outOfOrder}
+use Rattle.wire.specs.Numbers.{ruleOf, Ruled, cutShort, outOfOrder}
 use Rattle.wire.specs.Format.{Format, Result, took, refused, Stands, onResult, moved, result-inv, result-same, result-stable, result-ruled, result-placed, run-inv, run-same, run-stable, run-ruled, run-placed, stands-append, stands-behind, took-refused}
 use Rattle.wire.specs.Sequence.{andThen, guard, named}
 
@@ -83,7 +83,8 @@ module _ {A S : Type 0} (P : S → Format A) (step : S → A → S) where
       let (r, q) = stands-behind s t at (listWrite st v) next h in
       list-complete n st (s ++ t) at v r refused took g q ∙ ap (took v) (sym (h .ends))
 
-  pub list-stable : (n : ℕ) (st : S) (s t : List ℕ) (at : ℕ) (e : Refusal) → Bytes s → (e .number ≡ 2 → ⊥) → listRun n st s at refused took ≡ refused e
+  pub list-stable : (n : ℕ) (st : S) (s t : List ℕ) (at : ℕ) (e : Refusal) → Bytes s → (e .rule ≡ ruleOf cutShort → ⊥)
+      → listRun n st s at refused took ≡ refused e
       → listRun n st (s ++ t) at refused took ≡ refused e
   unfolding listRun
   list-stable zero st s t at e bs ne q = took-refused [] at e q
@@ -96,7 +97,7 @@ module _ {A S : Type 0} (P : S → Format A) (step : S → A → S) where
       (sym (list-same n (step st a) s m refused (λ l k. took (a ∷ l) k)) ∙ q))
       q
 
-  pub list-ruled : (n : ℕ) (st : S) (s : List ℕ) (at : ℕ) (e : Refusal) → listRun n st s at refused took ≡ refused e → Ruled (e .number)
+  pub list-ruled : (n : ℕ) (st : S) (s : List ℕ) (at : ℕ) (e : Refusal) → listRun n st s at refused took ≡ refused e → Ruled (e .rule)
   unfolding listRun
   list-ruled zero st s at e q = took-refused [] at e q
   list-ruled (suc n) st s at e q =

@@ -11,8 +11,8 @@ use lib.Dec.{leb, eqb}
 use borrow.Author.Tests.{leb-true, le-leb, eqb-true, eqb-false, eq-eqb, ne-eqb}
 use Rattle.wire.specs.declared.Refusal.{Refusal}
 use Rattle.wire.specs.Bytes.{Bytes, pick}
-use Rattle.wire.specs.Numbers.{refusal, tooLong, bytesAfterEnd, ruled-range}
-use Rattle.wire.specs.Format.{Format, Result, took, refused, onResult, read, moved, run-inv, run-same, run-stable, run-placed, pick-inv, pick-same, pick-placed, stands-inside, refused-number, refused-placed, took-refused}
+use Rattle.wire.specs.Numbers.{ruleNumber, refusal, numberOf, ruleOf, cutShort, tooLong, bytesAfterEnd, ruled-range}
+use Rattle.wire.specs.Format.{Format, Result, took, refused, onResult, read, moved, run-inv, run-same, run-stable, run-placed, pick-inv, pick-same, pick-placed, stands-inside, refused-rule, refused-placed, took-refused}
 
 module _ {A : Type 0} (F : Format A) (most : ℕ) where
   abbrev pub whole : {R : Type 0} → List ℕ → (Refusal → R) → (A → ℕ → R) → R
@@ -53,7 +53,7 @@ module _ {A : Type 0} (F : Format A) (most : ℕ) where
       fits false = refl
 
   -- a refusal other than 2 is kept when bytes are added behind, as long as there are not too many
-  pub whole-stable : (s t : List ℕ) (e : Refusal) → Bytes s → (e .number ≡ 2 → ⊥) → length (s ++ t) ≤ most → whole s refused took ≡ refused e
+  pub whole-stable : (s t : List ℕ) (e : Refusal) → Bytes s → (e .rule ≡ ruleOf cutShort → ⊥) → length (s ++ t) ≤ most → whole s refused took ≡ refused e
       → whole (s ++ t) refused took ≡ refused e
   whole-stable s t e bs ne h q =
       let few : length s ≤ most = omega (arith, length-append s t) in
@@ -68,25 +68,25 @@ module _ {A : Type 0} (F : Format A) (most : ℕ) where
       behind v n false q l r = rw (ne-eqb n (length (s ++ t)) (λ z. eqb-false n (length s) q (omega (arith, length-append s t)))) (rw q at r)
 
   -- refused by a number of the table, 1 to 13
-  pub whole-ruled : (s : List ℕ) (e : Refusal) → whole s refused took ≡ refused e → (1 ≤ e .number) × (e .number ≤ 13)
+  pub whole-ruled : (s : List ℕ) (e : Refusal) → whole s refused took ≡ refused e → (1 ≤ numberOf e) × (numberOf e ≤ 13)
   whole-ruled s e = fits (leb (length s) most)
     where
-      behind : (v : A) (n : ℕ) (b : Bool) → pick b (took v n) (refused (refusal bytesAfterEnd n)) ≡ refused e → (1 ≤ e .number) × (e .number ≤ 13)
+      behind : (v : A) (n : ℕ) (b : Bool) → pick b (took v n) (refused (refusal bytesAfterEnd n)) ≡ refused e → (1 ≤ numberOf e) × (numberOf e ≤ 13)
       behind v n true q = took-refused v n e q
-      behind v n false q = let z = refused-number {A = A} (refusal bytesAfterEnd n) e q in (omega arith, omega arith)
+      behind v n false q = let z = ap ruleNumber (refused-rule {A = A} (refusal bytesAfterEnd n) e q) in (omega arith, omega arith)
 
       inside : (o : Result A) → read F s 0 ≡ o → onResult o refused (λ v n. pick (eqb n (length s)) (took v n) (refused (refusal bytesAfterEnd n))) ≡ refused e
-          → (1 ≤ e .number) × (e .number ≤ 13)
+          → (1 ≤ numberOf e) × (numberOf e ≤ 13)
       inside (took v n) r q = behind v n (eqb n (length s)) q
       inside (refused d) r q =
-          let z = refused-number {A = A} d e q in
-          let (a, b) = ruled-range (d .number) (F .ruled s 0 d r) in
+          let z = ap ruleNumber (refused-rule {A = A} d e q) in
+          let (a, b) = ruled-range (d .rule) (F .ruled s 0 d r) in
           (omega arith, omega arith)
 
       fits : (b : Bool) → pick b (F .run s 0 refused (λ v n. pick (eqb n (length s)) (took v n) (refused (refusal bytesAfterEnd n)))) (refused (refusal tooLong 0)) ≡ refused e
-          → (1 ≤ e .number) × (e .number ≤ 13)
+          → (1 ≤ numberOf e) × (numberOf e ≤ 13)
       fits true q = inside (read F s 0) refl (sym (F .same s 0 refused _) ∙ q)
-      fits false q = let z = refused-number {A = A} (refusal tooLong 0) e q in (omega arith, omega arith)
+      fits false q = let z = ap ruleNumber (refused-rule {A = A} (refusal tooLong 0) e q) in (omega arith, omega arith)
 
   -- refused at a place inside the bytes, or at their end
   pub whole-placed : (s : List ℕ) (e : Refusal) → Bytes s → whole s refused took ≡ refused e → e .place ≤ length s

@@ -1,21 +1,44 @@
 // Fields of a byte string at a place: a part of some width, a big-endian number, an identifier or an address handed over whole; the order of byte
 // strings; numbers and bytes put into a buffer.
 ghost use mathlib.Core.Path.{_≡_};
-ghost use Prim.Native.Nat.{_-_, _%_, _^_, _≤_, _<_};
+ghost use Prim.Native.Nat.{_-_, _%_, _^_, _≤_, _<_, min};
 ghost use mathlib.Core.List.{_++_};
 ghost use lib.ListN.{length, take, drop};
 ghost use lib.Dec.{leb};
 ghost use Rattle.wire.specs.Bytes.{part, value, digits, below};
-ghost use Rattle.wire.specs.Numbers.{cutAt};
+ghost use Rattle.wire.specs.Numbers.{ruleNumber, refusal, cutAt};
 ghost use Rattle.wire.specs.Fields.{blob, number};
 ghost use Rattle.wire.specs.Order.{order, keyBelow};
 ghost use Rattle.wire.specs.Answer.{ended, valued, wholeAt};
 
-pub mod numbers;
+// The rules by which the desk refuses, in the order of its table.
+pub enum Rule {
+    TooLong,
+    CutShort,
+    WrongCodec,
+    UnknownType,
+    ZeroAmount,
+    OutOfOrder,
+    BadThreshold,
+    BadLength,
+    NotPrintable,
+    BadDenomination,
+    EmptyList,
+    WrongCount,
+    BytesAfterEnd,
+    NoRoom,
+    NoEntry,
+    StepNotDue,
+    FirstNotAccepted,
+    SecondNotAccepted,
+    DraftsDiffer,
+    Conflict,
+    NotASignature,
+}
 
-// Why a reading ends: the number of the rule, and the place.
+// Why a reading or a request ends: the rule that is broken, and the place.
 pub struct Refusal {
-    pub number: u32,
+    pub rule: Rule,
     pub place: usize,
 }
 
@@ -38,14 +61,55 @@ pub enum Order {
     Above,
 }
 
+// The number of a rule in the desk's table.
+pub fn number_of(rule: Rule) -> u32
+    ensures { λ r. ⌜ r ≡ ruleNumber rule ⌝ }
+{
+    match rule {
+        Rule::TooLong => 1,
+        Rule::CutShort => 2,
+        Rule::WrongCodec => 3,
+        Rule::UnknownType => 4,
+        Rule::ZeroAmount => 5,
+        Rule::OutOfOrder => 6,
+        Rule::BadThreshold => 7,
+        Rule::BadLength => 8,
+        Rule::NotPrintable => 9,
+        Rule::BadDenomination => 10,
+        Rule::EmptyList => 11,
+        Rule::WrongCount => 12,
+        Rule::BytesAfterEnd => 13,
+        Rule::NoRoom => 14,
+        Rule::NoEntry => 15,
+        Rule::StepNotDue => 16,
+        Rule::FirstNotAccepted => 17,
+        Rule::SecondNotAccepted => 18,
+        Rule::DraftsDiffer => 19,
+        Rule::Conflict => 20,
+        Rule::NotASignature => 21,
+    }
+}
+
+// Every refusal is made here, so that each names a rule of the table.
+pub fn refuse(rule: Rule, place: usize) -> Refusal
+    ensures { λ r. ⌜ r ≡ refusal rule place ⌝ }
+{
+    Refusal { rule, place }
+}
+
+// The same rule at place 0, for what has no place in the bytes.
+pub fn without_place(refused: Refusal) -> Refusal
+    ensures { λ r. ⌜ r ≡ refusal (refused .rule) 0 ⌝ }
+{
+    let rule = refused.rule;
+    refuse(rule, 0)
+}
+
 // Cut short: of the width bytes from at, not all are there.
 pub fn cut(s: &[u8], at: usize, width: usize) -> Refusal
     ensures { λ r. ⌜ r ≡ cutAt width (now (s .entry)) at ⌝ }
 {
-    Refusal {
-        number: numbers::CUT_SHORT,
-        place: at,
-    }
+    refuse(Rule::CutShort, at)
 }
 
 // Are there width bytes from at on? Where width is 0 there are, at any place. The width is compared with all bytes first: the compiler knows it,
@@ -200,15 +264,22 @@ pub fn order_of(a: &[u8], b: &[u8]) -> Order
     Order::Equal
 }
 
-// Is a strictly below b? Of the bytes that are equal one test is made, not two: parts of the input can be long, and are told apart late.
+fn shorter(a: usize, b: usize) -> usize
+    ensures { λ r. ⌜ r ≡ min a b ⌝ }
+{
+    if a <= b {
+        return a;
+    }
+    b
+}
+
+// Is a strictly below b? Parts of the input can be long and differ late, so an equal byte costs one comparison, of bytes both are known to have.
 pub fn is_below(a: &[u8], b: &[u8]) -> bool
     ensures { λ r. ⌜ r ≡ below (now (a .entry)) (now (b .entry)) ⌝ }
 {
+    let most = shorter(a.len(), b.len());
     let mut i: usize = 0;
-    while i < a.len() {
-        if b.len() <= i {
-            return false;
-        }
+    while i < most {
         if a[i] != b[i] {
             return a[i] < b[i];
         }

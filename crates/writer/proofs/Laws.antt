@@ -27,7 +27,7 @@ pub answered-keeps : (P : Writer → List ℕ → Type 1) (v : Verdict) (w : Wri
     → P (answered v w s w′ s′ .step .next) (answered v w s w′ s′ .buffer)
 unfolding answered
 answered-keeps P J.Fine w s w′ s′ h k = k refl
-answered-keeps P (J.Refuse n) w s w′ s′ h k = h
+answered-keeps P (J.Refuse d) w s w′ s′ h k = h
 
 -- ---- a test the other way round
 

@@ -1,177 +1,114 @@
 -- A step by the name of a part is the step that the plan has there. Assumes nothing.
-use Prim.Native.Nat.{ℕ, suc, _+_, _≤_}
-use mathlib.Core.Path.{_≡_, refl, sym, ap, ap₂, _∙_, subst}
-use mathlib.Core.Bool.{Bool, true, false, false≢true}
+use Prim.Native.Nat.{ℕ, _+_, _≤_}
+use mathlib.Core.Path.{_≡_, refl, sym, ap, _∙_}
+use mathlib.Core.Bool.{Bool, true, false, _&&_, false≢true}
 use mathlib.Core.List.{List}
 use native.Mathlib.Omega.{arith}
 use lib.ListN.{length}
-use lib.Dec.{leb}
-use Rattle.wire.specs.Bytes.{pick}
-use Rattle.wire.specs.Numbers.{noRoom, stepNotDue}
+use Rattle.wire.specs.declared.Refusal.{Refusal}
 use Rattle.transaction.specs.Signed.{mostBytes}
-use Rattle.transaction.specs.Plan.{Plan, shut, end, field, many, Elements}
+use Rattle.transaction.specs.Plan.{contentOf, elementsOf, Plan, shut, end, field, many, planOf}
 use Rattle.transaction.specs.Avm.{avm}
-use Rattle.transaction.specs.Answer.{memoMost}
-use Rattle.transaction.specs.declared.Segment.{Segment}
+use Rattle.transaction.specs.declared.FieldName.{FieldName}
+use Rattle.transaction.specs.declared.ListName.{ListName}
 use Rattle.judge.specs.declared.Verdict.{Verdict}
 use Rattle.judge.specs.declared.Verdict.the-variants as J
 use Rattle.judge.specs.Given.{Given, given}
-use Rattle.judge.specs.Judged.{judged, onFine}
-use Rattle.judge.proofs.Verdicts.{not-fine}
-use Rattle.due.specs.Plans.{due, planOf, dueOf, isList, isField, isOpen}
-use Rattle.due.proofs.Rows.{Live, due-next}
+use Rattle.judge.specs.Judged.{judged}
+use Rattle.judge.proofs.Verdicts.{both-true}
+use Rattle.due.specs.declared.Due.{Due}
+use Rattle.due.specs.declared.Due.the-variants as D
+use Rattle.due.specs.Plans.{tail, due, dueOf, isList, isField, isOpen, Live}
+use Rattle.due.proofs.Rows.{due-next, phase-small}
 use Rattle.buffer.specs.Stores.{roomFor}
 use Rattle.buffer.proofs.Stores.{room-inv}
 use Rattle.writer.specs.declared.Writer.{Writer}
 use Rattle.writer.specs.declared.Step.{Step}
-use Rattle.writer.specs.Steps.{Turn, answered, guarded, guardedIn, prev, sane, grown, appended, putAt, put}
-use Rattle.writer.specs.Code.{after, refusedStep, fieldStep, elementStep, dueAt, namedField, namedElement}
-use Rattle.writer.proofs.Fitting.{fieldOf, isListName, Elementary, Proper, due-proper, same-segment, field-put, field-not, list-not, element-here}
+use Rattle.writer.specs.Steps.{answered, prev, sane, grown, appended, putField, putElement}
+use Rattle.writer.specs.Code.{after, refusedStep, dueAt, enteredIn, partStep, opensNext, elementStep}
+use Rattle.writer.proofs.Laws.{guarded-inv}
+use Rattle.writer.proofs.Fitting.{field-barred, field-put, element-barred, element-put}
 
--- ---- as the code does it
+-- ---- the part behind the one that is due
 
-module _ (w : Writer) (s : List ℕ) (l : Segment) (rules : Verdict) (ys : List ℕ) (t : Bool) where
-  pub no-field : t ≡ isField l (dueAt w) → t ≡ false → (r : Step) → r ≡ refusedStep w stepNotDue → after r s ≡ namedField w s l rules ys
-  unfolding answered
-  no-field p q r h = rw (sym p ∙ q) (ap (λ (x : Step). after x s) h)
+module _ (t : Due → Bool) (none : t D.Nothing ≡ false) where
+  live : (q : Plan) → t (dueOf q) ≡ true → Live q
+  live shut e = false≢true (sym none ∙ e)
+  live end e = tt
+  live (field h q) e = tt
+  live (many l least q) e = tt
 
-  pub field-named : t ≡ isField l (dueAt w) → t ≡ true → (opens : Bool) → opens ≡ isList (dueOf (due (w .phase + 1) (planOf (avm memoMost) (w .kind)))) → (v : Verdict) → v ≡ guardedIn true w (length s) rules
-      → (r : Step) (u : List ℕ) → after r u ≡ fieldStep w s v ys opens (w .phase + 1) → after r u ≡ namedField w s l rules ys
-  field-named p q opens o v hv r u h =
-      let k : w .phase + 1 ≡ suc (w .phase) = omega arith in
-      rw (sym p ∙ q) (h ∙ ap₂ (λ (x : Verdict) (b : Bool). fieldStep w s x ys b (w .phase + 1)) hv o
-      ∙ ap (λ (i : ℕ). fieldStep w s (guarded true w s rules) ys (isList (dueOf (due i (planOf (avm memoMost) (w .kind))))) i) k)
+  pub next-opens : (w : Writer) → t (dueAt w) ≡ true → opensNext w ≡ isList (dueOf (tail (due (w .phase) (planOf (w .kind)))))
+  next-opens w e =
+      let P : Plan = planOf (w .kind) in
+      let q : Plan = due (w .phase) P in
+      ap (λ (z : Plan). isList (dueOf z)) (due-next (w .phase) P q (live q e) refl)
 
-  pub no-list : t ≡ isOpen l (dueAt w) → t ≡ false → (r : Step) → r ≡ refusedStep w stepNotDue → after r s ≡ namedElement w s l rules ys
-  unfolding answered
-  no-list p q r h = rw (sym p ∙ q) (ap (λ (x : Step). after x s) h)
-
-  pub not-sane : t ≡ isOpen l (dueAt w) → t ≡ true → (b : Bool) → b ≡ sane w → b ≡ false → (r : Step) → r ≡ refusedStep w stepNotDue → after r s ≡ namedElement w s l rules ys
-  unfolding answered
-  not-sane p q b hb k r h = rw (sym p ∙ q, sym hb ∙ k) (ap (λ (x : Step). after x s) h)
-
-  pub element-named : t ≡ isOpen l (dueAt w) → t ≡ true → (b : Bool) → b ≡ sane w → (v : Verdict) → v ≡ guardedIn b w (length s) rules
-      → (r : Step) (u : List ℕ) → after r u ≡ elementStep w s v ys → after r u ≡ namedElement w s l rules ys
-  element-named p q b hb v hv r u h = rw (sym p ∙ q) (h ∙ ap (λ (x : Verdict). elementStep w s x ys) (hv ∙ ap (λ (c : Bool). guardedIn c w (length s) rules) hb))
-
--- ---- as the plan has it
-
-live-field : (l : Segment) (q : Plan) → isField l (dueOf q) ≡ true → Live q
-live-field l shut e = false≢true e
-live-field l end e = tt
-live-field l (field m C q) e = tt
-live-field l (many m E q) e = tt
-
-pub put-named : (w : Writer) (s : List ℕ) (l : Segment) (ys : List ℕ) (rules : Verdict) → isListName l ≡ false → judged (fieldOf l .content) (given ys) J.Fine ≡ rules
-    → namedField w s l rules ys ≡ put (avm memoMost) w s l (given ys)
-unfolding put
-put-named w s l ys rules n j = go (isField l (dueAt w)) refl
-  where
-    go : (b : Bool) → isField l (dueOf (due (w .phase) (planOf (avm memoMost) (w .kind)))) ≡ b
-        → pick b (fieldStep w s (guarded true w s rules) ys (isList (dueOf (due (suc (w .phase)) (planOf (avm memoMost) (w .kind))))) (suc (w .phase))) (answered (J.Refuse stepNotDue) w s w s)
-        ≡ putAt (due (w .phase) (planOf (avm memoMost) (w .kind))) w s l (given ys)
-    go true e =
-        field-put w s l ys rules _ (suc (w .phase)) j refl (due (w .phase) (planOf (avm memoMost) (w .kind))) (due-proper (w .phase) (w .kind)) e
-        (ap (λ (q : Plan). isList (dueOf q)) (due-next (w .phase) (planOf (avm memoMost) (w .kind)) (due (w .phase) (planOf (avm memoMost) (w .kind))) (live-field l (due (w .phase) (planOf (avm memoMost) (w .kind))) e) refl))
-    go false e = field-not w s l (given ys) n (due (w .phase) (planOf (avm memoMost) (w .kind))) (due-proper (w .phase) (w .kind)) e
-
--- a field that is refused
-abbrev refusedBy : Verdict → Writer → List ℕ → List ℕ → Bool → Turn
-refusedBy v w s ys opens = fieldStep w s v ys opens (suc (w .phase))
+-- ---- fields
 
 -- where the rules refuse, the bytes do not matter
-named-bytes : (w : Writer) (s : List ℕ) (l : Segment) (rules : Verdict) (ys zs : List ℕ) → (rules ≡ J.Fine → ys ≡ zs) → namedField w s l rules ys ≡ namedField w s l rules zs
+part-bytes : (w : Writer) (s : List ℕ) (opens : Bool) (rules : Verdict) (ys zs : List ℕ) → (rules ≡ J.Fine → ys ≡ zs)
+    → partStep w s rules ys opens ≡ partStep w s rules zs opens
 unfolding answered
-named-bytes w s l J.Fine ys zs e = ap (namedField w s l J.Fine) (e refl)
-named-bytes w s l (J.Refuse n) ys zs e = go (isField l (dueAt w)) (leb (w .at) (length s))
-  where
-    go : (b c : Bool) → pick b (refusedBy (pick c (J.Refuse n) (J.Refuse noRoom)) w s ys (isList (dueOf (due (suc (w .phase)) (planOf (avm memoMost) (w .kind)))))) (answered (J.Refuse stepNotDue) w s w s)
-        ≡ pick b (refusedBy (pick c (J.Refuse n) (J.Refuse noRoom)) w s zs (isList (dueOf (due (suc (w .phase)) (planOf (avm memoMost) (w .kind)))))) (answered (J.Refuse stepNotDue) w s w s)
-    go true true = refl
-    go true false = refl
-    go false c = refl
+part-bytes w s opens J.Fine ys zs e = ap (λ (x : List ℕ). partStep w s J.Fine x opens) (e refl)
+part-bytes w s opens (J.Refuse d) ys zs e = refl
 
--- a field by its name, from the bytes that the code has made of it
-module _ (w : Writer) (s : List ℕ) (l : Segment) (ys zs : List ℕ) (rules : Verdict) where
-  pub field-is : isListName l ≡ false → judged (fieldOf l .content) (given ys) J.Fine ≡ rules → (rules ≡ J.Fine → zs ≡ ys) → (x : Verdict) → x ≡ rules → (r : Step) (u : List ℕ)
-      → after r u ≡ namedField w s l x zs → after r u ≡ put (avm memoMost) w s l (given ys)
-  field-is n j e x hx r u h = h ∙ ap (λ (v : Verdict). namedField w s l v zs) hx ∙ named-bytes w s l rules zs ys e ∙ put-named w s l ys rules n j
+module _ (w : Writer) (s : List ℕ) (f : FieldName) (v : Verdict) (hv : v ≡ enteredIn (isField f (dueAt w)) w (length s)) where
+  pub field-not : (most : ℕ) (d : Refusal) → v ≡ J.Refuse d → (r : Step) → r ≡ refusedStep w d → (g : Given) → after r s ≡ putField (avm most) w s f g
+  unfolding putField
+  field-not most d e r h g = field-barred most w s f d r h g (due (w .phase) (planOf (w .kind))) (sym hv ∙ e)
+
+  module _ (fine : v ≡ J.Fine) where
+    field-due : isField f (dueAt w) ≡ true
+    field-due = guarded-inv (isField f (dueAt w)) w s J.Fine (sym hv ∙ fine) .0
+
+    pub field-small : w .phase ≤ 8
+    field-small = phase-small (w .kind) (w .phase) (isField f) refl field-due
+
+    -- the code has made zs of it
+    pub field-is : (most : ℕ) (ys zs : List ℕ) (rules : Verdict) → judged (contentOf most f) (given ys) J.Fine ≡ rules → (rules ≡ J.Fine → zs ≡ ys)
+        → (x : Verdict) → x ≡ rules → (r : Step) (u : List ℕ) → after r u ≡ partStep w s x zs (opensNext w)
+        → after r u ≡ putField (avm most) w s f (given ys)
+    unfolding putField
+    field-is most ys zs rules j e x hx r u h =
+        h ∙ ap (λ (y : Verdict). partStep w s y zs (opensNext w)) hx ∙ part-bytes w s (opensNext w) rules zs ys e
+        ∙ field-put most w s f ys rules (opensNext w) j (guarded-inv (isField f (dueAt w)) w s J.Fine (sym hv ∙ fine) .1)
+        (due (w .phase) (planOf (w .kind))) field-due (next-opens (isField f) refl w field-due)
 
 -- ---- elements
 
-module _ (w : Writer) (s : List ℕ) (l : Segment) (g : Given) (rules : Verdict) where
-  element-at : ((E : Elements) → Elementary l E → judged (E .element (prev w s)) g J.Fine ≡ rules) → (q : Plan) → Proper q → isOpen l (dueOf q) ≡ true
-      → elementStep w s (guarded (sane w) w s rules) (g .bytes) ≡ putAt q w s l g
-  element-at j shut h e = absurd (false≢true e)
-  element-at j end h e = absurd (false≢true e)
-  element-at j (field m C q) h e = absurd (false≢true e)
-  element-at j (many m E q) (_, el, _) e =
-      ap (λ (v : Verdict). elementStep w s (guarded (sane w) w s v) (g .bytes)) (sym (j E (subst (λ (k : Segment). Elementary k E) (same-segment l m e) el))) ∙ element-here w s l g m E q e
-
-  pub put-element-named : isListName l ≡ true → ((E : Elements) → Elementary l E → judged (E .element (prev w s)) g J.Fine ≡ rules) → namedElement w s l rules (g .bytes) ≡ put (avm memoMost) w s l g
-  unfolding put
-  put-element-named n j = go (isOpen l (dueAt w)) refl
-    where
-      go : (b : Bool) → isOpen l (dueOf (due (w .phase) (planOf (avm memoMost) (w .kind)))) ≡ b
-          → pick b (elementStep w s (guarded (sane w) w s rules) (g .bytes)) (answered (J.Refuse stepNotDue) w s w s) ≡ putAt (due (w .phase) (planOf (avm memoMost) (w .kind))) w s l g
-      go true e = element-at j (due (w .phase) (planOf (avm memoMost) (w .kind))) (due-proper (w .phase) (w .kind)) e
-      go false e = list-not w s l g n (due (w .phase) (planOf (avm memoMost) (w .kind))) (due-proper (w .phase) (w .kind)) e
-
--- a refusal leaves nothing of what would be written
-refused-same : (v : Verdict) → (v ≡ J.Fine → ⊥) → (w : Writer) (s : List ℕ) (a : Writer) (b : List ℕ) (c : Writer) (d : List ℕ) → answered v w s a b ≡ answered v w s c d
-unfolding answered
-refused-same J.Fine n w s a b c d = absurd (n refl)
-refused-same (J.Refuse k) n w s a b c d = refl
-
 -- the bytes of an element matter only where its rules hold and it is not longer than a transaction
-module _ (w : Writer) (s : List ℕ) (l : Segment) (ys zs : List ℕ) where
-  bars : Verdict → List ℕ → Verdict
-  bars rules xs = onFine (guarded (sane w) w s rules) (roomFor (w .at + length xs) s)
+element-bytes : (w : Writer) (s ys zs : List ℕ) (rules : Verdict) → (rules ≡ J.Fine → length ys ≡ length zs)
+    → (rules ≡ J.Fine → length ys ≤ mostBytes → ys ≡ zs) → elementStep w s rules ys ≡ elementStep w s rules zs
+unfolding answered
+element-bytes w s ys zs (J.Refuse d) long e = refl
+element-bytes w s ys zs J.Fine long e = go (roomFor (w .at + length ys) s) refl
+  where
+    go : (v : Verdict) → roomFor (w .at + length ys) s ≡ v → elementStep w s J.Fine ys ≡ elementStep w s J.Fine zs
+    go J.Fine f = ap (elementStep w s J.Fine) (e refl (omega (arith, room-inv (w .at + length ys) s f .1)))
+    go (J.Refuse d) f =
+        let k : roomFor (w .at + length zs) s ≡ J.Refuse d = ap (λ (i : ℕ). roomFor (w .at + i) s) (sym (long refl)) ∙ f in
+        ap (λ (v : Verdict). answered v w s (grown w (length ys)) (appended w s ys)) f
+        ∙ ap (λ (v : Verdict). answered v w s (grown w (length zs)) (appended w s zs)) (sym k)
 
-  not-fine-rules : (rules : Verdict) (xs : List ℕ) → bars rules xs ≡ J.Fine → rules ≡ J.Fine
-  unfolding bars
-  not-fine-rules rules xs = go (sane w) (leb (w .at) (length s)) rules
-    where
-      go : (a b : Bool) (rules : Verdict) → onFine (pick a (pick b rules (J.Refuse noRoom)) (J.Refuse stepNotDue)) (roomFor (w .at + length xs) s) ≡ J.Fine → rules ≡ J.Fine
-      go true true J.Fine e = refl
-      go true true (J.Refuse n) e = not-fine n e
-      go true false rules e = not-fine noRoom e
-      go false b rules e = not-fine stepNotDue e
+module _ (w : Writer) (s : List ℕ) (l : ListName) (v : Verdict) (hv : v ≡ enteredIn (isOpen l (dueAt w) && sane w) w (length s)) where
+  pub element-not : (most : ℕ) (d : Refusal) → v ≡ J.Refuse d → (r : Step) → r ≡ refusedStep w d → (g : Given) → after r s ≡ putElement (avm most) w s l g
+  unfolding putElement
+  element-not most d e r h g = element-barred w s l g d r h (due (w .phase) (planOf (w .kind))) (sym hv ∙ e)
 
-  not-fine-room : (rules : Verdict) (xs : List ℕ) → bars rules xs ≡ J.Fine → w .at + length xs ≤ mostBytes
-  unfolding bars
-  not-fine-room rules xs = go (sane w) (leb (w .at) (length s)) rules
-    where
-      go : (a b : Bool) (rules : Verdict) → onFine (pick a (pick b rules (J.Refuse noRoom)) (J.Refuse stepNotDue)) (roomFor (w .at + length xs) s) ≡ J.Fine → w .at + length xs ≤ mostBytes
-      go true true J.Fine e = room-inv (w .at + length xs) s e .1
-      go true true (J.Refuse n) e = not-fine n e
-      go true false rules e = not-fine noRoom e
-      go false b rules e = not-fine stepNotDue e
+  module _ (fine : v ≡ J.Fine) where
+    element-due : (isOpen l (dueAt w) && sane w) ≡ true
+    element-due = guarded-inv (isOpen l (dueAt w) && sane w) w s J.Fine (sym hv ∙ fine) .0
 
-  pub element-bytes : (rules : Verdict) → length ys ≡ length zs → (rules ≡ J.Fine → length ys ≤ mostBytes → ys ≡ zs) → namedElement w s l rules ys ≡ namedElement w s l rules zs
-  unfolding bars
-  element-bytes rules long e = ap (λ (t : Turn). pick (isOpen l (dueAt w)) t (answered (J.Refuse stepNotDue) w s w s)) (go (bars rules ys) refl)
-    where
-      same : bars rules ys ≡ bars rules zs
-      same = ap (λ (n : ℕ). onFine (guarded (sane w) w s rules) (roomFor (w .at + n) s)) long
+    pub element-sane : sane w ≡ true
+    element-sane = both-true (isOpen l (dueAt w)) (sane w) element-due .1
 
-      go : (v : Verdict) → bars rules ys ≡ v → answered (bars rules ys) w s (grown w (length ys)) (appended w s ys) ≡ answered (bars rules zs) w s (grown w (length zs)) (appended w s zs)
-      go J.Fine f =
-          let i : ys ≡ zs = e (not-fine-rules rules ys f) (omega (arith, not-fine-room rules ys f)) in
-          ap (λ (x : List ℕ). answered (bars rules x) w s (grown w (length x)) (appended w s x)) i
-      go (J.Refuse n) f =
-          refused-same (bars rules ys) (λ g. not-fine n (sym f ∙ g)) w s (grown w (length ys)) (appended w s ys) (grown w (length zs)) (appended w s zs)
-          ∙ ap (λ (v : Verdict). answered v w s (grown w (length zs)) (appended w s zs)) same
-
-  pub refused-bytes : (rules : Verdict) (n : ℕ) → rules ≡ J.Refuse n → namedElement w s l rules ys ≡ namedElement w s l rules zs
-  unfolding bars
-  refused-bytes rules n e =
-      ap (λ (t : Turn). pick (isOpen l (dueAt w)) t (answered (J.Refuse stepNotDue) w s w s))
-      (refused-same (bars rules ys) (λ g. not-fine n (sym e ∙ not-fine-rules rules ys g)) w s (grown w (length ys)) (appended w s ys) (grown w (length zs)) (appended w s zs)
-      ∙ ap (λ (v : Verdict). answered v w s (grown w (length zs)) (appended w s zs)) (ap (λ (v : Verdict). bars v ys) e ∙ go (sane w) (leb (w .at) (length s)) ∙ ap (λ (v : Verdict). bars v zs) (sym e)))
-    where
-      go : (a b : Bool) → onFine (pick a (pick b (J.Refuse n) (J.Refuse noRoom)) (J.Refuse stepNotDue)) (roomFor (w .at + length ys) s)
-          ≡ onFine (pick a (pick b (J.Refuse n) (J.Refuse noRoom)) (J.Refuse stepNotDue)) (roomFor (w .at + length zs) s)
-      go true true = refl
-      go true false = refl
-      go false b = refl
+    -- the code has made zs of it
+    pub element-is : (most : ℕ) (g : Given) (zs : List ℕ) (rules : Verdict) → judged (elementsOf l .element (prev w s)) g J.Fine ≡ rules
+        → (rules ≡ J.Fine → length zs ≡ length (g .bytes)) → (rules ≡ J.Fine → length zs ≤ mostBytes → zs ≡ g .bytes)
+        → (x : Verdict) → x ≡ rules → (r : Step) (u : List ℕ) → after r u ≡ elementStep w s x zs → after r u ≡ putElement (avm most) w s l g
+    unfolding putElement
+    element-is most g zs rules j long e x hx r u h =
+        h ∙ ap (λ (y : Verdict). elementStep w s y zs) hx ∙ element-bytes w s zs (g .bytes) rules long e
+        ∙ element-put w s l g rules j (guarded-inv (isOpen l (dueAt w) && sane w) w s J.Fine (sym hv ∙ fine) .1)
+        (due (w .phase) (planOf (w .kind))) element-due

@@ -1,9 +1,10 @@
 -- From what a store answered to the step. Assumes nothing.
 use Prim.Native.Nat.{ℕ, _+_, _-_, _*_, _≤_, _<_}
-use mathlib.Core.Path.{_≡_, refl, sym, ap, ap₂, _∙_}
+use mathlib.Core.Path.{_≡_, refl, ap, ap₂, _∙_}
 use mathlib.Core.Bool.{Bool, true, false}
 use mathlib.Core.List.{List, [], _∷_, _++_, append-nil}
 use native.Mathlib.Omega.{arith}
+use native.Mathlib.Numerals.{add-one}
 use lib.ListN.{length, take, length-append}
 use lib.Dec.{leb, ltb}
 use borrow.Author.Tests.{leb-true, ltb-true}
@@ -12,26 +13,28 @@ use Rattle.wire.specs.declared.Refusal.{Refusal}
 use Rattle.wire.specs.declared.Part.{Part}
 use Rattle.wire.specs.declared.Part.the-variants as P
 use Rattle.transaction.specs.Signed.{mostBytes}
+use Rattle.transaction.specs.Plan.{planOf}
 use Rattle.judge.specs.declared.Verdict.{Verdict}
 use Rattle.judge.specs.declared.Verdict.the-variants as J
 use Rattle.judge.specs.Judged.{onFine}
 use Rattle.judge.specs.Elements.{numbersBytes}
 use Rattle.judge.proofs.Verdicts.{not-fine, both-true}
+use Rattle.due.specs.Plans.{due, dueOf, isList}
 use Rattle.buffer.specs.Stores.{roomFor, overwrite, countOf, withNumber, stored}
 use Rattle.buffer.proofs.Stores.{room-inv, length-overwrite, number-put, told-refused, told-next}
 use Rattle.writer.specs.declared.Writer.{Writer}
 use Rattle.writer.specs.declared.Step.{Step}
 use Rattle.writer.specs.Steps.{answered, sane, grown, appended}
-use Rattle.writer.specs.Code.{after, refusedStep, storedStep, settled, elementStep}
+use Rattle.writer.specs.Code.{after, refusedStep, storedStep, settled, partStep, opensNext, elementStep}
 
 -- ---- what a store answered
 
 pub rest-fine : (v u : Verdict) → onFine v u ≡ J.Fine → u ≡ J.Fine
 rest-fine J.Fine u e = e
-rest-fine (J.Refuse n) u e = not-fine n e
+rest-fine (J.Refuse d) u e = not-fine d e
 
 module _ (v : Verdict) (n : ℕ) (w : Writer) (s t : List ℕ) (x : Part) (u : List ℕ) (p : (x, u) ≡ stored v n s t) (w′ : Writer) (r : Step) where
-  pub store-refused : (t′ : List ℕ) (e : Refusal) → x ≡ P.Refused e → r ≡ refusedStep w (e .number) → after r u ≡ answered v w s w′ t′
+  pub store-refused : (t′ : List ℕ) (e : Refusal) → x ≡ P.Refused e → r ≡ refusedStep w e → after r u ≡ answered v w s w′ t′
   unfolding answered
   store-refused t′ e q h = let (i, j) = told-refused n s t x u v p e q in rw i (ap₂ after h j)
 
@@ -55,16 +58,18 @@ counts-long : (opens : Bool) → length (countOf opens) ≡ 4 * pick opens 1 0
 counts-long true = length-digits 4 0
 counts-long false = refl
 
-module _ (w : Writer) (s : List ℕ) (v : Verdict) (first second : List ℕ) (opens : Bool) (from : Writer) (k : ℕ) (hk : k ≡ pick opens 1 0) (x : Part) (u : List ℕ) where
+module _ (w : Writer) (s : List ℕ) (v : Verdict) (first second : List ℕ) (opens : Bool) (from : Writer) (k : ℕ) (hk : k ≡ pick opens 1 0)
+    (x : Part) (u : List ℕ) where
   abbrev fieldOf : List ℕ → Part × List ℕ
   fieldOf c =
-      stored (onFine v (roomFor (from .at + length ((first ++ second) ++ c)) s)) (from .at + length ((first ++ second) ++ c)) s (overwrite s (from .at) ((first ++ second) ++ c))
+      stored (onFine v (roomFor (from .at + length ((first ++ second) ++ c)) s))
+      (from .at + length ((first ++ second) ++ c)) s (overwrite s (from .at) ((first ++ second) ++ c))
 
   module _ (p : (x, u) ≡ fieldOf (numbersBytes (take k (0 ∷ [])))) where
     stores : (x, u) ≡ fieldOf (countOf opens)
     stores = p ∙ ap (λ (i : ℕ). fieldOf (numbersBytes (take i (0 ∷ [])))) hk ∙ ap fieldOf (counts-bytes opens)
 
-    pub settle-refused : (e : Refusal) → x ≡ P.Refused e → (r : Step) → r ≡ refusedStep w (e .number) → after r u ≡ settled w s v (first ++ second) opens from
+    pub settle-refused : (e : Refusal) → x ≡ P.Refused e → (r : Step) → r ≡ refusedStep w e → after r u ≡ settled w s v (first ++ second) opens from
     settle-refused e q r h = store-refused _ _ w s _ x u stores _ r _ e q h
 
     -- the count is behind the field, and four bytes long
@@ -73,15 +78,28 @@ module _ (w : Writer) (s : List ℕ) (v : Verdict) (first second : List ℕ) (op
         let (_, i, _) = told-next _ s _ x u _ stores m q in
         omega (arith, i, length-append (first ++ second) (countOf opens), counts-long opens, hk)
 
-    pub settle-done : (m : ℕ) → x ≡ P.Next m → (r : Step) → r ≡ storedStep record { kind = from .kind; phase = from .phase; at = m; list = m - 4 * k; count = 0; last = 0 }
+    pub settle-done : (m : ℕ) → x ≡ P.Next m → (r : Step)
+        → r ≡ storedStep record { kind = from .kind; phase = from .phase; at = m; list = m - 4 * k; count = 0; last = 0 }
         → after r u ≡ settled w s v (first ++ second) opens from
     settle-done m q r h =
         let n : ℕ = from .at + length ((first ++ second) ++ countOf opens) in
-        let long : length ((first ++ second) ++ countOf opens) ≡ length (first ++ second) + length (countOf opens) = length-append (first ++ second) (countOf opens) in
+        let long : length ((first ++ second) ++ countOf opens) ≡ length (first ++ second) + length (countOf opens) =
+        length-append (first ++ second) (countOf opens) in
         let i : n ≡ from .at + length (first ++ second) + length (countOf opens) = omega arith in
         let j : n - 4 * k ≡ from .at + length (first ++ second) = omega (arith, long, counts-long opens, hk) in
         store-done _ _ w s _ x u stores _ r (λ (a : ℕ). record { kind = from .kind; phase = from .phase; at = a; list = a - 4 * k; count = 0; last = 0 }) m q h
         (ap₂ (λ (a b : ℕ). record { kind = from .kind; phase = from .phase; at = a; list = b; count = 0; last = 0 }) i j)
+
+pub part-settled : (w : Writer) (s : List ℕ) (v : Verdict) (ys : List ℕ) (opens : Bool) → opens ≡ isList (dueOf (due (w .phase + 1) (planOf (w .kind))))
+    → (r : Step) (u : List ℕ)
+    → after r u ≡ settled w s v ys opens record { kind = w .kind; phase = w .phase + 1; at = w .at; list = 0; count = 0; last = 0 }
+    → after r u ≡ partStep w s v ys (opensNext w)
+part-settled w s v ys opens o r u h =
+    h ∙ ap (λ (b : Bool). settled w s v ys b (from (w .phase + 1))) o
+    ∙ ap (λ (i : ℕ). settled w s v ys (isList (dueOf (due i (planOf (w .kind))))) (from i)) (add-one (w .phase))
+  where
+    from : ℕ → Writer
+    from i = record { kind = w .kind; phase = i; at = w .at; list = 0; count = 0; last = 0 }
 
 -- ---- an element
 
@@ -94,11 +112,12 @@ sane-inv w e =
 
 module _ (w : Writer) (s : List ℕ) (v : Verdict) (ys : List ℕ) (x : Part) (u : List ℕ)
     (p : (x, u) ≡ stored (onFine v (roomFor (w .at + length ys) s)) (w .at + length ys) s (overwrite s (w .at) ys)) where
-  pub element-refused : (e : Refusal) → x ≡ P.Refused e → (r : Step) → r ≡ refusedStep w (e .number) → after r u ≡ elementStep w s v ys
+  pub element-refused : (e : Refusal) → x ≡ P.Refused e → (r : Step) → r ≡ refusedStep w e → after r u ≡ elementStep w s v ys
   element-refused e q r h = store-refused _ _ w s _ x u p _ r _ e q h
 
   pub element-done : sane w ≡ true → (m : ℕ) → x ≡ P.Next m → (z : List ℕ) → z ≡ withNumber u (w .list) (w .count + 1) → (r : Step)
-      → r ≡ storedStep record { kind = w .kind; phase = w .phase; at = m; list = w .list; count = w .count + 1; last = w .at } → after r z ≡ elementStep w s v ys
+      → r ≡ storedStep record { kind = w .kind; phase = w .phase; at = m; list = w .list; count = w .count + 1; last = w .at }
+      → after r z ≡ elementStep w s v ys
   unfolding answered grown appended
   element-done t m q z hz r h =
       let (a, b) = sane-inv w t in

@@ -6,16 +6,17 @@ use mathlib.Core.List.{List, [], _++_}
 use lib.ListN.{length, take, drop}
 use lib.Dec.{ltb, leb, eqb}
 use Rattle.wire.specs.Bytes.{digits, pick}
-use Rattle.wire.specs.Numbers.{ruleNumber, emptyList, refusal, noRoom, stepNotDue}
+use Rattle.wire.specs.Numbers.{numberOf, ruleOf, emptyList, noRoom, stepNotDue}
 use Rattle.transaction.specs.Signed.{mostBytes}
-use Rattle.transaction.specs.Plan.{Plan, shut, end, field, many}
+use Rattle.transaction.specs.Plan.{contentOf, elementsOf, Plan, shut, end, field, many}
 use Rattle.transaction.specs.Family.{Family, head}
-use Rattle.transaction.specs.declared.Segment.{Segment}
+use Rattle.transaction.specs.declared.FieldName.{FieldName}
+use Rattle.transaction.specs.declared.ListName.{ListName}
 use Rattle.judge.specs.declared.Verdict.{Verdict}
 use Rattle.judge.specs.declared.Verdict.the-variants as J
-use Rattle.judge.specs.Judged.{judged}
+use Rattle.judge.specs.Judged.{barred, judged}
 use Rattle.judge.specs.Given.{headBytes, Given}
-use Rattle.due.specs.Plans.{isSegment, due, planOf}
+use Rattle.due.specs.Plans.{due, fieldCode, listCode}
 use Rattle.blank.specs.Closing.{closing, closable}
 use Rattle.writer.specs.declared.Writer.{Writer}
 use Rattle.writer.specs.declared.Step.{Step}
@@ -38,7 +39,7 @@ turn w a s = record { step = record { next = w; answer = a }; buffer = s }
 -- the number and the place that an answer reports: done is 0, with the bytes written so far
 abbrev pub writtenNumber : Written → ℕ
 writtenNumber (W.Done n) = 0
-writtenNumber (W.Refused e) = e .number
+writtenNumber (W.Refused e) = numberOf e
 
 abbrev pub writtenPlace : Written → ℕ
 writtenPlace (W.Done n) = n
@@ -49,11 +50,11 @@ writtenPlace (W.Refused e) = e .place
 -- a step that is refused changes neither state nor buffer
 unfoldable pub answered : Verdict → Writer → List ℕ → Writer → List ℕ → Turn
 answered J.Fine w s w′ s′ = turn w′ (W.Done (w′ .at)) s′
-answered (J.Refuse n) w s w′ s′ = turn w (W.Refused (refusal n 0)) s
+answered (J.Refuse e) w s w′ s′ = turn w (W.Refused e) s
 
 -- 16 comes first; then 14, where the buffer is shorter than the bytes written
 abbrev pub guardedIn : Bool → Writer → ℕ → Verdict → Verdict
-guardedIn isDue w length v = pick isDue (pick (leb (w .at) length) v (J.Refuse noRoom)) (J.Refuse stepNotDue)
+guardedIn isDue w length v = pick isDue (pick (leb (w .at) length) v (barred noRoom)) (barred stepNotDue)
 
 abbrev pub guarded : Bool → Writer → List ℕ → Verdict → Verdict
 guarded isDue w s v = guardedIn isDue w (length s) v
@@ -82,8 +83,8 @@ appended w s ys = overwrite (overwrite s (w .at) ys) (w .list) (digits 4 (w .cou
 abbrev pub opening : Plan → List ℕ
 opening shut = []
 opening end = []
-opening (field l F q) = []
-opening (many l E q) = digits 4 0
+opening (field f q) = []
+opening (many l least q) = digits 4 0
 
 -- q is due, and what stands before it ends at `at`
 abbrev pub opened : ℕ → ℕ → ℕ → Plan → Writer
@@ -92,26 +93,40 @@ opened kind phase at q = record { kind = kind; phase = phase; at = at + length (
 -- ---- the steps, by what is due
 
 abbrev pub notDue : Writer → List ℕ → Turn
-notDue w s = answered (J.Refuse stepNotDue) w s w s
+notDue w s = answered (barred stepNotDue) w s w s
 
--- a field, or one element more of the open list
-unfoldable pub putAt : Plan → Writer → List ℕ → Segment → Given → Turn
-putAt shut w s l g = notDue w s
-putAt end w s l g = notDue w s
-putAt (field m F q) w s l g =
-    answered (guarded (isSegment l m) w s (judged (F .content) g (roomFor (w .at + length (g .bytes ++ opening q)) s)))
+abbrev pub sameField : FieldName → FieldName → Bool
+sameField f g = eqb (fieldCode f) (fieldCode g)
+
+-- one step writes the elements of both
+abbrev pub sameList : ListName → ListName → Bool
+sameList l m = eqb (listCode l) (listCode m)
+
+-- a field by its name; a memo has at most `most` bytes
+unfoldable pub putFieldAt : ℕ → Plan → Writer → List ℕ → FieldName → Given → Turn
+putFieldAt most shut w s f g = notDue w s
+putFieldAt most end w s f g = notDue w s
+putFieldAt most (field h q) w s f g =
+    answered (guarded (sameField f h) w s (judged (contentOf most h) g (roomFor (w .at + length (g .bytes ++ opening q)) s)))
     w s (opened (w .kind) (suc (w .phase)) (w .at + length (g .bytes)) q) (overwrite s (w .at) (g .bytes ++ opening q))
-putAt (many m E q) w s l g =
-    answered (guarded (isSegment l m && sane w) w s (judged (E .element (prev w s)) g (roomFor (w .at + length (g .bytes)) s)))
+putFieldAt most (many l least q) w s f g = notDue w s
+
+-- one element more of the open list, by its name
+unfoldable pub putElementAt : Plan → Writer → List ℕ → ListName → Given → Turn
+putElementAt shut w s l g = notDue w s
+putElementAt end w s l g = notDue w s
+putElementAt (field f q) w s l g = notDue w s
+putElementAt (many m least q) w s l g =
+    answered (guarded (sameList l m && sane w) w s (judged (elementsOf m .element (prev w s)) g (roomFor (w .at + length (g .bytes)) s)))
     w s (grown w (length (g .bytes))) (appended w s (g .bytes))
 
 -- a list that needs an element is not closed before it has one
 unfoldable pub closeAt : Plan → Writer → List ℕ → Turn
 closeAt shut w s = notDue w s
 closeAt end w s = notDue w s
-closeAt (field m F q) w s = notDue w s
-closeAt (many m E q) w s =
-    answered (guarded true w s (pick (leb (E .least) (w .count)) (roomFor (w .at + length (opening q)) s) (J.Refuse (ruleNumber emptyList))))
+closeAt (field f q) w s = notDue w s
+closeAt (many l least q) w s =
+    answered (guarded true w s (pick (leb least (w .count)) (roomFor (w .at + length (opening q)) s) (barred (ruleOf emptyList))))
     w s (opened (w .kind) (suc (w .phase)) (w .at) q) (overwrite s (w .at) (opening q))
 
 module _ (F : Family) where
@@ -119,24 +134,36 @@ module _ (F : Family) where
   unfoldable pub finishAt : Plan → Writer → List ℕ → Turn
   finishAt shut w s = notDue w s
   finishAt end w s =
-      answered (closable F (w .at) s) w s (opened (w .kind) (suc (w .phase)) (w .at + length (closing F (w .at) s)) shut) (overwrite s (w .at) (closing F (w .at) s))
-  finishAt (field m C q) w s = notDue w s
-  finishAt (many m E q) w s = notDue w s
+      answered (closable F (w .at) s)
+      w s (opened (w .kind) (suc (w .phase)) (w .at + length (closing F (w .at) s)) shut) (overwrite s (w .at) (closing F (w .at) s))
+  finishAt (field f q) w s = notDue w s
+  finishAt (many l least q) w s = notDue w s
 
   -- ---- the steps
+
+  -- the plan of a type's number
+  abbrev pub planFor : ℕ → Plan
+  planFor kind = F .plan (F .kind kind)
+
+  -- what is due by it
+  abbrev pub dueFor : Writer → Plan
+  dueFor w = due (w .phase) (planFor (w .kind))
 
   unfoldable pub start : Writer → List ℕ → ℕ → ℕ → List ℕ → Turn
   start w s kind network chain =
       let ys = headBytes kind network chain in
-      let q = planOf F kind in
+      let q = planFor kind in
       answered (guarded (eqb (w .phase) 0) w s (judged (head F) record { whole = true; bytes = ys } (roomFor (length (ys ++ opening q)) s)))
       w s (opened kind 1 (length ys) q) (overwrite s 0 (ys ++ opening q))
 
-  unfoldable pub put : Writer → List ℕ → Segment → Given → Turn
-  put w s l g = putAt (due (w .phase) (planOf F (w .kind))) w s l g
+  unfoldable pub putField : Writer → List ℕ → FieldName → Given → Turn
+  putField w s f g = putFieldAt (F .memoMost) (dueFor w) w s f g
+
+  unfoldable pub putElement : Writer → List ℕ → ListName → Given → Turn
+  putElement w s l g = putElementAt (dueFor w) w s l g
 
   unfoldable pub close : Writer → List ℕ → Turn
-  close w s = closeAt (due (w .phase) (planOf F (w .kind))) w s
+  close w s = closeAt (dueFor w) w s
 
   unfoldable pub finish : Writer → List ℕ → Turn
-  finish w s = finishAt (due (w .phase) (planOf F (w .kind))) w s
+  finish w s = finishAt (dueFor w) w s

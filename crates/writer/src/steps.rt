@@ -1,27 +1,38 @@
-// A step once its rules are judged: whether it is due, the store, and the state that follows.
+// What the methods share: whether a step is due, and, once its rules are judged, the store and the state that follows.
+ghost use Prim.Native.Nat.{_≤_};
 ghost use mathlib.Core.Path.{_≡_};
+ghost use mathlib.Core.Bool.{true, _&&_};
 ghost use mathlib.Core.List.{_++_};
 ghost use Rattle.wire.specs.Bytes.{pick};
+ghost use Rattle.due.specs.Plans.{isField, isOpen};
 ghost use Rattle.judge.specs.Elements.{numbersBytes};
-ghost use Rattle.writer.specs.Steps.{guardedIn, prev, sane};
-ghost use Rattle.writer.specs.Code.{after, refusedStep, storedStep, settled, namedField, namedElement};
+ghost use Rattle.writer.specs.Steps.{prev, sane};
+ghost use Rattle.writer.specs.Code.{after, refusedStep, notDueStep, storedStep, dueAt, enteredIn, settled, partStep, opensNext, elementStep};
 use crate::Step;
 use crate::Writer;
 use crate::Written;
-use due::plans;
+use due::questions;
 use judge::Verdict;
-use transaction::Segment;
+use transaction::FieldName;
+use transaction::ListName;
 use wire::Part;
 use wire::Refusal;
+use wire::Rule;
 
-// Neither state nor buffer changes, and the place is 0.
-pub fn refused(w: Writer, number: u32) -> Step
-    ensures { λ r. ⌜ r ≡ refusedStep w number ⌝ }
+// Neither state nor buffer changes.
+pub fn refused(w: Writer, refusal: Refusal) -> Step
+    ensures { λ r. ⌜ r ≡ refusedStep w refusal ⌝ }
 {
     Step {
         next: w,
-        answer: Written::Refused(Refusal { number, place: 0 }),
+        answer: Written::Refused(refusal),
     }
+}
+
+pub fn not_due(w: Writer) -> Step
+    ensures { λ r. ⌜ r ≡ notDueStep w ⌝ }
+{
+    refused(w, wire::refuse(Rule::StepNotDue, 0))
 }
 
 pub fn stored(w: Writer) -> Step
@@ -60,17 +71,34 @@ pub fn last_of(w: Writer, buf: &[u8]) -> &[u8]
     wire::between(buf, w.last, w.at)
 }
 
-// What bars a step that is due or not: 16 comes first, then 14 where the buffer is shorter than the bytes written, then the rules.
-pub fn entered(w: Writer, limit: usize, is_due: bool, rules: Verdict) -> Verdict
-    ensures { λ r. ⌜ r ≡ guardedIn «is_due» w limit rules ⌝ }
+// What bars a step before its rules are looked at: 16 where it is not due, then 14 where the buffer is shorter than the bytes written.
+pub fn entered(w: Writer, limit: usize, is_due: bool) -> Verdict
+    ensures { λ r. ⌜ r ≡ enteredIn «is_due» w limit ⌝ }
 {
     if is_due {
         if limit < w.at {
-            return Verdict::Refuse(wire::numbers::NO_ROOM);
+            return judge::bar(Rule::NoRoom);
         }
-        return rules;
+        return Verdict::Fine;
     }
-    Verdict::Refuse(wire::numbers::STEP_NOT_DUE)
+    judge::bar(Rule::StepNotDue)
+}
+
+// What bars the field of this name, before its rules.
+pub fn due_field(w: Writer, limit: usize, field: FieldName) -> Verdict
+    ensures { λ r. ⌜ r ≡ enteredIn (isField field (dueAt w)) w limit ⌝ }
+{
+    entered(w, limit, questions::field_at(w.kind, w.phase, field))
+}
+
+// What bars an element of the list of this name, before its rules.
+pub fn due_element(w: Writer, limit: usize, list: ListName) -> Verdict
+    ensures { λ r. ⌜ r ≡ enteredIn (isOpen list (dueAt w) && sane w) w limit ⌝ }
+{
+    if questions::open_at(w.kind, w.phase, list) {
+        return entered(w, limit, is_sane(w));
+    }
+    judge::bar(Rule::StepNotDue)
 }
 
 // How many counts stand behind a field: one where a list is next.
@@ -87,18 +115,18 @@ fn counts_of(opens: bool) -> usize
 pub fn settle(
     w: Writer,
     buf: &mut [u8],
-    verdict: Verdict,
+    rules: Verdict,
     first: &[u8],
     second: &[u8],
     opens: bool,
     from: Writer,
 ) -> Step
-    ensures { λ r. ⌜ after r (now (buf .exit)) ≡ settled w (now (buf .entry)) verdict (now (first .entry) ++ now (second .entry)) opens from ⌝ }
+    ensures { λ r. ⌜ after r (now (buf .exit)) ≡ settled w (now (buf .entry)) rules (now (first .entry) ++ now (second .entry)) opens from ⌝ }
 {
     let zero = [0u32; 1];
     let counts = counts_of(opens);
-    match buffer::put(buf, from.at, verdict, first, second, &zero[..counts]) {
-        Part::Refused(refusal) => refused(w, refusal.number),
+    match buffer::put(buf, from.at, rules, first, second, &zero[..counts]) {
+        Part::Refused(refusal) => refused(w, refusal),
         Part::Next(end) => stored(Writer {
             kind: from.kind,
             phase: from.phase,
@@ -110,55 +138,44 @@ pub fn settle(
     }
 }
 
-// A field by its name.
-pub fn put_field(
+// The bytes of the part that is due, and the next list's count behind them: a field, or nothing where a list is closed.
+pub(crate) fn put_part(
     w: Writer,
     buf: &mut [u8],
-    segment: Segment,
     rules: Verdict,
     first: &[u8],
     second: &[u8],
 ) -> Step
-    ensures { λ r. ⌜ after r (now (buf .exit)) ≡ namedField w (now (buf .entry)) segment rules (now (first .entry) ++ now (second .entry)) ⌝ }
+    requires { ⌜ w .phase ≤ 8 ⌝ }
+    ensures { λ r. ⌜ after r (now (buf .exit)) ≡ partStep w (now (buf .entry)) rules (now (first .entry) ++ now (second .entry)) (opensNext w) ⌝ }
 {
-    if plans::field_at(w.kind, w.phase, segment) {
-        let phase = w.phase + 1;
-        let opens = plans::list_at(w.kind, phase);
-        let verdict = entered(w, buf.len(), true, rules);
-        let from = Writer {
-            kind: w.kind,
-            phase,
-            at: w.at,
-            list: 0,
-            count: 0,
-            last: 0,
-        };
-        return settle(w, buf, verdict, first, second, opens, from);
-    }
-    refused(w, wire::numbers::STEP_NOT_DUE)
+    let phase = w.phase + 1;
+    let opens = questions::list_at(w.kind, phase);
+    let from = Writer {
+        kind: w.kind,
+        phase,
+        at: w.at,
+        list: 0,
+        count: 0,
+        last: 0,
+    };
+    settle(w, buf, rules, first, second, opens, from)
 }
 
-// An element by its list's name, and the list's new count in its place.
-pub fn put_element(
+// An element behind the others of the open list, and the list's new count in its place.
+pub(crate) fn put_element(
     w: Writer,
     buf: &mut [u8],
-    segment: Segment,
     rules: Verdict,
     first: &[u8],
     second: &[u8],
     numbers: &[u32],
 ) -> Step
-    ensures { λ r. ⌜ after r (now (buf .exit)) ≡ namedElement w (now (buf .entry)) segment rules ((now (first .entry) ++ now (second .entry)) ++ numbersBytes (now (numbers .entry))) ⌝ }
+    requires { ⌜ sane w ≡ true ⌝ }
+    ensures { λ r. ⌜ after r (now (buf .exit)) ≡ elementStep w (now (buf .entry)) rules ((now (first .entry) ++ now (second .entry)) ++ numbersBytes (now (numbers .entry))) ⌝ }
 {
-    if !plans::open_at(w.kind, w.phase, segment) {
-        return refused(w, wire::numbers::STEP_NOT_DUE);
-    }
-    if !is_sane(w) {
-        return refused(w, wire::numbers::STEP_NOT_DUE);
-    }
-    let verdict = entered(w, buf.len(), true, rules);
-    match buffer::put(buf, w.at, verdict, first, second, numbers) {
-        Part::Refused(refusal) => refused(w, refusal.number),
+    match buffer::put(buf, w.at, rules, first, second, numbers) {
+        Part::Refused(refusal) => refused(w, refusal),
         Part::Next(end) => {
             let count = w.count + 1;
             buffer::put_u32(buf, w.list, count as u64);

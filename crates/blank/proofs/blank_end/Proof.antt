@@ -1,20 +1,33 @@
 -- `blank::blank_end` meets its contract. Assumes nothing.
-use Prim.Native.Nat.{_+_, _*_}
+use mathlib.Core.Path.{ap, _∙_}
 use native.Mathlib.Omega.{arith}
 use borrow.Author.Needs.{needs}
+use Rattle.wire.specs.declared.Part.the-variants as P
+use Rattle.transaction.specs.Slots.{signatureWidth}
+use Rattle.blank.specs.Closing.{credentialWidth}
 use Rattle.blank.proofs.Blanks.{fitted-full, fitted-room}
 use Rattle.blank.proofs.blank_end.Statement.{statement}
 use Rattle.blank.proofs.blank_end.Tie as tie
 
 pub blank-end-spec : {M : Type 1} → statement M
+unfolding signatureWidth
 blank-end-spec =
     tie.close
     (tie.spec
-    (λ c. let a = c .before .args in fitted-full (a .at) (8 + 65 * a .count) (a .most) (omega arith))  -- returns
-    (λ c. let a = c .before .before .args in fitted-full (a .at) (8 + 65 * a .count) (a .most) (omega arith))  -- returns-2
+    (λ c κs. search needs)  -- refuse-requires
+    (λ c.
+    let a = c .before .before .args in
+    ap P.Refused (c .before .refuse .ensures) ∙ fitted-full (a .at) (credentialWidth (a .count)) (a .limit) (omega arith))  -- returns
+    (λ c.
+    let a = c .before .before .before .args in
+    ap P.Refused (c .before .before .refuse .ensures) ∙ fitted-full (a .at) (credentialWidth (a .count)) (a .limit) (omega arith))  -- returns-2
     (λ c. search needs)  -- sub-if3
-    (λ c. let a = c .before .before .before .args in fitted-full (a .at) (8 + 65 * a .count) (a .most) (omega arith))  -- returns-3
-    (λ c. search needs)  -- add-t7
-    (λ c. search needs)  -- mul-t11
-    (λ c. search needs)  -- add-t12
-    (λ c. let a = c .before .before .before .args in fitted-room (a .at) (8 + 65 * a .count) (a .most) _ (omega arith) (omega arith)))  -- returns-4
+    (λ c.
+    let a = c .before .before .before .before .args in
+    ap P.Refused (c .before .before .before .refuse .ensures) ∙ fitted-full (a .at) (credentialWidth (a .count)) (a .limit) (omega arith))  -- returns-3
+    (λ c. search needs)  -- add-t8
+    (λ c. search needs)  -- mul-t12
+    (λ c. search needs)  -- add-t13
+    (λ c.
+    let a = c .before .before .before .before .args in
+    fitted-room (a .at) (credentialWidth (a .count)) (a .limit) _ (omega arith) (omega arith)))  -- returns-4

@@ -1,19 +1,24 @@
--- `blank::blanks_end` meets its contract. The invariant: the place behind what is left, from here, is the place behind all. Assumes nothing.
+-- `blank::blanks_end` meets its contract. The invariant: what is left, from here, gives the whole. Assumes nothing.
 use Prim.Native.Nat.{_≤_}
-use mathlib.Core.Path.{_≡_, refl}
+use mathlib.Core.Path.{_≡_}
 use native.Mathlib.Omega.{arith}
 use lib.ListN.{length}
 use borrow.Author.Needs.{needs}
-use Rattle.blank.specs.Closing.{blanksFrom, fitted}
-use Rattle.blank.proofs.Blanks.{fitted-next, end-none, end-stop, end-on, end-full}
+use Rattle.wire.specs.declared.Part.{Part}
+use Rattle.blank.specs.Closing.{blankBytes, fitted, OfAhead}
+use Rattle.blank.proofs.Blanks.{fitted-next}
+use Rattle.blank.proofs.Loops.{of-end, end-full, end-on, end-none}
 use Rattle.blank.proofs.blanks_end.Statement.{statement}
 use Rattle.blank.proofs.blanks_end.Tie as tie
 
 abbrev Inv-loop : tie.InvT-loop
-Inv-loop s kind count first start most left₀ q₀ at₀ left q at = (fitted at (length (blanksFrom kind left s q)) most ≡ fitted start (length (blanksFrom kind count s first)) most) × (at ≤ most)
+Inv-loop s kind count start limit cursor₀ left₀ at₀ cursor left at =
+    ((r : Part) → OfAhead kind s cursor left (λ ws. r ≡ fitted at (length (blankBytes ws)) limit)
+    → OfAhead kind s cursor₀ count (λ ws. r ≡ fitted start (length (blankBytes ws)) limit))
+    × (at ≤ limit)
 
 abbrev μ-loop : tie.MeasureT-loop
-μ-loop s kind count first start most left₀ q₀ at₀ left q at = left
+μ-loop s kind count start limit cursor₀ left₀ at₀ cursor left at = left
 
 pub blanks-end-spec : {M : Type 1} → statement M
 blanks-end-spec =
@@ -21,16 +26,37 @@ blanks-end-spec =
     (tie.spec
     Inv-loop
     μ-loop
-    (λ c. (refl, omega arith))  -- loop-holds
-    (λ c κs. search needs)  -- asked-at-requires
-    (λ c. search needs)  -- enum-known-signatures
+    (λ c. (λ r h. h, omega arith))  -- loop-holds
+    (λ c κs. search needs)  -- next-wanted-requires
     (λ c. search needs)  -- enum-told
-    (λ c. let a = c .before .before .before .before .before .before .args in end-stop (a .kind) (a .s .now) (c .before .before .before .before .loop .q) (c .before .before .before .before .loop .at) (a .most) (c .before .before .before .before .loop .left) _ (c .before .before .before .before .loop .inv .0) _ (c .before .before .asked-at .ensures) (c .before .before .before .loop-test .taken) _ (c .enum-told .given .1) (omega arith))  -- returns
+    (λ c.
+    let l = c .before .before .before .before .loop in
+    let n = c .before .before in
+    let a = n .before .before .before .before .args in
+    l .inv .0 _ (of-end (a .s .now) (a .kind) (l .cursor) (l .left) _ (n .next-wanted .ensures) _ (n .before .loop-test .taken) (c .enum-told .given .1)))  -- returns
+    (λ c. search needs)  -- enum-known-signatures
     (λ c κs. search needs)  -- blank-end-requires
     (λ c. search needs)  -- enum-known-refusal
-    (λ c. let a = c .before .before .before .before .before .before .before .before .before .before .before .args in end-full (a .kind) (a .s .now) (c .before .before .before .before .before .before .before .before .before .loop .q) (c .before .before .before .before .before .before .before .before .before .loop .at) (a .most) (c .before .before .before .before .before .before .before .before .before .loop .left) _ (c .before .before .before .before .before .before .before .before .before .loop .inv .0) _ (c .before .before .before .before .before .before .before .asked-at .ensures) (c .before .before .before .before .before .before .before .before .loop-test .taken) _ _ (c .before .before .before .before .before .signatures .given .1) _ (c .before .before .before .blank-end .ensures) _ (c .before .refusal .given .1))  -- returns-2
-    (λ c. search needs)  -- enum-known-m
+    (λ c.
+    let b = c .before .before .before in
+    let n = b .before .before .before .before in
+    let l = n .before .before .loop in
+    let a = n .before .before .before .before .args in
+    l .inv .0 _ (end-full (a .s .now) (a .kind) (l .cursor) (l .left) _ (n .next-wanted .ensures) _ _ _
+    (b .before .before .signatures .given .1) (l .at) _ _ (b .blank-end .ensures) _ (c .before .refusal .given .1)))  -- returns-2
+    (λ c. search needs)  -- enum-known-end
     (λ c. search needs)  -- sub-left
     (λ c. search needs)  -- loop-less
-    (λ c. let a = c .before .before .before .before .before .before .before .before .before .before .before .args in (end-on (a .kind) (a .s .now) (c .before .before .before .before .before .before .before .before .before .loop .q) (c .before .before .before .before .before .before .before .before .before .loop .at) (a .most) (c .before .before .before .before .before .before .before .before .before .loop .left) _ (c .before .before .before .before .before .before .before .before .before .loop .inv .0) _ (c .before .before .before .before .before .before .before .asked-at .ensures) (c .before .before .before .before .before .before .before .before .loop-test .taken) _ _ (c .before .before .before .before .before .signatures .given .1) _ (c .before .before .before .blank-end .ensures) _ (c .before .m .given .1), fitted-next _ _ _ _ (c .before .before .before .blank-end .ensures) _ (c .before .m .given .1) .1))  -- loop-again
-    (λ c. let a = c .before .before .before .args in end-none (a .kind) (a .s .now) (c .before .loop .q) (c .before .loop .at) (a .most) (c .before .loop .left) _ (c .before .loop .inv .0) (omega arith) (omega arith)))  -- returns-3
+    (λ c.
+    let b = c .before .before .before in
+    let n = b .before .before .before .before in
+    let l = n .before .before .loop in
+    let a = n .before .before .before .before .args in (
+      λ r h. l .inv .0 r (end-on (a .s .now) (a .kind) (l .cursor) (l .left) _ (n .next-wanted .ensures) _ _ _
+          (b .before .before .signatures .given .1) (l .at) _ _ (b .blank-end .ensures) r _ (c .before .end .given .1) h),
+      fitted-next _ _ _ _ (b .blank-end .ensures) _ (c .before .end .given .1) .1,
+    ))  -- loop-again
+    (λ c.
+    let l = c .before .loop in
+    let a = c .before .before .before .args in
+    l .inv .0 _ (end-none (a .kind) (a .s .now) (l .cursor) (l .left) (l .at) (a .limit) (omega arith) (omega arith))))  -- returns-3

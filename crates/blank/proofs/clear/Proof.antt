@@ -25,6 +25,8 @@ clear-spec =
     (λ c. search needs)  -- slice-write-room
     (λ c. search needs)  -- add-i
     (λ c. search needs)  -- loop-less
-    (λ c. (omega arith, simp length-set (c .before .loop .inv .1), rw (c .before .loop .inv .2) (zero-more (c .before .before .args .room .now) (c .before .loop .i) (omega arith))))  -- loop-again
+    (λ c.
+    let l = c .before .loop in
+    (omega arith, simp length-set (l .inv .1), rw (l .inv .2) (zero-more (c .before .before .args .room .now) (l .i) (omega arith))))  -- loop-again
     (λ c. search needs)  -- same-length
-    (λ c. c .before .loop .inv .2 ∙ zeros-all (c .before .before .args .room .now) (c .before .loop .i) (omega arith) (c .before .loop .inv .0)))  -- returns
+    (λ c. let l = c .before .loop in l .inv .2 ∙ zeros-all (c .before .before .args .room .now) (l .i) (omega arith) (l .inv .0)))  -- returns

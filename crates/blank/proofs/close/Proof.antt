@@ -1,25 +1,61 @@
 -- `blank::close` meets its contract. Assumes nothing.
+use Prim.Native.Nat.{ℕ}
+use mathlib.Core.Path.{_≡_, ap, _∙_}
+use mathlib.Core.List.{List}
 use native.Mathlib.Omega.{arith}
 use lib.ListN.{length-take}
 use borrow.Author.Needs.{needs}
-use Rattle.blank.proofs.Ending.{close-short, close-refused, close-after, close-counts, close-whole}
+use Rattle.wire.specs.declared.Refusal.{Refusal}
+use Rattle.wire.specs.declared.Part.{Part}
+use Rattle.wire.specs.declared.Part.the-variants as P
+use Rattle.blank.proofs.Ending.{close-short, close-refused, close-after, close-ahead, close-whole}
 use Rattle.blank.proofs.close.Statement.{statement}
 use Rattle.blank.proofs.close.Tie as tie
+
+-- a refusal f that the code has made by a call, where the definition has d
+made : (s : List ℕ) (f d : Refusal) → f ≡ d → (y : Part × List ℕ) → (P.Refused d, s) ≡ y → (P.Refused f, s) ≡ y
+made s f d e y h = ap (λ (r : Refusal). (P.Refused r, s)) e ∙ h
 
 pub close-spec : {M : Type 1} → statement M
 close-spec =
     tie.close
     (tie.spec
-    (λ c. let a = c .before .before .args in close-short (a .buf .now) (a .at) (omega arith))  -- returns
+    (λ c κs. search needs)  -- refuse-requires
+    (λ c.
+    let a = c .before .before .before .args in
+    made (a .buf .now) _ _ (c .refuse .ensures) _ (close-short (a .most) (a .buf .now) (a .at) (omega arith)))  -- returns
     (λ c. search needs)  -- slice-reshare-prefix-unsigned-at
     (λ c. simp length-take (omega arith))  -- slice-aggregate-unsigned-at
     (λ c κs. search needs)  -- unsigned-at-requires
     (λ c. search needs)  -- enum-known-refusal
+    (λ c κs. search needs)  -- without-place-requires
     (λ c. search needs)  -- enum-known-layout
+    (λ c κs. search needs)  -- refuse-requires-2
     (λ c. search needs)  -- same-length
-    (λ c. let a = c .before .before .before .before .before .before .before .before .args in close-after (a .buf .now) (a .at) (omega arith) _ (c .before .before .before .before .unsigned-at .ensures) _ _ (c .before .before .layout .given .1) (c .if2 .taken))  -- returns-2
-    (λ c κs. let a = c .before .before .before .before .before .before .before .before .before .args in close-counts (a .buf .now) (a .at) (omega arith) _ (c .before .before .before .before .before .unsigned-at .ensures) _ _ (c .before .before .before .layout .given .1) (c .before .before .before .before .before .before .before .before .slice-known .given))  -- close-layout-requires
+    (λ c.
+    let u = c .before .before .before .before .before .before in
+    let b = u .before .before .before in
+    let a = b .before .args in
+    made (a .buf .now) _ _ (c .refuse2 .ensures) _
+    (close-after (a .most) (a .buf .now) (a .at) (omega arith) _ (u .unsigned-at .ensures) _
+    (c .before .before .before .before .layout .given .1) (b .slice-known .given) (c .before .if2 .taken)))  -- returns-2
+    (λ c κs.
+    let u = c .before .before .before .before .before .before in
+    let b = u .before .before .before in
+    let a = b .before .args in
+    close-ahead (a .most) (a .buf .now) (a .at) (omega arith) _ (u .unsigned-at .ensures) _
+    (c .before .before .before .before .layout .given .1) (b .slice-known .given))  -- close-layout-requires
     (λ c. search needs)  -- same-length-2
-    (λ c. let a = c .before .before .before .before .before .before .before .args in close-refused (a .buf .now) (a .at) (omega arith) _ (c .before .before .before .unsigned-at .ensures) _ (c .before .refusal .given .1))  -- returns-3
+    (λ c.
+    let u = c .before .before .before .before in
+    let a = u .before .before .before .before .args in
+    made (a .buf .now) _ _ (c .without-place .ensures) _
+    (close-refused (a .most) (a .buf .now) (a .at) (omega arith) _ (u .unsigned-at .ensures) _ (c .before .before .refusal .given .1)))  -- returns-3
     (λ c. search needs)  -- same-length-3
-    (λ c. let a = c .before .before .before .before .before .before .before .before .before .before .before .before .args in close-whole (a .buf .now) (a .at) (omega arith) _ (c .before .before .before .before .before .before .before .before .unsigned-at .ensures) _ _ (c .before .before .before .before .before .before .layout .given .1) (c .before .before .before .before .before .before .before .before .before .before .before .slice-known .given) (omega arith) _ (c .before .before .close-layout .ensures)))  -- returns-4
+    (λ c.
+    let p = c .before .before in
+    let u = p .before .before .before .before .before .before .before in
+    let b = u .before .before .before in
+    let a = b .before .args in
+    close-whole (a .most) (a .buf .now) (a .at) (omega arith) _ (u .unsigned-at .ensures) _
+    (p .before .before .before .before .before .layout .given .1) (b .slice-known .given) (omega arith) _ _ (p .close-layout .ensures)))  -- returns-4

@@ -16,8 +16,24 @@ close-layout-spec =
     (λ c κs. search needs)  -- closing-end-requires
     (λ c. search needs)  -- enum-known-refusal
     (λ c. search needs)  -- enum-known-end
-    (λ c κs. let a = c .before .before .before .before .before .before .before .before .args in close-room (a .layout) (a .buf .now) (a .at) _ (c .before .before .before .before .before .before .most-in .ensures) _ (c .before .before .before .before .closing-end .ensures) (c .before .before .before .before .before .before .before .before .pre .1) _ (c .before .before .end .given .1))  -- put-closing-requires
+    (λ c κs.
+    let e = c .before .before .before .before in
+    let m = e .before .before in
+    let s = m .before .before in
+    let a = s .args in
+    close-room (a .layout) (a .buf .now) (a .at) _ (m .most-in .ensures) _ (e .closing-end .ensures)
+    (s .pre .1) _ (c .before .before .end .given .1))  -- put-closing-requires
     (λ c. search needs)  -- same-length
-    (λ c. let a = c .before .before .before .before .before .before .before .args in close-full (a .layout) (a .buf .now) (a .at) _ (c .before .before .before .before .before .most-in .ensures) _ (c .before .before .before .closing-end .ensures) _ (c .before .refusal .given .1))  -- returns
+    (λ c.
+    let e = c .before .before .before in
+    let m = e .before .before in
+    let a = m .before .before .args in
+    close-full (a .layout) (a .buf .now) (a .at) _ (m .most-in .ensures) _ (e .closing-end .ensures) _ (c .before .refusal .given .1))  -- returns
     (λ c. search needs)  -- same-length-2
-    (λ c. let a = c .before .before .before .before .before .before .before .before .before .before .before .args in close-done (a .layout) (a .buf .now) (a .at) _ (c .before .before .before .before .before .before .before .before .before .most-in .ensures) _ (c .before .before .before .before .before .before .before .closing-end .ensures) _ (c .before .before .before .before .before .end .given .1) _ (c .before .before .put-closing .ensures)))  -- returns-2
+    (λ c.
+    let p = c .before .before in
+    let e = p .before .before .before .before .before in
+    let m = e .before .before in
+    let a = m .before .before .args in
+    close-done (a .layout) (a .buf .now) (a .at) _ (m .most-in .ensures) _ (e .closing-end .ensures) _
+    (p .before .before .before .end .given .1) _ (p .put-closing .ensures)))  -- returns-2

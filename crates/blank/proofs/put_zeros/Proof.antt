@@ -15,4 +15,6 @@ put-zeros-spec =
     (λ c. search needs)  -- part-clear-end
     (λ c κs. search needs)  -- clear-requires
     (λ c. search needs)  -- same-length
-    (λ c. let a = c .before .before .before .before .before .args in zeros-back (a .buf .now) (a .at) _ (a .count) (omega arith) (c .before .before .clear .ensures)))  -- returns
+    (λ c.
+    let a = c .before .before .before .before .before .args in
+    zeros-back (a .buf .now) (a .at) _ (a .count) (omega arith) (c .before .before .clear .ensures)))  -- returns

@@ -1,4 +1,5 @@
 -- `buffer::room_of` meets its contract. Assumes nothing.
+use mathlib.Core.Path.{_∙_}
 use borrow.Author.Needs.{needs}
 use Rattle.buffer.proofs.Numbering.{first-long, second-long, numbers-long, room-all}
 use Rattle.buffer.proofs.room_of.Statement.{statement}
@@ -8,9 +9,12 @@ pub room-of-spec : {M : Type 1} → statement M
 room-of-spec =
     tie.close
     (tie.spec
-    (λ c. let a = c .before .before .before .before .args in first-long (a .first .now) (a .second .now) (a .numbers .now) (a .at) (a .limit) (c .if1 .taken))  -- returns
-    (λ c. let a = c .before .before .before .before .before .args in second-long (a .first .now) (a .second .now) (a .numbers .now) (a .at) (a .limit) (c .if2 .taken))  -- returns-2
-    (λ c. let a = c .before .before .before .before .before .before .args in numbers-long (a .first .now) (a .second .now) (a .numbers .now) (a .at) (a .limit) (c .if3 .taken))  -- returns-3
+    (λ c κs. search needs)  -- bar-requires
+    (λ c. let a = c .before .before .before .before .before .args in c .bar .ensures ∙ first-long (a .first .now) (a .second .now) (a .numbers .now) (a .at) (a .limit) (c .before .if1 .taken))  -- returns
+    (λ c κs. search needs)  -- bar-requires-2
+    (λ c. let a = c .before .before .before .before .before .before .args in c .bar2 .ensures ∙ second-long (a .first .now) (a .second .now) (a .numbers .now) (a .at) (a .limit) (c .before .if2 .taken))  -- returns-2
+    (λ c κs. search needs)  -- bar-requires-3
+    (λ c. let a = c .before .before .before .before .before .before .before .args in c .bar3 .ensures ∙ numbers-long (a .first .now) (a .second .now) (a .numbers .now) (a .at) (a .limit) (c .before .if3 .taken))  -- returns-3
     (λ c. search needs)  -- add-room-for
     (λ c. search needs)  -- mul-room-for
     (λ c. search needs)  -- add-room-for-2

@@ -7,6 +7,13 @@ use borrow.Author.Needs.{needs}
 use Rattle.draft.proofs.put_merge.Statement.{statement}
 use Rattle.draft.proofs.put_merge.Tie as tie
 
+-- the copy, and then the slots joined to it
+returns : tie.Need-returns
+returns c =
+    let copied = c .before .before .before .before .before .before in
+    let a = copied .before .before .before .before .before .args in
+    c .before .before .join-slots .ensures ∙ ap (λ (s : List ℕ). joinedWith (a .second .now) (a .at) s) (copied .put-bytes .ensures)
+
 pub put-merge-spec : {M : Type 1} → statement M
 put-merge-spec =
     tie.close
@@ -14,4 +21,4 @@ put-merge-spec =
     (λ c κs. search needs)  -- put-bytes-requires
     (λ c κs. search needs)  -- join-slots-requires
     (λ c. search needs)  -- same-length
-    (λ c. c .before .before .join-slots .ensures ∙ ap (λ (s : List ℕ). joinedWith (c .before .before .before .before .before .before .before .before .before .before .before .args .second .now) (c .before .before .before .before .before .before .before .before .before .before .before .args .at) s) (c .before .before .before .before .before .before .put-bytes .ensures)))  -- returns
+    returns)

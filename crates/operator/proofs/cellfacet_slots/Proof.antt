@@ -1,6 +1,6 @@
 -- `operator::cellfacet_slots` meets its contract. Assumes nothing.
 use borrow.Author.Needs.{needs}
-use Rattle.operator.proofs.Listing.{numbered, answered}
+use Rattle.operator.proofs.Listing.{answered}
 use Rattle.operator.proofs.cellfacet_slots.Statement.{statement}
 use Rattle.operator.proofs.cellfacet_slots.Tie as tie
 
@@ -9,6 +9,6 @@ cellfacet-slots-spec =
     tie.close
     (tie.spec
     (λ c κs. search needs)  -- list-slots-requires
-    (λ c κs. search numbered)  -- word-requires
+    (λ c κs. search needs)  -- word-requires
     (λ c. search needs)  -- same-length
     (λ c. search answered))  -- returns

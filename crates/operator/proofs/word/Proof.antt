@@ -10,6 +10,7 @@ word-spec =
     (tie.spec
     (λ c. search needs)  -- enum-known-answer
     (λ c. search needs)  -- enum-known-answer-2
+    (λ c κs. search needs)  -- number-of-requires
     (λ c. search needs)  -- cast-result
     (λ c. search needs)  -- mul-result
     (λ c. search needs)  -- add-result

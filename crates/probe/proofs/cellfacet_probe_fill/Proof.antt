@@ -11,7 +11,8 @@ cellfacet-probe-fill-spec =
     (λ c κs. search needs)  -- fill-requires
     (λ c. search needs)  -- enum-known-length
     (λ c. search needs)  -- enum-known-refusal
-    (λ c. search needs)  -- cast-t12
+    (λ c κs. search needs)  -- number-of-requires
+    (λ c. search needs)  -- cast-t14
     (λ c. search needs)  -- same-length
     (λ c. search filling)  -- returns
     (λ c. search needs)  -- same-length-2

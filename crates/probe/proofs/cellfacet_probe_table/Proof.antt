@@ -13,6 +13,7 @@ cellfacet-probe-table-spec =
     (λ c. search needs)  -- mul-result
     (λ c. search needs)  -- add-result
     (λ c. search needs)  -- enum-known-refusal
+    (λ c κs. search needs)  -- number-of-requires
     (λ c. search needs)  -- cast-result
     (λ c. search needs)  -- mul-result-2
     (λ c. search needs)  -- add-result-2

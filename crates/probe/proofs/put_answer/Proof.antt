@@ -1,7 +1,7 @@
 -- `probe::put_answer` meets its contract. Assumes nothing.
 use borrow.Author.Needs.{needs}
 use Rattle.probe.specs.Values.{answerValues}
-use Rattle.probe.proofs.Putting.{put-one, put-none, by-case}
+use Rattle.probe.proofs.Putting.{put-one, put-known, put-none, by-case}
 use Rattle.probe.proofs.put_answer.Statement.{statement}
 use Rattle.probe.proofs.put_answer.Tie as tie
 
@@ -16,10 +16,11 @@ put-answer-spec =
     (λ c κs. search needs)  -- put-requires-4
     (λ c κs. search needs)  -- put-entry-requires
     (λ c. search needs)  -- enum-known-answer-2
+    (λ c κs. search needs)  -- number-of-requires
     (λ c. search needs)  -- cast-put
     (λ c κs. search needs)  -- put-requires-5
     (λ c κs. search needs)  -- put-requires-6
     (λ c. search needs)  -- same-length
     (λ c. by-case answerValues _ _ _ _ (c .before .before .before .before .before .before .before .before .before .before .before .before .before .before .before .before .before .before .before .before .before .answer .given .1) (put-one _ _ _ _ _ _ (c .before .before .before .before .before .before .before .before .before .before .before .before .before .before .before .before .before .before .put .ensures) (put-one _ _ _ _ _ _ (c .before .before .before .before .before .before .before .before .before .before .before .before .before .before .put2 .ensures) (put-one _ _ _ _ _ _ (c .before .before .before .before .before .before .before .before .before .before .put3 .ensures) (put-one _ _ _ _ _ _ (c .before .before .before .before .before .before .put4 .ensures) (c .before .before .put-entry .ensures))))))  -- returns
     (λ c. search needs)  -- same-length-2
-    (λ c. by-case answerValues _ _ _ _ (c .before .before .before .before .before .before .before .before .before .before .answer2 .given .1) (put-one _ _ _ _ _ _ (c .before .before .before .before .before .before .put5 .ensures) (put-one _ _ _ _ _ _ (c .before .before .put6 .ensures) (put-none _)))))  -- returns-2
+    (λ c. by-case answerValues _ _ _ _ (c .before .before .before .before .before .before .before .before .before .before .answer2 .given .1) (put-known _ _ _ _ _ _ _ (c .before .before .before .before .before .before .put5 .ensures) (c .before .before .before .before .before .before .before .number-of .ensures) (put-one _ _ _ _ _ _ (c .before .before .put6 .ensures) (put-none _)))))  -- returns-2

@@ -15,4 +15,6 @@ cellfacet-probe-finish-spec =
     (λ c κs. search needs)  -- finish-requires
     (λ c κs. search needs)  -- numbers-of-requires
     (λ c. search needs)  -- same-length
-    (λ c. step-told (λ w. finish (avm memoMost) w (c .before .before .before .before .before .before .before .before .args .buf .now)) _ _ _ _ _ (c .before .before .before .before .before .writer-of .ensures) (c .before .before .before .finish .ensures) (c .numbers-of .ensures)))  -- returns
+    (λ c. let a = c .before .before .before .before .before .before .before .before .args in
+    step-told (λ w. finish (avm memoMost) w (a .buf .now)) _ _ _ _ _
+    (c .before .before .before .before .before .writer-of .ensures) (c .before .before .before .finish .ensures) (c .numbers-of .ensures)))  -- returns

@@ -1,5 +1,6 @@
 -- `probe_writer::cellfacet_probe_input` meets its contract. Assumes nothing.
 use borrow.Author.Needs.{needs}
+use Rattle.transaction.specs.Answer.{memoMost}
 use Rattle.writer.specs.Fields.{addInput}
 use Rattle.probe_writer.proofs.Telling.{step-told}
 use Rattle.probe_writer.proofs.cellfacet_probe_input.Statement.{statement}
@@ -13,4 +14,7 @@ cellfacet-probe-input-spec =
     (λ c κs. search needs)  -- add-input-requires
     (λ c κs. search needs)  -- numbers-of-requires
     (λ c. search needs)  -- same-length
-    (λ c. step-told (λ w. addInput w (c .before .before .before .before .before .before .before .before .before .before .before .args .buf .now) (c .before .before .before .before .before .before .before .before .before .before .before .args .txid .now) (c .before .before .before .before .before .before .before .before .before .before .before .args .index) (c .before .before .before .before .before .before .before .before .before .before .before .args .asset .now) (c .before .before .before .before .before .before .before .before .before .before .before .args .amount) (c .before .before .before .before .before .before .before .before .before .before .before .args .indices .now)) _ _ _ _ _ (c .before .before .before .before .before .before .before .writer-of .ensures) (c .before .before .before .add-input .ensures) (c .numbers-of .ensures)))  -- returns
+    (λ c. let a = c .before .before .before .before .before .before .before .before .before .before .before .args in
+    step-told (λ w. addInput memoMost w (a .buf .now) (a .txid .now) (a .index) (a .asset .now) (a .amount) (a .indices .now)) _ _ _ _ _
+    (c .before .before .before .before .before .before .before .writer-of .ensures) (c .before .before .before .add-input .ensures)
+    (c .numbers-of .ensures)))  -- returns

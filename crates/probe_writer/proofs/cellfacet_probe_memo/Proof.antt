@@ -1,5 +1,6 @@
 -- `probe_writer::cellfacet_probe_memo` meets its contract. Assumes nothing.
 use borrow.Author.Needs.{needs}
+use Rattle.transaction.specs.Answer.{memoMost}
 use Rattle.writer.specs.Fields.{putMemo}
 use Rattle.probe_writer.proofs.Telling.{step-told}
 use Rattle.probe_writer.proofs.cellfacet_probe_memo.Statement.{statement}
@@ -13,4 +14,6 @@ cellfacet-probe-memo-spec =
     (λ c κs. search needs)  -- memo-requires
     (λ c κs. search needs)  -- numbers-of-requires
     (λ c. search needs)  -- same-length
-    (λ c. step-told (λ w. putMemo w (c .before .before .before .before .before .before .before .before .before .args .buf .now) (c .before .before .before .before .before .before .before .before .before .args .bytes .now)) _ _ _ _ _ (c .before .before .before .before .before .writer-of .ensures) (c .before .before .before .memo .ensures) (c .numbers-of .ensures)))  -- returns
+    (λ c. let a = c .before .before .before .before .before .before .before .before .before .args in
+    step-told (λ w. putMemo memoMost w (a .buf .now) (a .bytes .now)) _ _ _ _ _
+    (c .before .before .before .before .before .writer-of .ensures) (c .before .before .before .memo .ensures) (c .numbers-of .ensures)))  -- returns

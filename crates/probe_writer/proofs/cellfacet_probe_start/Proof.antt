@@ -15,4 +15,6 @@ cellfacet-probe-start-spec =
     (λ c κs. search needs)  -- start-requires
     (λ c κs. search needs)  -- numbers-of-requires
     (λ c. search needs)  -- same-length
-    (λ c. step-told (λ w. start (avm memoMost) w (c .before .before .before .before .before .before .before .before .before .args .buf .now) (c .before .before .before .before .before .before .before .before .before .args .kind) (c .before .before .before .before .before .before .before .before .before .args .network) (c .before .before .before .before .before .before .before .before .before .args .chain .now)) _ _ _ _ _ (c .before .before .before .before .before .before .writer-of .ensures) (c .before .before .before .start .ensures) (c .numbers-of .ensures)))  -- returns
+    (λ c. let a = c .before .before .before .before .before .before .before .before .before .args in
+    step-told (λ w. start (avm memoMost) w (a .buf .now) (a .kind) (a .network) (a .chain .now)) _ _ _ _ _
+    (c .before .before .before .before .before .before .writer-of .ensures) (c .before .before .before .start .ensures) (c .numbers-of .ensures)))  -- returns

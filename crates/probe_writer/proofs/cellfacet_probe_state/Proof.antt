@@ -1,5 +1,6 @@
 -- `probe_writer::cellfacet_probe_state` meets its contract. Assumes nothing.
 use borrow.Author.Needs.{needs}
+use Rattle.transaction.specs.Answer.{memoMost}
 use Rattle.writer.specs.Fields.{addInitialState}
 use Rattle.probe_writer.proofs.Telling.{step-told}
 use Rattle.probe_writer.proofs.cellfacet_probe_state.Statement.{statement}
@@ -13,4 +14,7 @@ cellfacet-probe-state-spec =
     (λ c κs. search needs)  -- add-initial-state-requires
     (λ c κs. search needs)  -- numbers-of-requires
     (λ c. search needs)  -- same-length
-    (λ c. step-told (λ w. addInitialState w (c .before .before .before .before .before .before .before .before .before .args .buf .now) (c .before .before .before .before .before .before .before .before .before .args .bytes .now)) _ _ _ _ _ (c .before .before .before .before .before .writer-of .ensures) (c .before .before .before .add-initial-state .ensures) (c .numbers-of .ensures)))  -- returns
+    (λ c. let a = c .before .before .before .before .before .before .before .before .before .args in
+    step-told (λ w. addInitialState memoMost w (a .buf .now) (a .bytes .now)) _ _ _ _ _
+    (c .before .before .before .before .before .writer-of .ensures) (c .before .before .before .add-initial-state .ensures)
+    (c .numbers-of .ensures)))  -- returns

@@ -9,13 +9,14 @@ numbers-of-spec =
     tie.close
     (tie.spec
     (λ c. search needs)  -- enum-known-answer
-    (λ c. search needs)  -- cast-t6
-    (λ c. search needs)  -- cast-t7
-    (λ c. search needs)  -- cast-t10
+    (λ c. search needs)  -- cast-t8
+    (λ c. search needs)  -- cast-t9
+    (λ c. search needs)  -- cast-t12
     (λ c. search needs)  -- enum-known-answer-2
-    (λ c. search needs)  -- cast-t13
-    (λ c. search needs)  -- cast-t14
-    (λ c. search needs)  -- cast-t17
+    (λ c. search needs)  -- cast-t15
+    (λ c. search needs)  -- cast-t16
     (λ c. search needs)  -- cast-t19
+    (λ c κs. search needs)  -- number-of-requires
+    (λ c. search needs)  -- cast-t22
     (λ c. search telling)  -- returns
     (λ c. search telling))  -- returns-2

@@ -16,5 +16,6 @@ denomination-at-spec =
     (λ c. search needs)  -- enum-told
     (λ c κs. search needs)  -- cut-requires
     (λ c. search reading depth 12)  -- returns
+    (λ c κs. search needs)  -- refuse-requires
     (λ c. search reading depth 12)  -- returns-2
     (λ c. search reading depth 12))  -- returns-3

@@ -16,6 +16,7 @@ string-at-spec =
     (λ c. search needs)  -- enum-told
     (λ c κs. search needs)  -- cut-requires
     (λ c. search reading depth 12)  -- returns
+    (λ c κs. search needs)  -- refuse-requires
     (λ c. search reading depth 12)  -- returns-2
     (λ c κs. search needs)  -- part-at-requires
     (λ c. search reading depth 12))  -- returns-3

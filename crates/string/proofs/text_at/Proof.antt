@@ -17,7 +17,9 @@ text-at-spec =
     (λ c. search needs)  -- enum-told
     (λ c κs. search needs)  -- cut-requires
     (λ c. search (on-value, on-short, tests) depth 12)  -- returns
+    (λ c κs. search needs)  -- refuse-requires
     (λ c. search (on-value, on-short, tests) depth 12)  -- returns-2
+    (λ c κs. search needs)  -- refuse-requires-2
     (λ c. search (on-value, on-short, tests) depth 12)  -- returns-3
     (λ c κs. search needs)  -- part-at-requires
     (λ c. search needs)  -- enum-known-next
@@ -27,5 +29,6 @@ text-at-spec =
     (λ c κs. search needs)  -- between-requires
     (λ c κs. search needs)  -- first-unprintable-requires
     (λ c. search (needs, unprintable-fits))  -- add-t19
+    (λ c κs. search needs)  -- refuse-requires-3
     (λ c. search (on-value, on-part, tests, if-unprintable) depth 12)  -- returns-5
     (λ c. search (on-value, on-part, tests, if-printable) depth 12))  -- returns-6

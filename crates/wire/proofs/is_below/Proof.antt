@@ -1,7 +1,6 @@
 -- `wire::is_below` meets its contract. The invariant: what is left of the comparison, from index i on, is the whole. Assumes nothing.
 use Prim.Native.Nat.{_-_}
 use mathlib.Core.Path.{_≡_}
-use lib.ListN.{length}
 use borrow.Author.Needs.{needs}
 use Rattle.wire.specs.Bytes.{below}
 use Rattle.wire.proofs.Bytes.{belowFrom, below-all, separating}
@@ -9,10 +8,10 @@ use Rattle.wire.proofs.is_below.Statement.{statement}
 use Rattle.wire.proofs.is_below.Tie as tie
 
 abbrev Inv-loop : tie.InvT-loop
-Inv-loop a b i₀ i = belowFrom a b i ≡ below a b
+Inv-loop a b most i₀ i = belowFrom a b i ≡ below a b
 
 abbrev μ-loop : tie.MeasureT-loop
-μ-loop a b i₀ i = length a - i
+μ-loop a b most i₀ i = most - i
 
 pub is-below-spec : {M : Type 1} → statement M
 is-below-spec =
@@ -20,14 +19,14 @@ is-below-spec =
     (tie.spec
     Inv-loop
     μ-loop
+    (λ c κs. search needs)  -- shorter-requires
     (λ c. below-all _ _)  -- loop-holds
-    (λ c. search separating)  -- returns
-    (λ c. search needs)  -- shared-slice-read-if2
-    (λ c. search needs)  -- shared-slice-read-if2-2
+    (λ c. search needs)  -- shared-slice-read-if
+    (λ c. search needs)  -- shared-slice-read-if-2
     (λ c. search needs)  -- shared-slice-read-result
     (λ c. search needs)  -- shared-slice-read-result-2
-    (λ c. search separating)  -- returns-2
+    (λ c. search separating)  -- returns
     (λ c. search needs)  -- add-i
     (λ c. search needs)  -- loop-less
     (λ c. search separating)  -- loop-again
-    (λ c. search separating))  -- returns-3
+    (λ c. search separating))  -- returns-2

@@ -1,9 +1,8 @@
--- `checker::body::head_at` meets its contract.
--- Assumes nothing.
+-- `checker::body::head_at` meets its contract. Assumes nothing.
 use borrow.Author.Needs.{needs}
-use Rattle.wire.specs.Fields.{constant}
-use Rattle.transaction.specs.Family.{head}
 use Rattle.transaction.proofs.Reading.{heading}
+use Rattle.transaction.specs.Family.{head}
+use Rattle.wire.specs.Fields.{constant}
 use Rattle.checker.proofs.body.head_at.Statement.{statement}
 use Rattle.checker.proofs.body.head_at.Tie as tie
 
@@ -17,12 +16,15 @@ head-at-spec =
     (λ c. search needs)  -- enum-told
     (λ c κs. search needs)  -- cut-requires
     (λ c. search heading depth 12)  -- returns
+    (λ c κs. search needs)  -- refuse-requires
     (λ c. search heading depth 12)  -- returns-2
     (λ c κs. search needs)  -- u32-at-requires
     (λ c. search needs)  -- enum-known-number
     (λ c. search needs)  -- enum-told-2
     (λ c κs. search needs)  -- cut-requires-2
     (λ c. search heading depth 12)  -- returns-3
+    (λ c κs. search needs)  -- is-type-requires
+    (λ c κs. search needs)  -- refuse-requires-2
     (λ c. search heading depth 12)  -- returns-4
     (λ c κs. search needs)  -- u32-at-requires-2
     (λ c. search needs)  -- enum-known-c
@@ -34,5 +36,4 @@ head-at-spec =
     (λ c. search needs)  -- enum-told-4
     (λ c κs. search needs)  -- cut-requires-4
     (λ c. search heading depth 12)  -- returns-6
-    (λ c κs. search needs)  -- kind-of-requires
     (λ c. search heading depth 12))  -- returns-7

@@ -1,8 +1,7 @@
--- `checker::body::outputs_at` meets its contract.
--- Assumes nothing.
+-- `checker::body::outputs_at` meets its contract. Assumes nothing.
 use borrow.Author.Needs.{needs}
-use Rattle.transaction.specs.Plan.{atLeast}
 use Rattle.transaction.proofs.Reading.{listing}
+use Rattle.transaction.specs.Form.{atLeast}
 use Rattle.checker.proofs.body.outputs_at.Statement.{statement}
 use Rattle.checker.proofs.body.outputs_at.Tie as tie
 
@@ -15,10 +14,7 @@ outputs-at-spec =
     (λ c. search needs)  -- enum-known-count
     (λ c. search needs)  -- enum-told
     (λ c κs. search needs)  -- cut-requires
-    (λ c. search listing depth 8)  -- returns
-    (λ c. search listing depth 8)  -- returns-2
+    (λ c. search listing depth 12)  -- returns
+    (λ c. search listing depth 12)  -- returns-2
     (λ c κs. search needs)  -- outputs-from-requires
-    (λ c. search needs)  -- enum-known-next
-    (λ c. search needs)  -- enum-known-refusal
-    (λ c. search listing depth 8)  -- returns-3
-    (λ c. search listing depth 8))  -- returns-4
+    (λ c. search listing depth 12))  -- returns-3

@@ -1,8 +1,8 @@
--- `checker::body::unsigned_at` meets its contract.
--- Assumes nothing.
+-- `checker::body::unsigned_at` meets its contract. Assumes nothing.
 use borrow.Author.Needs.{needs}
+use native.Mathlib.Omega.{arith}
+use Rattle.checker.proofs.Unsigned.{head-small, unsigning}
 use Rattle.transaction.specs.Family.{unsigned}
-use Rattle.transaction.proofs.Reading.{on-head, on-head-refused, on-body}
 use Rattle.checker.proofs.body.unsigned_at.Statement.{statement}
 use Rattle.checker.proofs.body.unsigned_at.Tie as tie
 
@@ -13,7 +13,12 @@ unsigned-at-spec =
     (tie.spec
     (λ c κs. search needs)  -- head-at-requires
     (λ c. search needs)  -- enum-known-refusal
-    (λ c. search needs)  -- enum-known-kind
-    (λ c κs. search needs)  -- body-at-requires
-    (λ c. search (on-head, on-head-refused, on-body) depth 12)  -- returns
-    (λ c. search (on-head, on-head-refused, on-body) depth 12))  -- returns-2
+    (λ c. search needs)  -- enum-known-number
+    (λ c. omega (arith, head-small _ _ _ _ (c .before .before .before .head-at .ensures) (c .before .number .given .1)))  -- cast-kind
+    (λ c κs. search needs)  -- outputs-at-requires
+    (λ c. search needs)  -- enum-known-refusal-2
+    (λ c. search needs)  -- enum-known-inputs-at
+    (λ c κs. search needs)  -- plan-at-requires
+    (λ c. search unsigning depth 12)  -- returns
+    (λ c. search unsigning depth 12)  -- returns-2
+    (λ c. search unsigning depth 12))  -- returns-3

@@ -1,9 +1,8 @@
--- `checker::credentials::credential_at` meets its contract.
--- Assumes nothing.
+-- `checker::credentials::credential_at` meets its contract. Assumes nothing.
 use borrow.Author.Needs.{needs}
+use Rattle.transaction.proofs.Reading.{piecewise}
 use Rattle.transaction.specs.Credentials.{pieces}
 use Rattle.wire.specs.Fields.{constant}
-use Rattle.transaction.proofs.Reading.{piecewise}
 use Rattle.checker.proofs.credentials.credential_at.Statement.{statement}
 use Rattle.checker.proofs.credentials.credential_at.Tie as tie
 
@@ -17,15 +16,14 @@ credential-at-spec =
     (λ c. search needs)  -- enum-told
     (λ c κs. search needs)  -- cut-requires
     (λ c. search piecewise depth 12)  -- returns
+    (λ c κs. search needs)  -- refuse-requires
     (λ c. search piecewise depth 12)  -- returns-2
     (λ c κs. search needs)  -- u32-at-requires-2
     (λ c. search needs)  -- enum-known-count
     (λ c. search needs)  -- enum-told-2
     (λ c κs. search needs)  -- cut-requires-2
     (λ c. search piecewise depth 12)  -- returns-3
+    (λ c κs. search needs)  -- refuse-requires-2
     (λ c. search piecewise depth 12)  -- returns-4
     (λ c κs. search needs)  -- signatures-at-requires
-    (λ c. search needs)  -- enum-known-next
-    (λ c. search needs)  -- enum-known-refusal
-    (λ c. search piecewise depth 12)  -- returns-5
-    (λ c. search piecewise depth 12))  -- returns-6
+    (λ c. search piecewise depth 12))  -- returns-5

@@ -1,8 +1,8 @@
--- `checker::credentials::credentials_at` meets its contract.
--- Assumes nothing.
+-- `checker::credentials::credentials_at` meets its contract. Assumes nothing.
 use borrow.Author.Needs.{needs}
-use Rattle.wire.proofs.Reading.{on-value, on-short}
-use Rattle.transaction.proofs.Reading.{if-wanted, if-fewer, if-other, on-part-next′, on-part-refused′}
+use Rattle.checker.proofs.Besides.{counted-short}
+use Rattle.checker.proofs.Besides.{counted-other}
+use Rattle.checker.proofs.Besides.{counted-same}
 use Rattle.checker.proofs.credentials.credentials_at.Statement.{statement}
 use Rattle.checker.proofs.credentials.credentials_at.Tie as tie
 
@@ -14,13 +14,9 @@ credentials-at-spec =
     (λ c. search needs)  -- enum-known-count
     (λ c. search needs)  -- enum-told
     (λ c κs. search needs)  -- cut-requires
-    (λ c. search (on-value, on-short, if-wanted, if-fewer, if-other, on-part-next′, on-part-refused′) depth 10)  -- returns
-    (λ c κs. search needs)  -- own-wants-requires
-    (λ c. search (on-value, on-short, if-wanted, if-fewer, if-other, on-part-next′, on-part-refused′) depth 10)  -- returns-2
-    (λ c. search (on-value, on-short, if-wanted, if-fewer, if-other, on-part-next′, on-part-refused′) depth 10)  -- returns-3
-    (λ c κs. search needs)  -- beside-base-inputs-requires
-    (λ c. search needs)  -- enum-known-refusal
-    (λ c. search needs)  -- enum-known-m
-    (λ c κs. search needs)  -- beside-own-requires
-    (λ c. search (on-value, on-short, if-wanted, if-fewer, if-other, on-part-next′, on-part-refused′) depth 10)  -- returns-4
-    (λ c. search (on-value, on-short, if-wanted, if-fewer, if-other, on-part-next′, on-part-refused′) depth 10))  -- returns-5
+    (λ c. search (counted-short, counted-other, counted-same) depth 12)  -- returns
+    (λ c κs. search needs)  -- refuse-requires
+    (λ c. search (counted-short, counted-other, counted-same) depth 12)  -- returns-2
+    (λ c κs. search needs)  -- first-wanting-requires
+    (λ c κs. search needs)  -- beside-requires
+    (λ c. search (counted-short, counted-other, counted-same) depth 12))  -- returns-3

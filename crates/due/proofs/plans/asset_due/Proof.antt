@@ -1,7 +1,7 @@
 -- `due::plans::asset_due` meets its contract. Assumes nothing.
 use mathlib.Core.Path.{refl}
 use native.Mathlib.Omega.{arith}
-use Rattle.transaction.specs.Avm.{ownPlan}
+use Rattle.transaction.specs.Plan.{ownPlan}
 use Rattle.transaction.specs.declared.Kind.the-variants as K
 use Rattle.due.proofs.Rows.{at-part, past}
 use Rattle.due.proofs.plans.asset_due.Statement.{statement}

@@ -38,5 +38,6 @@ indices-from-spec =
     (λ c. search needs)  -- sub-left
     (λ c. search needs)  -- loop-less
     (λ c. search (turn, value-small, if-number-follows) depth 10)  -- loop-again
+    (λ c κs. search needs)  -- refuse-requires
     (λ c. search (turn, value-small, if-number-not) depth 10)  -- returns-2
     (λ c. search list-end))  -- returns-3

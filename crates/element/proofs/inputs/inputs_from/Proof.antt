@@ -10,7 +10,7 @@ use Rattle.wire.specs.Fields.{number}
 use Rattle.wire.specs.Sequence.{guard}
 use Rattle.wire.specs.Series.{series}
 use Rattle.wire.specs.Answer.{ended}
-use Rattle.wire.proofs.Reading.{list-on, list-end, on-part-there, on-cut, on-value, on-short, value-small}
+use Rattle.wire.proofs.Reading.{list-on, list-end, on-part-there, on-cut, on-value, on-short, value-small, part-made}
 use Rattle.element.specs.Inputs.{key, inputAfter, input}
 use Rattle.element.proofs.Reading.{if-key-follows, if-key-not, key-again, id-length, inputsAfter, inputs-are, on-spend, on-spend-refused}
 use Rattle.element.proofs.inputs.inputs_from.Statement.{statement}
@@ -50,5 +50,6 @@ inputs-from-spec =
     (λ c. search needs)  -- sub-left
     (λ c. search needs)  -- loop-less
     (λ c. (search id-length, search value-small, search (list-on, on-part-there, on-value, value-small, if-key-follows, on-spend, key-again) depth 10))  -- loop-again
-    (λ c. search (list-on, on-part-there, on-cut, on-value, on-short, value-small, if-key-not) depth 10)  -- returns-4
+    (λ c κs. search needs)  -- refuse-requires
+    (λ c. search (list-on, on-part-there, on-value, value-small, if-key-not, part-made) depth 10)  -- returns-4
     (λ c. search list-end))  -- returns-5

@@ -1,5 +1,4 @@
--- `element::inputs::spend_at` meets its contract.
--- Assumes nothing.
+-- `element::inputs::spend_at` meets its contract. Assumes nothing.
 use borrow.Author.Needs.{needs}
 use Rattle.element.proofs.Reading.{reading}
 use Rattle.element.specs.Inputs.{spend}
@@ -21,17 +20,16 @@ spend-at-spec =
     (λ c. search needs)  -- enum-told-2
     (λ c κs. search needs)  -- cut-requires-2
     (λ c. search reading depth 12)  -- returns-2
+    (λ c κs. search needs)  -- refuse-requires
     (λ c. search reading depth 12)  -- returns-3
-    (λ c κs. search needs)  -- u64-at-requires
-    (λ c. search needs)  -- enum-known-amount
+    (λ c κs. search needs)  -- amount-at-requires
+    (λ c. search needs)  -- enum-known-refusal
+    (λ c. search needs)  -- enum-known-n
+    (λ c κs. search needs)  -- u32-at-requires-2
+    (λ c. search needs)  -- enum-known-count
     (λ c. search needs)  -- enum-told-3
     (λ c κs. search needs)  -- cut-requires-3
     (λ c. search reading depth 12)  -- returns-4
-    (λ c. search reading depth 12)  -- returns-5
-    (λ c κs. search needs)  -- u32-at-requires-2
-    (λ c. search needs)  -- enum-known-count
-    (λ c. search needs)  -- enum-told-4
-    (λ c κs. search needs)  -- cut-requires-4
-    (λ c. search reading depth 12)  -- returns-6
     (λ c κs. search needs)  -- indices-from-requires
-    (λ c. search reading depth 12))  -- returns-7
+    (λ c. search reading depth 12)  -- returns-5
+    (λ c. search reading depth 12))  -- returns-6

@@ -6,7 +6,7 @@ use Rattle.wire.specs.Series.{unordered}
 use Rattle.wire.specs.Answer.{ended}
 use Rattle.wire.proofs.Reading.{list-on, list-end}
 use Rattle.element.specs.Operations.{operation}
-use Rattle.element.proofs.Reading.{on-asked, on-asked-refused, unordered-again}
+use Rattle.element.proofs.Reading.{on-operation, on-operation-refused, unordered-again}
 use Rattle.element.proofs.operations.operations_from.Statement.{statement}
 use Rattle.element.proofs.operations.operations_from.Tie as tie
 
@@ -24,11 +24,11 @@ operations-from-spec =
     Inv-loop
     μ-loop
     (λ c. refl)  -- loop-holds
-    (λ c κs. search needs)  -- asked-by-operation-requires
+    (λ c κs. search needs)  -- operation-at-requires
     (λ c. search needs)  -- enum-known-refusal
-    (λ c. search (list-on, on-asked-refused) depth 6)  -- returns
+    (λ c. search (list-on, on-operation-refused) depth 6)  -- returns
     (λ c. search needs)  -- enum-known-next
     (λ c. search needs)  -- sub-left
     (λ c. search needs)  -- loop-less
-    (λ c. search (list-on, on-asked, unordered-again operation) depth 6)  -- loop-again
+    (λ c. search (list-on, on-operation, unordered-again operation) depth 6)  -- loop-again
     (λ c. search list-end))  -- returns-2

@@ -10,7 +10,7 @@ use Rattle.wire.specs.Fields.{number}
 use Rattle.wire.specs.Sequence.{guard}
 use Rattle.wire.specs.Series.{above, seriesFrom, increasing}
 use Rattle.wire.specs.Answer.{ended}
-use Rattle.wire.proofs.Reading.{list-on, list-end, on-part-there, on-cut, on-value, on-short, value-small}
+use Rattle.wire.proofs.Reading.{list-on, list-end, on-part-there, on-cut, on-value, on-short, value-small, part-made}
 use Rattle.element.specs.Inputs.{key}
 use Rattle.element.proofs.Reading.{if-key-follows, if-key-not, key-again}
 use Rattle.element.proofs.operations.pairs_from.Statement.{statement}
@@ -46,5 +46,6 @@ pairs-from-spec =
     (λ c. search needs)  -- sub-left
     (λ c. search needs)  -- loop-less
     (λ c. search (list-on, on-part-there, on-value, value-small, if-key-follows, key-again) depth 10)  -- loop-again
-    (λ c. search (list-on, on-part-there, on-cut, on-value, on-short, value-small, if-key-not) depth 10)  -- returns-3
+    (λ c κs. search needs)  -- refuse-requires
+    (λ c. search (list-on, on-part-there, on-value, value-small, if-key-not, part-made) depth 10)  -- returns-3
     (λ c. search list-end))  -- returns-4

@@ -35,6 +35,7 @@ states-from-spec =
     (λ c. search needs)  -- enum-told
     (λ c κs. search needs)  -- cut-requires
     (λ c. search (list-on, on-fx, on-fx-unknown, on-fx-short) depth 10)  -- returns
+    (λ c κs. search needs)  -- refuse-requires
     (λ c. search (list-on, on-fx, on-fx-unknown) depth 10)  -- returns-2
     (λ c κs. search needs)  -- number-follows-requires
     (λ c κs. search needs)  -- state-outputs-at-requires
@@ -44,5 +45,6 @@ states-from-spec =
     (λ c. search needs)  -- sub-left
     (λ c. search needs)  -- loop-less
     (λ c. (search needs, search (list-on, on-fx, if-fx-follows, on-state-outputs, fx-again) depth 10))  -- loop-again
+    (λ c κs. search needs)  -- refuse-requires-2
     (λ c. search (list-on, on-fx, on-fx-unknown, on-fx-short, if-fx-follows, if-fx-not) depth 10)  -- returns-4
     (λ c. search list-end))  -- returns-5

@@ -12,6 +12,7 @@ in-order-spec =
     (λ c. search needs)  -- enum-known-refusal
     (λ c. search needs)  -- enum-known-next
     (λ c κs. search needs)  -- parts-below-requires
+    (λ c κs. search needs)  -- refuse-requires
     (λ c. search comparing)  -- returns
     (λ c. search comparing)  -- returns-2
     (λ c. search comparing))  -- returns-3

@@ -23,6 +23,7 @@ nft-at-spec =
     (λ c. search reading depth 12)  -- returns-2
     (λ c κs. search needs)  -- owners-at-requires
     (λ c. search reading depth 12)  -- returns-3
+    (λ c κs. search needs)  -- refuse-requires
     (λ c. search reading depth 12)  -- returns-4
     (λ c κs. search needs)  -- u32-at-requires-3
     (λ c. search needs)  -- enum-known-p

@@ -18,6 +18,7 @@ secp-at-spec =
     (λ c. search reading depth 12)  -- returns
     (λ c κs. search needs)  -- owners-at-requires
     (λ c. search reading depth 12)  -- returns-2
+    (λ c κs. search needs)  -- refuse-requires
     (λ c. search reading depth 12)  -- returns-3
     (λ c κs. search needs)  -- transfer-body-at-requires
     (λ c. search reading depth 12))  -- returns-4

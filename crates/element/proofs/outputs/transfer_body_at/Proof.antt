@@ -1,5 +1,4 @@
--- `element::outputs::transfer_body_at` meets its contract.
--- Assumes nothing.
+-- `element::outputs::transfer_body_at` meets its contract. Assumes nothing.
 use borrow.Author.Needs.{needs}
 use Rattle.element.proofs.Reading.{reading}
 use Rattle.element.specs.Outputs.{transferBody}
@@ -11,11 +10,9 @@ unfolding transferBody
 transfer-body-at-spec =
     tie.close
     (tie.spec
-    (λ c κs. search needs)  -- u64-at-requires
-    (λ c. search needs)  -- enum-known-amount
-    (λ c. search needs)  -- enum-told
-    (λ c κs. search needs)  -- cut-requires
-    (λ c. search reading depth 12)  -- returns
-    (λ c. search reading depth 12)  -- returns-2
+    (λ c κs. search needs)  -- amount-at-requires
+    (λ c. search needs)  -- enum-known-refusal
+    (λ c. search needs)  -- enum-known-o
     (λ c κs. search needs)  -- owners-at-requires
-    (λ c. search reading depth 12))  -- returns-3
+    (λ c. search reading depth 12)  -- returns
+    (λ c. search reading depth 12))  -- returns-2

@@ -21,6 +21,7 @@ transferable-at-spec =
     (λ c. search needs)  -- enum-told-2
     (λ c κs. search needs)  -- cut-requires-2
     (λ c. search reading depth 12)  -- returns-2
+    (λ c κs. search needs)  -- refuse-requires
     (λ c. search reading depth 12)  -- returns-3
     (λ c κs. search needs)  -- transfer-body-at-requires
     (λ c. search reading depth 12))  -- returns-4

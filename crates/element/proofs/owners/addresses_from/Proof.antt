@@ -47,6 +47,7 @@ addresses-from-spec =
     (λ c. search needs)  -- sub-left-2
     (λ c. search needs)  -- loop-less
     (λ c. address-again _ (c .before .before .before .before .before .before .before .before .before .before .before .before .before .before .before .before .before .shared-slice-known .given) (c .before .before .before .before .before .before .before .before .before .before .before .before .loop .left) (c .before .before .before .before .before .before .before .before .before .before .before .before .loop .prev) _ _ (c .before .before .before .before .before .before .before .before .before .before .part-at2 .ensures) (c .before .before .before .before .before .before .before .before .at .given .1) (omega arith) _ (c .before .before .before .before .before .before .before .before .before .before .before .before .loop .inv) _ _ (c .before .before .before .before .before .before .part-at3 .ensures) (c .before .before .before .before .enum-told4 .given .1) _ _ (c .before .before .before .address-at .ensures) (c .before .before .address-at2 .ensures) _ (c .before .address-below .ensures) (c .if2 .taken))  -- loop-again
-    (λ c. address-not _ (c .before .before .before .before .before .before .before .before .before .before .before .before .before .before .before .before .before .shared-slice-known .given) (c .before .before .before .before .before .before .before .before .before .before .before .before .loop .left) (c .before .before .before .before .before .before .before .before .before .before .before .before .loop .prev) _ _ (c .before .before .before .before .before .before .before .before .before .before .part-at2 .ensures) (c .before .before .before .before .before .before .before .before .at .given .1) (omega arith) _ (c .before .before .before .before .before .before .before .before .before .before .before .before .loop .inv) _ _ (c .before .before .before .before .before .before .part-at3 .ensures) (c .before .before .before .before .enum-told4 .given .1) _ _ (c .before .before .before .address-at .ensures) (c .before .before .address-at2 .ensures) _ (c .before .address-below .ensures) (c .if2 .left))  -- returns-5
+    (λ c κs. search needs)  -- refuse-requires
+    (λ c. address-not _ (c .before .before .before .before .before .before .before .before .before .before .before .before .before .before .before .before .before .before .shared-slice-known .given) (c .before .before .before .before .before .before .before .before .before .before .before .before .before .loop .left) (c .before .before .before .before .before .before .before .before .before .before .before .before .before .loop .prev) _ _ (c .before .before .before .before .before .before .before .before .before .before .before .part-at2 .ensures) (c .before .before .before .before .before .before .before .before .before .at .given .1) (omega arith) _ (c .before .before .before .before .before .before .before .before .before .before .before .before .before .loop .inv) _ _ (c .before .before .before .before .before .before .before .part-at3 .ensures) (c .before .before .before .before .before .enum-told4 .given .1) _ _ (c .before .before .before .before .address-at .ensures) (c .before .before .before .address-at2 .ensures) _ (c .before .before .address-below .ensures) (c .before .if2 .left) _ (c .refuse .ensures))  -- returns-5
     (λ c κs. search needs)  -- part-at-requires-4
     (λ c. search address-last))  -- returns-6

@@ -27,6 +27,7 @@ owners-at-spec =
     (λ c κs. search needs)  -- cut-requires-3
     (λ c. search reading depth 12)  -- returns-3
     (λ c κs. search needs)  -- threshold-fits-requires
+    (λ c κs. search needs)  -- refuse-requires
     (λ c. search (reading, if-unfit) depth 12)  -- returns-4
     (λ c κs. search needs)  -- addresses-from-requires
     (λ c. search (reading, if-fits) depth 12))  -- returns-5

@@ -1,7 +1,7 @@
 -- `judge::elements::operation_rules` meets its contract. Assumes nothing.
 use borrow.Author.Needs.{needs}
 use Rattle.wire.proofs.Reading.{tests}
-use Rattle.element.proofs.Reading.{on-asked, on-asked-refused}
+use Rattle.element.proofs.Reading.{on-operation, on-operation-refused}
 use Rattle.judge.specs.Judged.{judged}
 use Rattle.judge.proofs.elements.operation_rules.Statement.{statement}
 use Rattle.judge.proofs.elements.operation_rules.Tie as tie
@@ -11,9 +11,11 @@ unfolding judged
 operation-rules-spec =
     tie.close
     (tie.spec
-    (λ c κs. search needs)  -- asked-by-operation-requires
+    (λ c κs. search needs)  -- operation-at-requires
     (λ c. search needs)  -- enum-known-refusal
+    (λ c κs. search needs)  -- without-place-requires
     (λ c. search needs)  -- enum-known-end
-    (λ c. search (on-asked, on-asked-refused, tests) depth 10)  -- returns
-    (λ c. search (on-asked, on-asked-refused, tests) depth 10)  -- returns-2
-    (λ c. search (on-asked, on-asked-refused, tests) depth 10))  -- returns-3
+    (λ c. search (on-operation, on-operation-refused, tests) depth 10)  -- returns
+    (λ c κs. search needs)  -- bar-requires
+    (λ c. search (on-operation, on-operation-refused, tests) depth 10)  -- returns-2
+    (λ c. search (on-operation, on-operation-refused, tests) depth 10))  -- returns-3

@@ -13,8 +13,11 @@ input-rules-spec =
     (λ c. search needs)  -- slice-aggregate-between
     (λ c κs. search needs)  -- between-requires-2
     (λ c κs. search needs)  -- is-below-requires
+    (λ c κs. search needs)  -- bar-requires
     (λ c. search of-input depth 12)  -- returns
+    (λ c κs. search needs)  -- bar-requires-2
     (λ c. search of-input depth 12)  -- returns-2
     (λ c κs. search needs)  -- indices-rise-requires
+    (λ c κs. search needs)  -- bar-requires-3
     (λ c. search of-input depth 12)  -- returns-3
     (λ c. search of-input depth 12))  -- returns-4

@@ -1,6 +1,7 @@
 -- `judge::texts::denomination_rules` meets its contract. Assumes nothing.
 use mathlib.Core.Path.{refl}
 use native.Mathlib.Omega.{arith}
+use borrow.Author.Needs.{needs}
 use Rattle.wire.proofs.Reading.{if-le, if-not-le}
 use Rattle.judge.proofs.texts.denomination_rules.Statement.{statement}
 use Rattle.judge.proofs.texts.denomination_rules.Tie as tie
@@ -9,5 +10,6 @@ pub denomination-rules-spec : {M : Type 1} → statement M
 denomination-rules-spec =
     tie.close
     (tie.spec
-    (λ c. if-not-le (c .before .args .value) 32 _ _ _ (omega (arith, c .if1 .taken)) refl)  -- returns
+    (λ c κs. search needs)  -- bar-requires
+    (λ c. if-not-le (c .before .before .args .value) 32 _ _ _ (omega (arith, c .before .if1 .taken)) (c .bar .ensures))  -- returns
     (λ c. if-le (c .before .args .value) 32 _ _ _ (omega (arith, c .if1 .left)) refl))  -- returns-2

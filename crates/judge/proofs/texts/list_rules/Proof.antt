@@ -1,4 +1,5 @@
 -- `judge::texts::list_rules` meets its contract. Assumes nothing.
+use borrow.Author.Needs.{needs}
 use Rattle.wire.proofs.Reading.{tests}
 use Rattle.judge.proofs.texts.list_rules.Statement.{statement}
 use Rattle.judge.proofs.texts.list_rules.Tie as tie
@@ -7,5 +8,6 @@ pub list-rules-spec : {M : Type 1} → statement M
 list-rules-spec =
     tie.close
     (tie.spec
+    (λ c κs. search needs)  -- bar-requires
     (λ c. search tests depth 8)  -- returns
     (λ c. search tests depth 8))  -- returns-2

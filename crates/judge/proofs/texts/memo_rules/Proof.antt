@@ -1,8 +1,8 @@
 -- `judge::texts::memo_rules` meets its contract. Assumes nothing.
 use mathlib.Core.Path.{refl}
 use native.Mathlib.Omega.{arith}
+use borrow.Author.Needs.{needs}
 use Rattle.wire.proofs.Reading.{if-le, if-not-le}
-use Rattle.transaction.specs.Answer.{memoMost}
 use Rattle.judge.proofs.texts.memo_rules.Statement.{statement}
 use Rattle.judge.proofs.texts.memo_rules.Tie as tie
 
@@ -10,5 +10,6 @@ pub memo-rules-spec : {M : Type 1} → statement M
 memo-rules-spec =
     tie.close
     (tie.spec
-    (λ c. if-not-le (c .before .args .count) memoMost _ _ _ (omega (arith, c .if1 .taken)) refl)  -- returns
-    (λ c. if-le (c .before .args .count) memoMost _ _ _ (omega (arith, c .if1 .left)) refl))  -- returns-2
+    (λ c κs. search needs)  -- bar-requires
+    (λ c. if-not-le (c .before .before .args .count) (c .before .before .args .most) _ _ _ (omega (arith, c .before .if1 .taken)) (c .bar .ensures))  -- returns
+    (λ c. if-le (c .before .args .count) (c .before .args .most) _ _ _ (omega (arith, c .if1 .left)) refl))  -- returns-2

@@ -1,20 +1,15 @@
--- `table::rows::find` meets its contract. The invariant: the one that is looked for among those that are left is the one that is looked for.
--- Assumes nothing.
+-- `table::rows::find` meets its contract. The invariant: the one that is looked for is the one of that number ahead. Assumes nothing.
 use borrow.Author.Needs.{needs}
-use mathlib.Core.Path.{_≡_, refl, ap}
-use Rattle.walk.specs.Walk.{start, rest}
-use Rattle.table.specs.Rows.{nth}
-use Rattle.table.proofs.Rest.{ahead, found-ahead, moved-ahead}
-use Rattle.table.proofs.Counting.{nth-done, nth-moved, nth-found, nth-next}
+use Rattle.walk.specs.Walk.{ahead}
+use Rattle.table.proofs.Looping.{Looked, finding, moved-less, found-less}
 use Rattle.table.proofs.rows.find.Statement.{statement}
 use Rattle.table.proofs.rows.find.Tie as tie
 
 abbrev Inv-loop : tie.InvT-loop
-Inv-loop s layout n cursor₀ left₀ cursor left =
-    nth left (rest layout s cursor) ≡ nth n (rest layout s (start layout))
+Inv-loop s kind n cursor₀ left₀ cursor left = Looked n kind s cursor left
 
 abbrev μ-loop : tie.MeasureT-loop
-μ-loop s layout n cursor₀ left₀ cursor left = ahead layout s cursor
+μ-loop s kind n cursor₀ left₀ cursor left = ahead cursor
 
 pub find-spec : {M : Type 1} → statement M
 find-spec =
@@ -23,15 +18,15 @@ find-spec =
     Inv-loop
     μ-loop
     (λ c κs. search needs)  -- first-requires
-    (λ c. ap (λ d. nth (c .before .before .args .n) (rest (c .before .before .args .layout) (c .before .before .args .s .now) d)) (c .first .ensures))  -- loop-holds
+    (λ c. search finding)  -- loop-holds
     (λ c κs. search needs)  -- step-requires
     (λ c. search needs)  -- enum-told
-    (λ c. nth-done (c .before .before .before .before .before .before .args .layout) (c .before .before .before .before .before .before .args .s .now) (c .before .before .before .loop .cursor) _ (c .before .before .step .ensures) _ _ (c .before .before .before .loop .inv) (c .enum-told .given .1))  -- returns
+    (λ c. search finding)  -- returns
     (λ c. search needs)  -- enum-known-next
-    (λ c. moved-ahead (c .before .before .before .before .before .before .before .args .layout) (c .before .before .before .before .before .before .before .args .s .now) (c .before .before .before .before .loop .cursor) _ (c .before .before .before .step .ensures) _ (c .before .next .given .1))  -- loop-less
-    (λ c. nth-moved (c .before .before .before .before .before .before .before .args .layout) (c .before .before .before .before .before .before .before .args .s .now) (c .before .before .before .before .loop .cursor) _ (c .before .before .before .step .ensures) _ _ (c .before .before .before .before .loop .inv) _ (c .before .next .given .1))  -- loop-again
+    (λ c. search moved-less)  -- loop-less
+    (λ c. search finding)  -- loop-again
     (λ c. search needs)  -- enum-known-row
-    (λ c. nth-found (c .before .before .before .before .before .before .before .before .args .layout) (c .before .before .before .before .before .before .before .before .args .s .now) (c .before .before .before .before .before .loop .cursor) _ (c .before .before .before .before .step .ensures) _ _ (c .before .before .before .before .before .loop .inv) _ _ (c .before .before .row .given .1) (c .if1 .taken))  -- returns-2
+    (λ c. search finding)  -- returns-2
     (λ c. search needs)  -- sub-left
-    (λ c. found-ahead (c .before .before .before .before .before .before .before .before .args .layout) (c .before .before .before .before .before .before .before .before .args .s .now) (c .before .before .before .before .before .loop .cursor) _ (c .before .before .before .before .step .ensures) _ _ (c .before .before .row .given .1))  -- loop-less-2
-    (λ c. nth-next (c .before .before .before .before .before .before .before .before .args .layout) (c .before .before .before .before .before .before .before .before .args .s .now) (c .before .before .before .before .before .loop .cursor) _ (c .before .before .before .before .step .ensures) _ _ (c .before .before .before .before .before .loop .inv) _ _ (c .before .before .row .given .1) (c .if1 .left)))  -- loop-again-2
+    (λ c. search found-less)  -- loop-less-2
+    (λ c. search finding))  -- loop-again-2

@@ -2,11 +2,10 @@
 -- Assumes nothing.
 use borrow.Author.Needs.{needs}
 use Prim.Native.Nat.{_*_}
-use mathlib.Core.Path.{_≡_, ap, _∙_}
 use native.Mathlib.Omega.{arith}
 use lib.ListN.{length-set}
 use Rattle.table.specs.Rows.{putRow}
-use Rattle.table.proofs.Counting.{three-stored}
+use Rattle.table.proofs.Looping.{three-stored}
 use Rattle.table.proofs.rows.put_row.Statement.{statement}
 use Rattle.table.proofs.rows.put_row.Tie as tie
 
@@ -28,4 +27,6 @@ put-row-spec =
     (λ c. search needs)  -- mul-table-3
     (λ c. simp length-set (omega arith))  -- slice-write-table-3
     (λ c. search needs)  -- same-length
-    (λ c. rw (c .span .ensures) (three-stored (c .before .before .before .args .table .now) (3 * (c .before .before .before .args .i)) _ _ _ (omega arith))))  -- returns
+    (λ c.
+    let a = c .before .before .before .args in
+    rw (c .span .ensures) (three-stored (a .table .now) (3 * (a .i)) _ _ _ (omega arith))))  -- returns

@@ -1,7 +1,7 @@
--- `walk::steps::state_output_step` meets its contract.
--- Assumes nothing.
+-- `walk::steps::state_output_step` meets its contract. Assumes nothing.
 use borrow.Author.Needs.{needs}
-use Rattle.walk.proofs.Walking.{stepping}
+use Rattle.walk.proofs.Walking.{crediting}
+use native.Mathlib.Omega.{arith}
 use Rattle.walk.proofs.steps.state_output_step.Statement.{statement}
 use Rattle.walk.proofs.steps.state_output_step.Tie as tie
 
@@ -9,9 +9,9 @@ pub state-output-step-spec : {M : Type 1} → statement M
 state-output-step-spec =
     tie.close
     (tie.spec
-    (λ c κs. search needs)  -- state-output-at-requires
+    (λ c κs. search needs)  -- output-past-requires
     (λ c. search needs)  -- enum-told
     (λ c. search needs)  -- enum-known-end
-    (λ c. search needs)  -- sub-t11
-    (λ c. search stepping depth 10)  -- returns
-    (λ c. search stepping depth 10))  -- returns-2
+    (λ c. search needs)  -- sub-t7
+    (λ c. (search crediting, tt))  -- returns
+    (λ c. (search crediting, omega arith)))  -- returns-2

@@ -1,7 +1,6 @@
--- `walk::steps::state_step` meets its contract.
--- Assumes nothing.
+-- `walk::steps::state_step` meets its contract. Assumes nothing.
 use borrow.Author.Needs.{needs}
-use Rattle.walk.proofs.Walking.{stepping}
+use Rattle.walk.proofs.Walking.{entering, state-shorter}
 use Rattle.walk.proofs.steps.state_step.Statement.{statement}
 use Rattle.walk.proofs.steps.state_step.Tie as tie
 
@@ -10,12 +9,12 @@ state-step-spec =
     tie.close
     (tie.spec
     (λ c κs. search needs)  -- u32-at-requires
-    (λ c. search needs)  -- enum-known-fx
+    (λ c. search needs)  -- enum-known-outputs
     (λ c. search needs)  -- enum-told
-    (λ c. search stepping depth 10)  -- returns
+    (λ c. (search entering, tt))  -- returns
     (λ c κs. search needs)  -- u32-at-requires-2
     (λ c. search needs)  -- enum-known-inner
     (λ c. search needs)  -- enum-told-2
-    (λ c. search stepping depth 10)  -- returns-2
-    (λ c. search needs)  -- sub-t11
-    (λ c. search stepping depth 10))  -- returns-3
+    (λ c. (search entering, tt))  -- returns-2
+    (λ c. search needs)  -- sub-t8
+    (λ c. (search entering, search state-shorter)))  -- returns-3

@@ -1,7 +1,7 @@
 -- `writer::Writer::add_operation` meets its contract. Assumes nothing.
-use mathlib.Core.List.{[]}
 use borrow.Author.Needs.{needs}
 use Rattle.judge.specs.Elements.{numbersBytes}
+use Rattle.writer.proofs.Naming.{element-not, element-sane}
 use Rattle.writer.proofs.Methods.{operation-is}
 use Rattle.writer.proofs.Writer.add_operation.Statement.{statement}
 use Rattle.writer.proofs.Writer.add_operation.Tie as tie
@@ -11,10 +11,15 @@ unfolding numbersBytes
 add-operation-spec =
     tie.close
     (tie.spec
+    (λ c κs. search needs)  -- due-element-requires
+    (λ c. search needs)  -- enum-known-refusal
+    (λ c κs. search needs)  -- refused-requires
+    (λ c. search element-not)  -- returns
+    (λ c. search needs)  -- enum-told
     (λ c κs. search needs)  -- operation-rules-requires
     (λ c. search needs)  -- slice-aggregate-put-element
     (λ c. search needs)  -- array-share-prefix-none
     (λ c. search needs)  -- slice-aggregate-put-element-2
-    (λ c κs. search needs)  -- put-element-requires
+    (λ c κs. search element-sane)  -- put-element-requires
     (λ c. search needs)  -- same-length
-    (λ c. let a = c .before .before .before .before .before .before .before .before .before .args in operation-is (a .self) (a .buf .now) _ [] _ _ (a .bytes .now) (c .before .before .before .before .before .before .operation-rules .ensures) (c .before .before .put-element .ensures)))  -- returns
+    (λ c. search operation-is))  -- returns-2

@@ -2,6 +2,7 @@
 use native.Mathlib.Omega.{arith}
 use borrow.Author.Needs.{needs}
 use Rattle.writer.proofs.Laws.{not-true, not-false}
+use Rattle.transaction.specs.Answer.{memoMost}
 use Rattle.writer.proofs.Methods.{finish-not, finish-small, finish-refused, finish-done}
 use Rattle.writer.proofs.Writer.finish.Statement.{statement}
 use Rattle.writer.proofs.Writer.finish.Tie as tie
@@ -11,15 +12,25 @@ finish-spec =
     tie.close
     (tie.spec
     (λ c κs. search needs)  -- end-at-requires
-    (λ c κs. search needs)  -- refused-requires
-    (λ c. let a = c .before .before .before .before .args in finish-not (a .self) (a .buf .now) _ (c .before .before .end-at .ensures) (not-true _ (c .before .if1 .taken)) _ (c .refused .ensures))  -- returns
-    (λ c. let a = c .before .before .before .before .args in omega (arith, finish-small (a .self) (a .buf .now) _ (c .before .before .end-at .ensures) (not-false _ (c .before .if1 .left))))  -- add-phase
+    (λ c κs. search needs)  -- not-due-requires
+    (λ c. let a = c .before .before .before .before .args in
+    finish-not (a .self) (a .buf .now) _ (c .before .before .end-at .ensures) memoMost (not-true _ (c .before .if1 .taken)) _
+    (c .not-due .ensures))  -- returns
+    (λ c. let a = c .before .before .before .before .args in
+    omega (arith, finish-small (a .self) (a .buf .now) _ (c .before .before .end-at .ensures) (not-false _ (c .before .if1 .left))))  -- add-phase
     (λ c κs. search needs)  -- close-requires
     (λ c. search needs)  -- enum-known-refusal
-    (λ c κs. search needs)  -- refused-requires-2
+    (λ c κs. search needs)  -- refused-requires
     (λ c. search needs)  -- enum-known-end
     (λ c κs. search needs)  -- stored-requires
     (λ c. search needs)  -- same-length
-    (λ c. let a = c .before .before .before .before .before .before .before .before .before .before .before .before .args in finish-refused (a .self) (a .buf .now) _ (c .before .before .before .before .before .before .before .before .before .before .end-at .ensures) (not-false _ (c .before .before .before .before .before .before .before .before .before .if1 .left)) _ _ (c .before .before .before .before .before .before .close .ensures) _ (c .before .before .refusal .given .1) _ (c .refused2 .ensures))  -- returns-2
+    (λ c. let a = c .before .before .before .before .before .before .before .before .before .before .before .before .args in
+    finish-refused (a .self) (a .buf .now) _ (c .before .before .before .before .before .before .before .before .before .before .end-at .ensures)
+    (not-false _ (c .before .before .before .before .before .before .before .before .before .if1 .left)) memoMost _ _
+    (c .before .before .before .before .before .before .close .ensures) _ (c .before .before .refusal .given .1) _
+    (c .refused .ensures))  -- returns-2
     (λ c. search needs)  -- same-length-2
-    (λ c. let a = c .before .before .before .before .before .before .before .before .before .before .before .before .args in finish-done (a .self) (a .buf .now) _ (c .before .before .before .before .before .before .before .before .before .before .end-at .ensures) (not-false _ (c .before .before .before .before .before .before .before .before .before .if1 .left)) _ _ (c .before .before .before .before .before .before .close .ensures) _ (c .before .before .end .given .1) _ (c .stored .ensures)))  -- returns-3
+    (λ c. let a = c .before .before .before .before .before .before .before .before .before .before .before .before .args in
+    finish-done (a .self) (a .buf .now) _ (c .before .before .before .before .before .before .before .before .before .before .end-at .ensures)
+    (not-false _ (c .before .before .before .before .before .before .before .before .before .if1 .left)) memoMost _ _
+    (c .before .before .before .before .before .before .close .ensures) _ (c .before .before .end .given .1) _ (c .stored .ensures)))  -- returns-3

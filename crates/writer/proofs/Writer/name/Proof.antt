@@ -1,5 +1,6 @@
 -- `writer::Writer::name` meets its contract. Assumes nothing.
 use borrow.Author.Needs.{needs}
+use Rattle.writer.proofs.Naming.{field-not, field-small}
 use Rattle.writer.proofs.Methods.{name-is}
 use Rattle.writer.proofs.Writer.name.Statement.{statement}
 use Rattle.writer.proofs.Writer.name.Tie as tie
@@ -8,10 +9,15 @@ pub name-spec : {M : Type 1} → statement M
 name-spec =
     tie.close
     (tie.spec
+    (λ c κs. search needs)  -- due-field-requires
+    (λ c. search needs)  -- enum-known-refusal
+    (λ c κs. search needs)  -- refused-requires
+    (λ c. search field-not)  -- returns
+    (λ c. search needs)  -- enum-told
     (λ c κs. search needs)  -- text-rules-requires
     (λ c. search needs)  -- slice-aggregate-put-number
     (λ c κs. search needs)  -- put-number-requires
-    (λ c. search needs)  -- slice-aggregate-put-field
-    (λ c κs. search needs)  -- put-field-requires
+    (λ c. search needs)  -- slice-aggregate-put-part
+    (λ c κs. search field-small)  -- put-part-requires
     (λ c. search needs)  -- same-length
-    (λ c. let a = c .before .before .before .before .before .before .before .before .before .before .before .args in name-is (a .self) (a .buf .now) _ _ _ _ (a .bytes .now) (c .before .before .before .before .before .before .before .before .text-rules .ensures) (c .before .before .before .before .before .before .put-number .ensures) (c .before .before .put-field .ensures)))  -- returns
+    (λ c. search name-is))  -- returns-2

@@ -12,6 +12,9 @@ is-sane-spec =
     (tie.spec
     (λ c. count-outside (c .before .before .args .w) (omega (arith, c .if1 .taken)))  -- returns
     (λ c. count-outside (c .before .before .before .before .before .args .w) (omega (arith, c .if2 .taken, c .before .before .before .if1 .left)))  -- returns-2
-    (λ c. last-outside (c .before .before .before .before .before .before .before .args .w) (omega (arith, c .before .before .if2 .left, c .before .before .before .before .before .if1 .left)) (c .if3 .taken))  -- returns-3
+    (λ c. last-outside (c .before .before .before .before .before .before .before .args .w) (omega
+    (arith, c .before .before .if2 .left, c .before .before .before .before .before .if1 .left)) (c .if3 .taken))  -- returns-3
     (λ c. search needs)  -- cast-result
-    (λ c. inside (c .before .before .before .before .before .before .before .before .args .w) _ (omega (arith, c .before .before .before .if2 .left, c .before .before .before .before .before .before .if1 .left)) (c .before .if3 .left) refl))  -- returns-4
+    (λ c. inside (c .before .before .before .before .before .before .before .before .args .w) _ (omega
+    (arith, c .before .before .before .if2 .left, c .before .before .before .before .before .before .if1 .left))
+    (c .before .if3 .left) refl))  -- returns-4

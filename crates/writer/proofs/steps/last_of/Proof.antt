@@ -9,6 +9,6 @@ last-of-spec =
     tie.close
     (tie.spec
     (λ c. search needs)  -- slice-aggregate-result
-    (λ c. let a = c .before .before .before .before .args in no-last (a .w) (a .buf .now) (c .before .if1 .taken))  -- returns
+    (λ c. search no-last)  -- returns
     (λ c κs. search needs)  -- between-requires
-    (λ c. let a = c .before .before .before .before .args in last-there (a .w) (a .buf .now) _ (c .between .ensures) (c .before .if1 .left)))  -- returns-2
+    (λ c. search last-there))  -- returns-2

@@ -1,0 +1,358 @@
+-- The steps from one credential that is wanted to the next, in an unsigned part that was read. Assumes nothing.
+use Prim.Native.Nat.{ℕ, zero, suc, _+_, _-_, _*_, _^_, _≤_, _<_}
+use mathlib.Core.Path.{_≡_, refl, sym, ap, _∙_, subst, subst₂}
+use mathlib.Core.List.{List, [], _∷_, _++_, append-assoc}
+use mathlib.Core.Option.{Option, none, some}
+use native.Mathlib.Omega.{arith}
+use native.Mathlib.Numerals.{sub-one}
+use native.Mathlib.Nat.{not-suc-le-zero}
+use lib.ListN.{length}
+use lib.Dec.{leb}
+use Rattle.wire.specs.declared.Refusal.{Refusal}
+use Rattle.wire.specs.declared.Part.{Part}
+use Rattle.wire.specs.declared.Part.the-variants as Q
+use Rattle.wire.specs.declared.Number.{Number}
+use Rattle.wire.specs.declared.Number.the-variants as N
+use Rattle.wire.specs.Bytes.{pick}
+use Rattle.wire.specs.Numbers.{by, emptyList}
+use Rattle.wire.specs.Format.{Format, took, refused, read, run-inv, pick-inv, took-refused}
+use Rattle.wire.specs.Fields.{number}
+use Rattle.wire.specs.Sequence.{andThen}
+use Rattle.wire.specs.Series.{items, listRun, list-inv, left, seriesFrom}
+use Rattle.wire.specs.Answer.{valued}
+use Rattle.wire.proofs.Bytes.{found}
+use Rattle.wire.proofs.Reading as W
+use Rattle.transaction.specs.Credentials.{CredentialType, secpCredential, nftCredential, credentialCode, Want}
+use Rattle.transaction.specs.Plan.{Content, contentOf, wantOf, fieldCredential, fieldSignatures, elementsOf, Plan, shut, end, field, many, planOf}
+use Rattle.transaction.specs.Form.{atLeast, listOf, Value, form, fieldAsks, elementAsks, asked, wanted}
+use Rattle.transaction.specs.declared.FieldName.{FieldName}
+use Rattle.transaction.specs.declared.ListName.{ListName}
+use Rattle.transaction.specs.declared.ListName.the-variants as L
+use Rattle.due.specs.declared.Due.{Due}
+use Rattle.due.specs.declared.Due.the-variants as D
+use Rattle.due.specs.Plans.{tail, due, Live, dueOf, credentialNumber, FieldPast, FieldSigns, ElementTells, ElementsPast, AskingTells}
+use Rattle.due.proofs.Passing.{FirstOf, first-of}
+use Rattle.due.proofs.Rows.{if-nothing, if-end, if-field, if-list}
+use Rattle.checker.specs.declared.Wanting.{Wanting}
+use Rattle.checker.specs.declared.Begun.{Begun}
+use Rattle.checker.specs.declared.Begun.the-variants as B
+use Rattle.checker.specs.declared.Wanted.{Wanted}
+use Rattle.checker.specs.declared.Wanted.the-variants as X
+use Rattle.checker.specs.Wanted.{WantsFrom, WantsIn, First, BegunAs, Wants, Nexts, ListBegins, Begins, BegunLive, ElementWants, NextWants}
+use Rattle.checker.proofs.Planning.{none-wanted, none-asked, live-phase, live-next}
+
+-- ---- what is told of one that asks, or does not
+
+pub one-want : (c : Option CredentialType) (t n : ℕ) → t ≡ credentialNumber c → (t ≡ 0 → ⊥)
+    → (w : Want) × (wantOf c n ≡ w ∷ []) × (t ≡ credentialCode (w .type)) × (n ≡ w .signatures)
+one-want none t n i z = absurd (z i)
+one-want (some c) t n i z = (record { type = c; signatures = n }, refl, i, refl)
+
+-- ---- the element at hand
+
+module _ (s : List ℕ) (from : Wanting) (x : Number) (h : AskingTells (from .asks) s (from .at) x) where
+  told : (most kind : ℕ) (ws : List Want) (w : Wants most s kind from ws) → 0 < from .left → ElementTells (w .list) s (from .at) x
+  told most kind ws w o = h (w .list) (w .type o) (w .asking o)
+
+  firstly : (most kind c : ℕ) (ws : List Want) (w : Wants most s kind from ws) → from .left ≡ suc c
+      → FirstOf (w .list) c (w .prev) s (from .at) (w .elements) (w .next)
+  firstly most kind c ws w i =
+      first-of (w .list) c (w .prev) s (from .at) (w .elements) (w .next)
+      (subst (λ (n : ℕ). read (seriesFrom (elementsOf (w .list) .element) (w .prev) n) s (from .at) ≡ took (w .elements) (w .next)) i (w .stands))
+
+  -- an element that was read is read
+  pub element-unread : (e : Refusal) → 0 < from .left → x ≡ N.Refused e → ElementWants s from X.End
+  element-unread e o q kind most ws w =
+      let f = firstly most kind (from .left - 1) ws w (omega arith) in
+      let g = told most kind ws w o (w .prev) (f .element) (f .next) (f .first) in
+      let z : _≡_ {A = ℕ} 0 1 = cc in absurd (omega arith)
+
+  pub element-wanted : (k m : ℕ) → 0 < from .left → x ≡ N.Value k m
+      → ElementWants s from (X.Credential (from .asks) k record { phase = from .phase; asks = from .asks; at = m; left = from .left - 1 })
+  unfolding asked
+  element-wanted k m o q kind most ws w =
+      let l : ListName = w .list in
+      let f = firstly most kind (from .left - 1) ws w (omega arith) in
+      let g = told most kind ws w o (w .prev) (f .element) (f .next) (f .first) in
+      let next : f .next ≡ m = cc in
+      let signs : elementsOf l .signatures (f .element) ≡ k = cc in
+      let (d, asks, type, count) = one-want (elementsOf l .credential) (from .asks) (elementsOf l .signatures (f .element)) (w .type o) (w .asking o) in
+      let E : List ℕ → Format (elementsOf l .Element) = elementsOf l .element in
+      record {
+        want = d;
+        others = asked (elementAsks l) (f .others) ++ w .later;
+        all =
+            w .wants
+            ∙ ap (λ (v : List (elementsOf l .Element)). asked (elementAsks l) v ++ w .later) (f .all)
+            ∙ ap (λ (us : List Want). (us ++ asked (elementAsks l) (f .others)) ++ w .later) asks;
+        type = type;
+        signatures = sym signs ∙ count;
+        behind =
+            record {
+              list = l;
+              type = λ h. w .type o;
+              asking = λ h. w .asking o;
+              prev = E (w .prev) .write (f .element);
+              elements = f .others;
+              next = w .next;
+              later = w .later;
+              stands =
+                  subst (λ (i : ℕ). read (seriesFrom E (E (w .prev) .write (f .element)) (from .left - 1)) s i ≡ took (f .others) (w .next)) next (f .rest);
+              behind = w .behind;
+              wants = refl;
+            };
+      }
+
+-- ---- behind a list
+
+-- no element is left: the segments that come next stand there
+list-done : (most : ℕ) (s : List ℕ) (asks : ℕ) (p : Plan) (at : ℕ) (ws : List Want) → WantsIn most s asks 0 p at ws → WantsFrom most s p at ws
+unfolding items listRun asked
+list-done most s asks p at ws w =
+    let l : ListName = w .list in
+    let none : [] ≡ w .elements = cc in
+    let here : w .next ≡ at = cc in
+    subst₂ (λ (j : ℕ) (us : List Want). WantsFrom most s p j us) here
+    (sym (w .wants ∙ ap (λ (v : List (elementsOf l .Element)). asked (elementAsks l) v ++ w .later) (sym none))) (w .behind)
+
+-- and back: whatever the list was
+pub list-over : (most : ℕ) (s : List ℕ) (asks : ℕ) (p : Plan) (at : ℕ) (ws : List Want) → WantsFrom most s p at ws → WantsIn most s asks 0 p at ws
+unfolding items listRun asked
+list-over most s asks p at ws w =
+    record {
+      list = L.Output;
+      type = λ o. absurd (not-suc-le-zero o);
+      asking = λ o. absurd (not-suc-le-zero o);
+      prev = [];
+      elements = [];
+      next = at;
+      later = ws;
+      stands = refl;
+      behind = w;
+      wants = refl;
+    }
+
+-- a part that was read, and the rest of the plan behind it
+pub record Front {A : Type 0} (most : ℕ) (G : Format A) (p : Plan) (s : List ℕ) (at : ℕ) (v : A × Value p) (n : ℕ) : Type 0 where
+  pub part : A
+  pub others : Value p
+  pub next : ℕ
+  pub all : v ≡ (part, others)
+  pub first : read G s at ≡ took part next
+  pub rest : read (form most p) s next ≡ took others n
+
+pub front-of : {A : Type 0} (most : ℕ) (G : Format A) (p : Plan) (s : List ℕ) (at : ℕ) (v : A × Value p) (n : ℕ)
+    → read (andThen G (λ a. form most p)) s at ≡ took v n → Front most G p s at v n
+unfolding andThen
+front-of most G p s at v n e =
+    let (a, i, ea, e₁) = run-inv G s at (λ a i. form most p .run s i refused (λ u k. took (a, u) k)) v n e in
+    let (u, k, eu, e₂) = run-inv (form most p) s i (λ u k. took (a, u) k) v n e₁ in
+    let j : k ≡ n = cc in
+    record { part = a; others = u; next = i; all = cc; first = ea; rest = eu ∙ ap (took u) j }
+
+module _ (most : ℕ) (s : List ℕ) (at : ℕ) (ws : List Want) where
+  -- a field that was read, and what is behind it
+  module _ (f : FieldName) (y : ℕ) (g : FieldPast f s at y) where
+    field-passed : (p : Plan) → WantsFrom most s (field f p) at ws
+        → (v : Content f) × (us : List Want) × (read (contentOf most f) s at ≡ took v y) × (ws ≡ wantOf (fieldCredential f) (fieldSignatures f v) ++ us)
+        × WantsFrom most s p y us
+    unfolding form wanted
+    field-passed p w =
+        let r = front-of most (contentOf most f) p s at (w .value) (w .next) (w .stands) in
+        let next : r .next ≡ y = sym (g most (r .part) (r .next) (r .first)) in (
+          r .part,
+          wanted p (r .others),
+          r .first ∙ ap (took (r .part)) next,
+          w .wants ∙ ap (λ (v : Content f × Value p). fieldAsks f (v .0) ++ wanted p (v .1)) (r .all),
+          record {
+            value = r .others;
+            next = w .next;
+            stands = subst (λ (i : ℕ). read (form most p) s i ≡ took (r .others) (w .next)) next (r .rest);
+            wants = refl;
+          },
+        )
+
+  -- a list that was read: its count stands there, and then its elements
+  list-read : (l : ListName) (least : ℕ) (p : Plan) (y : Number) (e : Refusal) → y ≡ valued (number 4) s at → WantsFrom most s (many l least p) at ws
+      → y ≡ N.Refused e → ⊥
+  unfolding form atLeast
+  list-read l least p y e h w q =
+      let E : List ℕ → Format (elementsOf l .Element) = elementsOf l .element in
+      let r = front-of most (listOf l least) p s at (w .value) (w .next) (w .stands) in
+      let (d, k, ed, _) = run-inv (number 4) s at (λ d k. pick (leb least d) (items E (left E) [] d .run s k refused took) (refused (by emptyList at)))
+      (r .part) (r .next) (r .first) in
+      took-refused d k e (sym ed ∙ W.number-refused-inv (read (number 4) s at) e (sym (number 4 .same s at N.Refused N.Value) ∙ found h q))
+
+  -- its elements, and what is behind them
+  record Entered (l : ListName) (c : ℕ) (p : Plan) (m : ℕ) : Type 0 where
+    elements : List (elementsOf l .Element)
+    next : ℕ
+    later : List Want
+    stands : read (seriesFrom (elementsOf l .element) [] c) s m ≡ took elements next
+    behind : WantsFrom most s p next later
+    wants : ws ≡ asked (elementAsks l) elements ++ later
+
+  list-entered : (l : ListName) (least : ℕ) (p : Plan) (y : Number) (c m : ℕ) → y ≡ valued (number 4) s at → WantsFrom most s (many l least p) at ws
+      → y ≡ N.Value c m → Entered l c p m
+  unfolding form wanted atLeast
+  list-entered l least p y c m h w q =
+      let E : List ℕ → Format (elementsOf l .Element) = elementsOf l .element in
+      let r = front-of most (listOf l least) p s at (w .value) (w .next) (w .stands) in
+      let (d, k, ed, e₁) = run-inv (number 4) s at (λ d k. pick (leb least d) (items E (left E) [] d .run s k refused took) (refused (by emptyList at)))
+      (r .part) (r .next) (r .first) in
+      let (_, e₂) = pick-inv (leb least d) (by emptyList at) (items E (left E) [] d .run s k refused took) (r .part) (r .next) e₁ in
+      let t : took d k ≡ took c m = sym ed ∙ W.number-value-inv (read (number 4) s at) c m (sym (number 4 .same s at N.Refused N.Value) ∙ found h q) in
+      let dc : d ≡ c = cc in
+      let km : k ≡ m = cc in
+      record {
+        elements = r .part;
+        next = r .next;
+        later = wanted p (r .others);
+        stands = subst₂ (λ (d k : ℕ). read (seriesFrom E [] d) s k ≡ took (r .part) (r .next)) dc km e₂;
+        behind = record { value = r .others; next = w .next; stands = r .rest; wants = refl };
+        wants = w .wants ∙ ap (λ (v : List (elementsOf l .Element) × Value p). asked (elementAsks l) (v .0) ++ wanted p (v .1)) (r .all);
+      }
+
+-- ---- into a list
+
+module _ (s : List ℕ) (at : ℕ) (l : ListName) (y : Number) (g : y ≡ valued (number 4) s at) where
+  pub list-uncounted : (e : Refusal) → y ≡ N.Refused e → ListBegins l s at B.End
+  list-uncounted e i most least p ws w = absurd (list-read most s at ws l least p y e g w i)
+
+  module _ (c m : ℕ) (i : y ≡ N.Value c m) (t : ℕ) (ht : t ≡ credentialNumber (elementsOf l .credential)) where
+    pub list-asking : (t ≡ 0 → ⊥) → ListBegins l s at (B.Into t c m)
+    list-asking z most least p ws w =
+        let r = list-entered most s at ws l least p y c m g w i in
+        record {
+          list = l;
+          type = λ o. ht;
+          asking = λ o. z;
+          prev = [];
+          elements = r .elements;
+          next = r .next;
+          later = r .later;
+          stands = r .stands;
+          behind = r .behind;
+          wants = r .wants;
+        }
+
+    module _ (z : t ≡ 0) (x : Part) (h : ElementsPast l c s m x) where
+      pub list-unread : (e : Refusal) → x ≡ Q.Refused e → ListBegins l s at B.End
+      list-unread e q most least p ws w =
+          let r = list-entered most s at ws l least p y c m g w i in
+          let d = h [] (r .elements) (r .next) (r .stands) in
+          let z : _≡_ {A = ℕ} 0 1 = cc in absurd (omega arith)
+
+      pub list-passed : (n : ℕ) → x ≡ Q.Next n → ListBegins l s at (B.Into 0 0 n)
+      list-passed n q most least p ws w =
+          let r = list-entered most s at ws l least p y c m g w i in
+          let d = h [] (r .elements) (r .next) (r .stands) in
+          let next : r .next ≡ n = cc in
+          let same : r .later ≡ ws =
+          sym (r .wants ∙ ap (λ (us : List Want). us ++ r .later) (none-asked (elementsOf l .credential) (elementsOf l .signatures) t ht z (r .elements))) in
+          list-over most s 0 p n ws (subst₂ (λ (j : ℕ) (us : List Want). WantsFrom most s p j us) next same (r .behind))
+
+pub ruleset listing = (list-uncounted, list-asking, list-unread, list-passed)
+
+-- ---- into the segment that comes next
+
+module _ (s : List ℕ) (p : Plan) (at : ℕ) (x : Due) (h : x ≡ dueOf p) where
+  abbrev Answers : Begun → Plan → Type 0
+  Answers r p = Begins p s at r
+
+  pub begun-nothing : x ≡ D.Nothing → Begins p s at B.End
+  unfolding wanted
+  begun-nothing q = if-nothing x (Answers B.End) p h q (λ most ws w. w .wants)
+
+  pub begun-end : x ≡ D.End → Begins p s at B.End
+  unfolding wanted
+  begun-end q = if-end x (Answers B.End) p h q (λ most ws w. w .wants)
+
+  pub begun-list : (l : ListName) (least : ℕ) (r : Begun) → x ≡ D.List l least → ListBegins l s at r → Begins p s at r
+  begun-list l least r q g = if-list x (Answers r) p h l least q (λ p most ws w. g most least p ws w)
+
+  module _ (f : FieldName) (q : x ≡ D.Field f) (y : ℕ) (g : FieldPast f s at y) (t : ℕ) (ht : t ≡ credentialNumber (fieldCredential f)) where
+    pub begun-field : t ≡ 0 → Begins p s at (B.Into 0 0 y)
+    begun-field z =
+        if-field x (Answers (B.Into 0 0 y)) p h f q (λ p most ws w.
+        let (v, us, e, i, b) = field-passed most s at ws f y g p w in
+        let same : us ≡ ws = sym (i ∙ ap (λ (vs : List Want). vs ++ us) (none-wanted (fieldCredential f) t (fieldSignatures f v) ht z)) in
+        list-over most s 0 p y ws (subst (λ (us : List Want). WantsFrom most s p y us) same b))
+
+    pub begun-asking : (k : ℕ) → FieldSigns f s at k → (t ≡ 0 → ⊥) → Begins p s at (B.Asks t k y)
+    begun-asking k signs z =
+        if-field x (Answers (B.Asks t k y)) p h f q (λ p most ws w.
+        let (v, us, e, i, b) = field-passed most s at ws f y g p w in
+        let (d, asks, type, count) = one-want (fieldCredential f) t (fieldSignatures f v) ht z in
+        record {
+          want = d;
+          others = us;
+          all = i ∙ ap (λ (vs : List Want). vs ++ us) asks;
+          type = type;
+          signatures = signs most v y e ∙ count;
+          behind = b;
+        })
+
+  field-live : (f : FieldName) → x ≡ D.Field f → Live p
+  field-live f q = if-field x Live p h f q (λ p. tt)
+
+  pub live-list : (l : ListName) (least : ℕ) → x ≡ D.List l least → (r : Begun) → BegunLive p r
+  live-list l least q B.End = tt
+  live-list l least q (B.Into a c m) = if-list x Live p h l least q (λ p. tt)
+  live-list l least q (B.Asks t n m) = if-list x Live p h l least q (λ p. tt)
+
+  pub live-into : (f : FieldName) (a c m : ℕ) → x ≡ D.Field f → BegunLive p (B.Into a c m)
+  live-into f a c m q = field-live f q
+
+  pub live-asks : (f : FieldName) (t n m : ℕ) → x ≡ D.Field f → BegunLive p (B.Asks t n m)
+  live-asks f t n m q = field-live f q
+
+pub ruleset beginning = (begun-nothing, begun-end, begun-list, begun-field, begun-asking, live-list, live-into, live-asks)
+
+-- ---- the next one: what is ahead of the start is ahead of here
+
+abbrev pub Onward : ℕ → List ℕ → Wanting → ℕ → ℕ → ℕ → ℕ → Type 0
+Onward kind s from phase asks at left =
+    (most : ℕ) (ws : List Want) → Wants most s kind from ws → WantsIn most s asks left (due phase (planOf kind)) at ws
+
+module _ (s : List ℕ) (kind : ℕ) (from : Wanting) (phase asks at left : ℕ) (o : Onward kind s from phase asks at left) (over : left ≡ 0) (r : Begun)
+    (h : Begins (due phase (planOf kind)) s at r) (l : BegunLive (due phase (planOf kind)) r) where
+  begun : (most : ℕ) (ws : List Want) → Wants most s kind from ws → BegunAs most s (tail (due phase (planOf kind))) ws r
+  begun most ws w =
+      h most ws (list-done most s asks (due phase (planOf kind)) at ws
+      (subst (λ (c : ℕ). WantsIn most s asks c (due phase (planOf kind)) at ws) over (o most ws w)))
+
+  pub next-end : r ≡ B.End → NextWants kind s from X.End
+  next-end q most ws w = subst (λ (r : Begun). BegunAs most s (tail (due phase (planOf kind))) ws r) q (begun most ws w)
+
+  next-live : (p : Begun → Type 0) → p r → (s : Begun) → r ≡ s → p s
+  next-live p v s q = subst p q v
+
+  pub into-phase : (a c m : ℕ) → r ≡ B.Into a c m → phase ≤ 8
+  into-phase a c m q = live-phase kind phase (subst (BegunLive (due phase (planOf kind))) q l)
+
+  pub asks-phase : (t n m : ℕ) → r ≡ B.Asks t n m → phase ≤ 8
+  asks-phase t n m q = live-phase kind phase (subst (BegunLive (due phase (planOf kind))) q l)
+
+  pub next-into : (a c m : ℕ) → r ≡ B.Into a c m → Onward kind s from (phase + 1) a m c
+  next-into a c m q most ws w =
+      rw (live-next kind phase (subst (BegunLive (due phase (planOf kind))) q l))
+      (subst (λ (r : Begun). BegunAs most s (tail (due phase (planOf kind))) ws r) q (begun most ws w))
+
+  pub next-asks : (t n m : ℕ) → r ≡ B.Asks t n m → NextWants kind s from (X.Credential t n record { phase = phase + 1; asks = t; at = m; left = 0 })
+  next-asks t n m q most ws w =
+      let f = subst (λ (r : Begun). BegunAs most s (tail (due phase (planOf kind))) ws r) q (begun most ws w) in
+      record {
+        want = f .want;
+        others = f .others;
+        all = f .all;
+        type = f .type;
+        signatures = f .signatures;
+        behind =
+            rw (live-next kind phase (subst (BegunLive (due phase (planOf kind))) q l))
+            (list-over most s t (tail (due phase (planOf kind))) m (f .others) (f .behind));
+      }
+
+pub next-element : (s : List ℕ) (kind : ℕ) (from : Wanting) (phase asks at left : ℕ) → Onward kind s from phase asks at left → (r : Wanted)
+    → ElementWants s record { phase = phase; asks = asks; at = at; left = left } r → NextWants kind s from r
+next-element s kind from phase asks at left o r h most ws w = h kind most ws (o most ws w)

@@ -1,0 +1,162 @@
+-- The credentials beside what wants them, behind an unsigned part that was read. Assumes nothing.
+use Prim.Native.Nat.{ℕ, zero, suc, _+_, _-_, _≤_, _<_}
+use mathlib.Core.Path.{_≡_, refl, sym, ap, ap₂, _∙_, subst, subst₂}
+use mathlib.Core.List.{List, [], _∷_, _++_}
+use mathlib.Core.Option.{none}
+use native.Mathlib.Omega.{arith}
+use lib.ListN.{length}
+use Rattle.wire.specs.declared.Refusal.{Refusal}
+use Rattle.wire.specs.declared.Part.{Part}
+use Rattle.wire.specs.declared.Part.the-variants as Q
+use Rattle.wire.specs.declared.Number.{Number}
+use Rattle.wire.specs.declared.Number.the-variants as N
+use Rattle.wire.specs.Numbers.{by, cutAt, wrongCount}
+use Rattle.wire.specs.Format.{took, read, run-inv}
+use Rattle.wire.specs.Fields.{number, constant}
+use Rattle.wire.specs.Answer.{ended, valued}
+use Rattle.wire.proofs.Bytes.{Slice}
+use Rattle.wire.proofs.Reading as W
+use Rattle.transaction.specs.Credentials as Credentials
+use Rattle.transaction.specs.Credentials.{credentialPieces, credentialCode, Want, each, pieces, credentials}
+use Rattle.transaction.specs.Plan.{Plan, plan, kindOf, kindOf-code, planOf}
+use Rattle.transaction.specs.Form.{listOf, Value, form, elementAsks, asked, wanted}
+use Rattle.transaction.specs.Avm.{avm}
+use Rattle.transaction.specs.Family.{Head, head, Unsigned, unsigned, wants}
+use Rattle.transaction.specs.Answer.{layout, CredentialsAt}
+use Rattle.transaction.specs.declared.Kind.{Kind}
+use Rattle.transaction.specs.declared.Layout.{Layout}
+use Rattle.transaction.specs.declared.ListName.the-variants as L
+use Rattle.transaction.proofs.CredentialLaws.{each-then}
+use Rattle.transaction.proofs.Reading.{written-next}
+use Rattle.transaction.proofs.Verdicts.{layout-credentials}
+use Rattle.due.specs.Plans.{tail, due}
+use Rattle.checker.specs.declared.Wanting.{Wanting}
+use Rattle.checker.specs.declared.Wanted.{Wanted}
+use Rattle.checker.specs.declared.Wanted.the-variants as X
+use Rattle.checker.specs.Wanted.{WantsFrom, WantsIn, Wants, First, Nexts, NextWants, Beside, firstWanting}
+use Rattle.checker.proofs.Planning.{none-asked}
+use Rattle.checker.proofs.Ahead.{Front, front-of, list-over}
+
+-- ---- the loop: what is left, from here, gives the whole
+
+module _ (s : List ℕ) (kind : ℕ) (c : Wanting) (n at : ℕ) (x : Wanted) (h : NextWants kind s c x) where
+  pub beside-end : (r : Part) → 0 < n → x ≡ X.End → Beside kind s c n at r
+  beside-end r o q most ws w e =
+      let none : ws ≡ [] = subst (λ (x : Wanted). Nexts most s kind ws x) q (h most ws w) in
+      absurd (omega (arith, ap length none))
+
+  module _ (t k : ℕ) (d : Wanting) (q : x ≡ X.Credential t k d) (y : Part) (g : y ≡ ended (pieces (credentialPieces t k [])) s at) where
+    first : (most : ℕ) (ws : List Want) → Wants most s kind c ws → First most s t k (Wants most s kind d) ws
+    first most ws w = subst (λ (x : Wanted). Nexts most s kind ws x) q (h most ws w)
+
+    split : (most : ℕ) (ws : List Want) (f : First most s t k (Wants most s kind d) ws)
+        → ended (pieces (each ws)) s at ≡ pieces (credentialPieces t k []) .run s at Q.Refused (λ b m. ended (pieces (each (f .others))) s m)
+    split most ws f =
+        ap (λ (ws : List Want). ended (pieces (each ws)) s at) (f .all)
+        ∙ each-then s Q.Refused Q.Next (f .want) (f .others) at
+        ∙ ap₂ (λ (i j : ℕ). pieces (credentialPieces i j []) .run s at Q.Refused (λ b m. ended (pieces (each (f .others))) s m)) (sym (f .type)) (sym (f .signatures))
+
+    pub beside-refused : (e : Refusal) → y ≡ Q.Refused e → Beside kind s c n at (Q.Refused e)
+    beside-refused e i most ws w l =
+        let f = first most ws w in
+        W.stops (pieces (credentialPieces t k [])) Part s at (Q.Refused e) Q.Refused _ y e g i refl ∙ sym (split most ws f)
+
+    pub beside-past : (r : Part) (m : ℕ) → y ≡ Q.Next m → Beside kind s d (n - 1) m r → Beside kind s c n at r
+    beside-past r m i b most ws w l =
+        let f = first most ws w in
+        let left : length (f .others) ≡ n - 1 = omega (arith, ap length (f .all)) in
+        W.ends (pieces (credentialPieces t k [])) Part s at r Q.Refused _ y m g i (λ v. b most (f .others) (f .behind) left) ∙ sym (split most ws f)
+
+pub beside-done : (s : List ℕ) (kind : ℕ) (c : Wanting) (n at : ℕ) → n ≤ 0 → Beside kind s c n at (Q.Next at)
+unfolding each pieces
+beside-done s kind c n at h most [] w l = refl
+beside-done s kind c n at h most (d ∷ ws) w l = absurd (omega arith)
+
+-- ---- all credentials
+
+-- the outputs ask for nothing, and are passed
+body : (most : ℕ) (s : List ℕ) → Slice s → (d : Head Kind) (v : Value (plan (d .kind))) (a k : ℕ) → a ≡ length (head (avm most) .write d) → read (form most (plan (d .kind))) s a ≡ took v k
+    → Wants most s (layout most (d, v) .kind) (firstWanting (layout most (d, v))) (wants (avm most) (d, v))
+unfolding form wants wanted
+body most s b d v a k ha e =
+    let o : Plan = tail (plan (d .kind)) in
+    let f = front-of most (listOf L.Output 0) o s a v k e in
+    let ws : asked (elementAsks L.Output) (v .0) ++ wanted o (v .1) ≡ wanted o (v .1) =
+    ap (λ (l : List Want). l ++ wanted o (v .1)) (none-asked none (λ v. 0) 0 refl refl (v .0)) in
+    let others : f .others ≡ v .1 = cc in
+    let outs : f .part ≡ v .0 = cc in
+    let place : f .next ≡ length (head (avm most) .write d) + length (listOf L.Output 0 .write (v .0)) =
+    written-next (listOf L.Output 0) s a (f .part) (f .next) b (f .first)
+    ∙ ap₂ (λ (i : ℕ) (l : List _). i + length (listOf L.Output 0 .write l)) ha outs in
+    rw (kindOf-code (d .kind))
+    (list-over most s 0 o _ _
+    (record {
+      value = v .1;
+      next = k;
+      stands = subst₂ (λ (j : ℕ) (w : Value o). read (form most o) s j ≡ took w k) place others (f .rest);
+      wants = ws;
+    }))
+
+pub first-wants : (most : ℕ) (s : List ℕ) (u : Unsigned (avm most)) (n : ℕ) → Slice s → read (unsigned (avm most)) s 0 ≡ took u n
+    → Wants most s (layout most u .kind) (firstWanting (layout most u)) (wants (avm most) u)
+unfolding unsigned
+first-wants most s u n b e =
+    let (d, a, ed, e₁) = run-inv (head (avm most)) s 0 (λ d a. form most (plan (d .kind)) .run s a _ (λ v k. took (d, v) k)) u n e in
+    let (v, k, ev, e₂) = run-inv (form most (plan (d .kind))) s a (λ v k. took (d, v) k) u n e₁ in
+    let same : (d, v) ≡ u = cc in
+    subst (λ (u : Unsigned (avm most)). Wants most s (layout most u .kind) (firstWanting (layout most u)) (wants (avm most) u)) same
+    (body most s b d v a k (omega (arith, written-next (head (avm most)) s 0 d a b ed)) ev)
+
+-- the credentials' count stands where the unsigned part ends
+pub credentials-stand : (most : ℕ) (s : List ℕ) (u : Unsigned (avm most)) (at : ℕ) (w : Layout) → Slice s → read (unsigned (avm most)) s 0 ≡ took u at
+    → w ≡ layout most u → at ≡ w .«credentials_at»
+credentials-stand most s u at w b e h =
+    omega (arith, written-next (unsigned (avm most)) s 0 u at b e, layout-credentials most u, ap (λ (v : Layout). v .«credentials_at») h)
+
+module _ (w : Layout) (s : List ℕ) (b : Slice s) (x : Number) (p : x ≡ valued (number 4) s (w .«credentials_at»)) where
+  on-place : (r : Part)
+      → ((most : ℕ) (u : Unsigned (avm most)) → read (unsigned (avm most)) s 0 ≡ took u (w .«credentials_at») → w ≡ layout most u
+      → r ≡ ended (credentials (wants (avm most) u)) s (w .«credentials_at»))
+      → CredentialsAt w s r
+  on-place r g most u at e h =
+      let i = credentials-stand most s u at w b e h in
+      subst (λ (j : ℕ). r ≡ ended (credentials (wants (avm most) u)) s j) (sym i) (g most u (e ∙ ap (took u) i) h)
+
+module _ (most : ℕ) (w : Layout) (s : List ℕ) (at : ℕ) (u : Unsigned (avm most)) (e : read (unsigned (avm most)) s 0 ≡ took u at) (h : w ≡ layout most u)
+    (x : Number) (p : x ≡ valued (number 4) s at) where
+  abbrev Wanting-here : List Want
+  Wanting-here = wants (avm most) u
+
+  count-short : (d f : Refusal) → x ≡ N.Refused d → f ≡ cutAt 4 s at → Q.Refused f ≡ ended (credentials Wanting-here) s at
+  unfolding credentials Credentials.layout pieces constant
+  count-short d f q g = W.on-short 4 s at _ Q.Refused _ x d p q f g refl
+
+  count-other : (c i : ℕ) → x ≡ N.Value c i → (c ≡ w .«credentials_count» → ⊥) → Q.Refused (by wrongCount at) ≡ ended (credentials Wanting-here) s at
+  unfolding credentials Credentials.layout pieces constant wants
+  count-other c i q o =
+      W.on-value 4 s at _ Q.Refused _ x c i p q
+      (W.if-ne c (length Wanting-here) _ _ _ (λ j. o (j ∙ sym (ap (λ (v : Layout). v .«credentials_count») h))) refl)
+
+  count-same : (c i : ℕ) (r : Part) → x ≡ N.Value c i → c ≡ w .«credentials_count» → Slice s → Beside (w .kind) s (firstWanting w) c i r
+      → r ≡ ended (credentials Wanting-here) s at
+  unfolding credentials Credentials.layout pieces constant wants
+  count-same c i r q o b d =
+      let counts : c ≡ length Wanting-here = o ∙ ap (λ (v : Layout). v .«credentials_count») h in
+      let here : Wants most s (w .kind) (firstWanting w) Wanting-here =
+      subst (λ (v : Layout). Wants most s (v .kind) (firstWanting v) Wanting-here) (sym h) (first-wants most s u at b e) in
+      W.on-value 4 s at _ Q.Refused _ x c i p q (W.if-eq c (length Wanting-here) _ _ _ counts (d most Wanting-here here (sym counts)))
+
+-- whatever was read before
+module _ (w : Layout) (s : List ℕ) (b : Slice s) (x : Number) (p : x ≡ valued (number 4) s (w .«credentials_at»)) where
+  pub counted-short : (d f : Refusal) → x ≡ N.Refused d → f ≡ cutAt 4 s (w .«credentials_at») → CredentialsAt w s (Q.Refused f)
+  counted-short d f q g = on-place w s b x p _ (λ most u e h. count-short most w s _ u e h x p d f q g)
+
+  pub counted-other : (c i : ℕ) → x ≡ N.Value c i → (c ≡ w .«credentials_count» → ⊥) → (f : Refusal) → f ≡ by wrongCount (w .«credentials_at»)
+      → CredentialsAt w s (Q.Refused f)
+  counted-other c i q o f g =
+      subst (λ (e : Refusal). CredentialsAt w s (Q.Refused e)) (sym g) (on-place w s b x p _ (λ most u e h. count-other most w s _ u e h x p c i q o))
+
+  pub counted-same : (c i : ℕ) (r : Part) → x ≡ N.Value c i → c ≡ w .«credentials_count» → (from : Wanting) → from ≡ firstWanting w
+      → Beside (w .kind) s from c i r → CredentialsAt w s r
+  counted-same c i r q o from f d =
+      on-place w s b x p r (λ most u e h. count-same most w s _ u e h x p c i r q o b (subst (λ (from : Wanting). Beside (w .kind) s from c i r) f d))

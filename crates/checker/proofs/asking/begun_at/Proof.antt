@@ -1,0 +1,24 @@
+-- `checker::asking::begun_at` meets its contract. Assumes nothing.
+use borrow.Author.Needs.{needs}
+use Rattle.checker.proofs.Ahead.{beginning}
+use Rattle.checker.proofs.asking.begun_at.Statement.{statement}
+use Rattle.checker.proofs.asking.begun_at.Tie as tie
+
+pub begun-at-spec : {M : Type 1} → statement M
+begun-at-spec =
+    tie.close
+    (tie.spec
+    (λ c κs. search needs)  -- due-at-requires
+    (λ c. search needs)  -- enum-told
+    (λ c. search needs)  -- enum-told-2
+    (λ c. search needs)  -- enum-known-list
+    (λ c κs. search needs)  -- list-begun-requires
+    (λ c. search needs)  -- enum-known-field
+    (λ c κs. search needs)  -- field-past-requires
+    (λ c κs. search needs)  -- field-credential-requires
+    (λ c. search beginning depth 12)  -- returns
+    (λ c κs. search needs)  -- field-signatures-requires
+    (λ c. search beginning depth 12)  -- returns-2
+    (λ c. search beginning depth 12)  -- returns-3
+    (λ c. search beginning depth 12)  -- returns-4
+    (λ c. search beginning depth 12))  -- returns-5

@@ -1,0 +1,17 @@
+-- `checker::asking::element_wanted` meets its contract. Assumes nothing.
+use borrow.Author.Needs.{needs}
+use Rattle.checker.proofs.Ahead.{element-unread}
+use Rattle.checker.proofs.Ahead.{element-wanted}
+use Rattle.checker.proofs.asking.element_wanted.Statement.{statement}
+use Rattle.checker.proofs.asking.element_wanted.Tie as tie
+
+pub element-wanted-spec : {M : Type 1} → statement M
+element-wanted-spec =
+    tie.close
+    (tie.spec
+    (λ c κs. search needs)  -- asking-past-requires
+    (λ c. search needs)  -- enum-known-signatures
+    (λ c. search needs)  -- enum-told
+    (λ c. search (element-unread, element-wanted) depth 12)  -- returns
+    (λ c. search needs)  -- sub-t6
+    (λ c. search (element-unread, element-wanted) depth 12))  -- returns-2

@@ -1,0 +1,21 @@
+-- `checker::asking::list_begun` meets its contract. Assumes nothing.
+use borrow.Author.Needs.{needs}
+use Rattle.checker.proofs.Ahead.{listing}
+use Rattle.checker.proofs.asking.list_begun.Statement.{statement}
+use Rattle.checker.proofs.asking.list_begun.Tie as tie
+
+pub list-begun-spec : {M : Type 1} → statement M
+list-begun-spec =
+    tie.close
+    (tie.spec
+    (λ c κs. search needs)  -- u32-at-requires
+    (λ c. search needs)  -- enum-known-count
+    (λ c. search needs)  -- enum-told
+    (λ c. search listing depth 12)  -- returns
+    (λ c κs. search needs)  -- credential-of-requires
+    (λ c κs. search needs)  -- elements-past-requires
+    (λ c. search needs)  -- enum-told-2
+    (λ c. search needs)  -- enum-known-next
+    (λ c. search listing depth 12)  -- returns-2
+    (λ c. search listing depth 12)  -- returns-3
+    (λ c. search listing depth 12))  -- returns-4

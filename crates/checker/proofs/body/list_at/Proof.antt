@@ -1,0 +1,25 @@
+-- `checker::body::list_at` meets its contract. Assumes nothing.
+use borrow.Author.Needs.{needs}
+use Rattle.transaction.proofs.Reading.{listing}
+use Rattle.transaction.specs.Form.{atLeast}
+use Rattle.checker.proofs.body.list_at.Statement.{statement}
+use Rattle.checker.proofs.body.list_at.Tie as tie
+
+pub list-at-spec : {M : Type 1} → statement M
+unfolding atLeast
+list-at-spec =
+    tie.close
+    (tie.spec
+    (λ c κs. search needs)  -- u32-at-requires
+    (λ c. search needs)  -- enum-known-count
+    (λ c. search needs)  -- enum-told
+    (λ c κs. search needs)  -- cut-requires
+    (λ c. search listing depth 12)  -- returns
+    (λ c κs. search needs)  -- refuse-requires
+    (λ c. search listing depth 12)  -- returns-2
+    (λ c. search listing depth 12)  -- returns-3
+    (λ c κs. search needs)  -- elements-from-requires
+    (λ c. search needs)  -- enum-known-next
+    (λ c. search needs)  -- enum-known-refusal
+    (λ c. search listing depth 12)  -- returns-4
+    (λ c. search listing depth 12))  -- returns-5

@@ -1,0 +1,32 @@
+-- `checker::body::segment_at` meets its contract. Assumes nothing.
+use borrow.Author.Needs.{needs}
+use Rattle.checker.proofs.Planning.{passing}
+use Rattle.checker.proofs.body.segment_at.Statement.{statement}
+use Rattle.checker.proofs.body.segment_at.Tie as tie
+
+pub segment-at-spec : {M : Type 1} → statement M
+segment-at-spec =
+    tie.close
+    (tie.spec
+    (λ c κs. search needs)  -- due-at-requires
+    (λ c. search needs)  -- enum-told
+    (λ c. search needs)  -- enum-told-2
+    (λ c. search needs)  -- enum-known-field
+    (λ c κs. search needs)  -- field-end-requires
+    (λ c. search needs)  -- enum-known-refusal
+    (λ c. search needs)  -- enum-known-next
+    (λ c κs. search needs)  -- field-credential-requires
+    (λ c. search passing depth 12)  -- returns
+    (λ c. search needs)  -- enum-known-list
+    (λ c. search needs)  -- cast-list-at
+    (λ c κs. search needs)  -- list-at-requires
+    (λ c. search needs)  -- enum-known-refusal-2
+    (λ c. search needs)  -- enum-known-count
+    (λ c κs. search needs)  -- credential-of-requires
+    (λ c. search passing depth 12)  -- returns-2
+    (λ c. search passing depth 12)  -- returns-3
+    (λ c. search passing depth 12)  -- returns-4
+    (λ c. search passing depth 12)  -- returns-5
+    (λ c. search passing depth 12)  -- returns-6
+    (λ c. search passing depth 12)  -- returns-7
+    (λ c. search passing depth 12))  -- returns-8

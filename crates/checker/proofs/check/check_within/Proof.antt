@@ -1,0 +1,18 @@
+-- `checker::check::check_within` meets its contract. Assumes nothing.
+use borrow.Author.Needs.{needs}
+use Rattle.transaction.proofs.Checking.{checking}
+use Rattle.checker.proofs.check.check_within.Statement.{statement}
+use Rattle.checker.proofs.check.check_within.Tie as tie
+
+pub check-within-spec : {M : Type 1} → statement M
+check-within-spec =
+    tie.close
+    (tie.spec
+    (λ c κs. search needs)  -- refuse-requires
+    (λ c. search checking depth 12)  -- returns
+    (λ c κs. search needs)  -- unsigned-at-requires
+    (λ c. search needs)  -- enum-known-refusal
+    (λ c. search needs)  -- enum-known-layout
+    (λ c κs. search needs)  -- signed-at-requires
+    (λ c. search checking depth 12)  -- returns-2
+    (λ c. search checking depth 12))  -- returns-3

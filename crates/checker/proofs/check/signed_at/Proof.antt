@@ -1,0 +1,17 @@
+-- `checker::check::signed_at` meets its contract. Assumes nothing.
+use borrow.Author.Needs.{needs}
+use Rattle.transaction.proofs.Checking.{signing}
+use Rattle.checker.proofs.check.signed_at.Statement.{statement}
+use Rattle.checker.proofs.check.signed_at.Tie as tie
+
+pub signed-at-spec : {M : Type 1} → statement M
+signed-at-spec =
+    tie.close
+    (tie.spec
+    (λ c κs. search needs)  -- credentials-at-requires
+    (λ c. search needs)  -- enum-known-refusal
+    (λ c. search needs)  -- enum-known-end
+    (λ c κs. search needs)  -- refuse-requires
+    (λ c. search signing depth 12)  -- returns
+    (λ c. search signing depth 12)  -- returns-2
+    (λ c. search signing depth 12))  -- returns-3

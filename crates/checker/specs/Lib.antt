@@ -1,0 +1,3 @@
+-- What the loops over a plan answer
+pub mod Segments
+pub mod Wanted

@@ -1,0 +1,55 @@
+-- `draft::fill_within` meets its contract. Assumes nothing.
+use Rattle.draft.proofs.Calling.{fill-17, fill-15, fill-21, fill-20, fill-0}
+use borrow.Author.Needs.{needs}
+use Rattle.draft.proofs.fill_within.Statement.{statement}
+use Rattle.draft.proofs.fill_within.Tie as tie
+
+returns-4 : tie.Need-returns-4
+returns-4 c =
+    let clashed = c .before .before in
+    let located = clashed .before .before .before .before .before in
+    let accepted = located .before .before .before .before .before in
+    let called = accepted .before .before in
+    let found = located .before .before in
+    fill-20 _ _ _ _ _ (called .check-within .ensures) _ _ (accepted .layout .given .1) (called .before .before .before .slice-known .given)
+    _ (found .place-of .ensures) _ (located .at .given .1) (clashed .before .before .before .if1 .left)
+    _ (clashed .before .slot-of .ensures) _ (clashed .clash .ensures) (c .before .if2 .taken) _ (c .refused4 .ensures)
+
+returns-5 : tie.Need-returns-5
+returns-5 c =
+    let clashed = c .before .before .before .before .before in
+    let located = clashed .before .before .before .before .before in
+    let accepted = located .before .before .before .before .before in
+    let called = accepted .before .before in
+    let found = located .before .before in
+    fill-0 _ _ _ _ _ (called .check-within .ensures) _ _ (accepted .layout .given .1) (called .before .before .before .slice-known .given)
+    _ (found .place-of .ensures) _ (located .at .given .1) (clashed .before .before .before .if1 .left)
+    _ (clashed .before .slot-of .ensures) _ (clashed .clash .ensures) (c .before .before .before .before .if2 .left) _ (c .before .before .join-at .ensures)
+
+pub fill-within-spec : {M : Type 1} → statement M
+fill-within-spec =
+    tie.close
+    (tie.spec
+    (λ c κs. search needs)  -- check-within-requires
+    (λ c. search needs)  -- enum-known-layout
+    (λ c. search needs)  -- enum-told
+    (λ c κs. search needs)  -- refused-requires
+    (λ c. search needs)  -- same-length
+    (λ c. search fill-17)  -- returns
+    (λ c κs. search needs)  -- place-of-requires
+    (λ c. search needs)  -- enum-known-at
+    (λ c. search needs)  -- enum-told-2
+    (λ c κs. search needs)  -- refused-requires-2
+    (λ c. search needs)  -- same-length-2
+    (λ c. search fill-15)  -- returns-2
+    (λ c κs. search needs)  -- refused-requires-3
+    (λ c. search needs)  -- same-length-3
+    (λ c. search fill-21)  -- returns-3
+    (λ c κs. search needs)  -- slot-of-requires
+    (λ c κs. search needs)  -- clash-requires
+    (λ c κs. search needs)  -- refused-requires-4
+    (λ c. search needs)  -- same-length-4
+    returns-4
+    (λ c κs. search needs)  -- join-at-requires
+    (λ c. search needs)  -- same-length-5
+    returns-5)

@@ -1,0 +1,87 @@
+-- `draft::merge_within` meets its contract. Assumes nothing.
+use Rattle.draft.proofs.Calling.{merge-17, merge-18, merge-19, merge-20, merge-14, merge-0}
+use mathlib.Core.Path.{sym}
+use lib.Seq.{length-take-le}
+use borrow.Author.Needs.{needs}
+use Rattle.draft.proofs.merge_within.Statement.{statement}
+use Rattle.draft.proofs.merge_within.Tie as tie
+
+returns-3 : tie.Need-returns-3
+returns-3 c =
+    let compared = c .before .before in
+    let second = compared .before .before .before .before in
+    let first = second .before .before .before .before in
+    let slices = first .before .before .before .before in
+    merge-19 _ _ _ _ _ (first .before .before .check-within .ensures) _ _ (first .layout .given .1) (slices .before .shared-slice-known .given)
+    _ (second .before .before .check-within2 .ensures) _ _ (second .other .given .1) (slices .shared-slice-known2 .given)
+    _ _ (compared .before .before .between .ensures) (compared .before .between2 .ensures) _ (compared .same-bytes .ensures)
+    (c .before .if1 .taken) _ (c .refused3 .ensures)
+
+returns-4 : tie.Need-returns-4
+returns-4 c =
+    let searched = c .before .before .before .before in
+    let compared = searched .before .before in
+    let second = compared .before .before .before .before in
+    let first = second .before .before .before .before in
+    let slices = first .before .before .before .before in
+    merge-20 _ _ _ _ _ (first .before .before .check-within .ensures) _ _ (first .layout .given .1) (slices .before .shared-slice-known .given)
+    _ (second .before .before .check-within2 .ensures) _ _ (second .other .given .1) (slices .shared-slice-known2 .given)
+    _ _ (compared .before .before .between .ensures) (compared .before .between2 .ensures) _ (compared .same-bytes .ensures)
+    _ (searched .first-clash .ensures) (searched .before .if1 .left) _ (c .before .before .k .given .1) _ (c .refused4 .ensures)
+
+returns-5 : tie.Need-returns-5
+returns-5 c =
+    let searched = c .before .before .before .before in
+    let compared = searched .before .before in
+    let second = compared .before .before .before .before in
+    let first = second .before .before .before .before in
+    let slices = first .before .before .before .before in
+    merge-14 _ _ _ _ _ (first .before .before .check-within .ensures) _ _ (first .layout .given .1) (slices .before .shared-slice-known .given)
+    _ (second .before .before .check-within2 .ensures) _ _ (second .other .given .1) (slices .shared-slice-known2 .given)
+    _ _ (compared .before .before .between .ensures) (compared .before .between2 .ensures) _ (compared .same-bytes .ensures)
+    _ (searched .first-clash .ensures) (searched .before .if1 .left) (c .before .before .enum-told3 .given .1) (c .before .if2 .taken) _ (c .refused5 .ensures)
+
+returns-6 : tie.Need-returns-6
+returns-6 c =
+    let searched = c .before .before .before .before .before .before .before in
+    let compared = searched .before .before in
+    let second = compared .before .before .before .before in
+    let first = second .before .before .before .before in
+    let slices = first .before .before .before .before in
+    merge-0 _ _ _ _ _ (first .before .before .check-within .ensures) _ _ (first .layout .given .1) (slices .before .shared-slice-known .given)
+    _ (second .before .before .check-within2 .ensures) _ _ (second .other .given .1) (slices .shared-slice-known2 .given)
+    _ _ (compared .before .before .between .ensures) (compared .before .between2 .ensures) _ (compared .same-bytes .ensures)
+    _ (searched .first-clash .ensures) (searched .before .if1 .left) (c .before .before .before .before .before .enum-told3 .given .1)
+    _ (c .before .before .before .before .if2 .left) (c .before .before .put-merge .ensures)
+
+pub merge-within-spec : {M : Type 1} → statement M
+merge-within-spec =
+    tie.close
+    (tie.spec
+    (λ c κs. search needs)  -- check-within-requires
+    (λ c. search needs)  -- enum-known-layout
+    (λ c. search needs)  -- enum-told
+    (λ c κs. search needs)  -- refused-requires
+    (λ c. search merge-17)  -- returns
+    (λ c κs. search needs)  -- check-within-requires-2
+    (λ c. search needs)  -- enum-known-other
+    (λ c. search needs)  -- enum-told-2
+    (λ c κs. search needs)  -- refused-requires-2
+    (λ c. search merge-18)  -- returns-2
+    (λ c κs. search needs)  -- between-requires
+    (λ c κs. search needs)  -- between-requires-2
+    (λ c κs. search needs)  -- same-bytes-requires
+    (λ c κs. search needs)  -- refused-requires-3
+    returns-3
+    (λ c κs. search needs)  -- first-clash-requires
+    (λ c. search needs)  -- enum-known-k
+    (λ c κs. search needs)  -- refused-requires-4
+    returns-4
+    (λ c. search needs)  -- enum-told-3
+    (λ c κs. search needs)  -- refused-requires-5
+    returns-5
+    (λ c. search needs)  -- slice-relend-prefix-put-merge
+    (λ c. sym (length-take-le _ _ (c .before .if2 .left)))  -- slice-aggregate-put-merge
+    (λ c κs. search needs)  -- put-merge-requires
+    (λ c. search needs)  -- same-length
+    returns-6)

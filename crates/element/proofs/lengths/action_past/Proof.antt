@@ -1,0 +1,27 @@
+-- `element::lengths::action_past` meets its contract.
+-- Assumes nothing.
+use borrow.Author.Needs.{needs}
+use Rattle.wire.specs.Sequence.{andThen}
+use Rattle.element.proofs.Passing.{passing, action-told}
+use Rattle.element.proofs.lengths.action_past.Statement.{statement}
+use Rattle.element.proofs.lengths.action_past.Tie as tie
+
+pub action-past-spec : {M : Type 1} → statement M
+unfolding andThen
+action-past-spec =
+    tie.close
+    (tie.spec
+    (λ c κs. search needs)  -- u32-at-requires
+    (λ c. search needs)  -- enum-known-kind
+    (λ c. search needs)  -- enum-told
+    (λ c κs. search needs)  -- cut-requires
+    (λ c. action-told _ _ (search needs) _ (search passing depth 8))  -- returns
+    (λ c κs. search needs)  -- terms-past-requires
+    (λ c. search needs)  -- enum-known-refusal
+    (λ c. search needs)  -- enum-known-asked
+    (λ c κs. search needs)  -- recipients-past-requires
+    (λ c. search needs)  -- enum-known-refusal-2
+    (λ c. search needs)  -- enum-known-next
+    (λ c. action-told _ _ (search needs) _ (search passing depth 8))  -- returns-2
+    (λ c. action-told _ _ (search needs) _ (search passing depth 8))  -- returns-3
+    (λ c. action-told _ _ (search needs) _ (search passing depth 8)))  -- returns-4

@@ -1,0 +1,24 @@
+-- `element::lengths::operation_past` meets its contract.
+-- Assumes nothing.
+use borrow.Author.Needs.{needs}
+use Rattle.wire.specs.Sequence.{andThen}
+use Rattle.element.proofs.Passing.{passing, operation-told}
+use Rattle.element.proofs.lengths.operation_past.Statement.{statement}
+use Rattle.element.proofs.lengths.operation_past.Tie as tie
+
+pub operation-past-spec : {M : Type 1} → statement M
+unfolding andThen
+operation-past-spec =
+    tie.close
+    (tie.spec
+    (λ c κs. search needs)  -- part-at-requires
+    (λ c. search needs)  -- enum-known-pairs
+    (λ c. search needs)  -- enum-told
+    (λ c κs. search needs)  -- cut-requires
+    (λ c. operation-told _ _ (search needs) _ (search passing depth 8))  -- returns
+    (λ c κs. search needs)  -- list-past-requires
+    (λ c. search needs)  -- enum-known-refusal
+    (λ c. search needs)  -- enum-known-action
+    (λ c κs. search needs)  -- action-past-requires
+    (λ c. operation-told _ _ (search needs) _ (search passing depth 8))  -- returns-2
+    (λ c. operation-told _ _ (search needs) _ (search passing depth 8)))  -- returns-3

@@ -1,0 +1,31 @@
+-- `element::lengths::owners_list_past` meets its contract. The invariant: where what is left is passed from here, the whole list is.
+-- Assumes nothing.
+use borrow.Author.Needs.{needs}
+use Rattle.wire.specs.Series.{left as written, unordered}
+use Rattle.wire.proofs.Passing.{Onward, passes}
+use Rattle.element.specs.Owners.{owners}
+use Rattle.element.proofs.Passing.{looping}
+use Rattle.element.proofs.lengths.owners_list_past.Statement.{statement}
+use Rattle.element.proofs.lengths.owners_list_past.Tie as tie
+
+abbrev Inv-loop : tie.InvT-loop
+Inv-loop s start count left₀ at₀ left at = Onward (λ prev. owners) (written (λ prev. owners)) s left at count start
+
+abbrev μ-loop : tie.MeasureT-loop
+μ-loop s start count left₀ at₀ left at = left
+
+pub owners-list-past-spec : {M : Type 1} → statement M
+owners-list-past-spec =
+    tie.close
+    (tie.spec
+    Inv-loop
+    μ-loop
+    (λ c. search looping)  -- loop-holds
+    (λ c κs. search needs)  -- owners-past-requires
+    (λ c. search needs)  -- enum-known-refusal
+    (λ c. passes (unordered owners _) _ _ _ (search looping))  -- returns
+    (λ c. search needs)  -- enum-known-next
+    (λ c. search needs)  -- sub-left
+    (λ c. search needs)  -- loop-less
+    (λ c. search looping)  -- loop-again
+    (λ c. passes (unordered owners _) _ _ _ (search looping)))  -- returns-2

@@ -1,0 +1,23 @@
+-- `element::lengths::owners_past` meets its contract.
+-- Assumes nothing.
+use borrow.Author.Needs.{needs}
+use Rattle.wire.specs.Sequence.{andThen}
+use Rattle.element.proofs.Passing.{passing, owners-passed}
+use Rattle.element.proofs.lengths.owners_past.Statement.{statement}
+use Rattle.element.proofs.lengths.owners_past.Tie as tie
+
+pub owners-past-spec : {M : Type 1} → statement M
+unfolding andThen
+owners-past-spec =
+    tie.close
+    (tie.spec
+    (λ c κs. search needs)  -- part-at-requires
+    (λ c. search needs)  -- enum-known-addresses
+    (λ c. search needs)  -- enum-told
+    (λ c κs. search needs)  -- cut-requires
+    (λ c. owners-passed _ _ (search needs) _ (search passing depth 8))  -- returns
+    (λ c κs. search needs)  -- list-past-requires
+    (λ c. search needs)  -- enum-known-refusal
+    (λ c. search needs)  -- enum-known-next
+    (λ c. owners-passed _ _ (search needs) _ (search passing depth 8))  -- returns-2
+    (λ c. owners-passed _ _ (search needs) _ (search passing depth 8)))  -- returns-3

@@ -1,0 +1,24 @@
+-- `element::lengths::payload_past` meets its contract.
+-- Assumes nothing.
+use borrow.Author.Needs.{needs}
+use Rattle.wire.specs.Sequence.{andThen}
+use Rattle.element.proofs.Passing.{passing, payload-passed}
+use Rattle.element.proofs.lengths.payload_past.Statement.{statement}
+use Rattle.element.proofs.lengths.payload_past.Tie as tie
+
+pub payload-past-spec : {M : Type 1} → statement M
+unfolding andThen
+payload-past-spec =
+    tie.close
+    (tie.spec
+    (λ c κs. search needs)  -- part-at-requires
+    (λ c. search needs)  -- enum-known-payload
+    (λ c. search needs)  -- enum-told
+    (λ c κs. search needs)  -- cut-requires
+    (λ c. payload-passed _ _ _ (search passing depth 8))  -- returns
+    (λ c κs. search needs)  -- string-past-requires
+    (λ c. search needs)  -- enum-known-refusal
+    (λ c. search needs)  -- enum-known-next
+    (λ c κs. search needs)  -- owners-past-requires
+    (λ c. payload-passed _ _ _ (search passing depth 8))  -- returns-2
+    (λ c. payload-passed _ _ _ (search passing depth 8)))  -- returns-3

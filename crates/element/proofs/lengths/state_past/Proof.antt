@@ -1,0 +1,25 @@
+-- `element::lengths::state_past` meets its contract.
+-- Assumes nothing.
+use borrow.Author.Needs.{needs}
+use Rattle.wire.specs.Sequence.{andThen}
+use Rattle.element.proofs.Passing.{passing, state-passed}
+use Rattle.element.proofs.lengths.state_past.Statement.{statement}
+use Rattle.element.proofs.lengths.state_past.Tie as tie
+
+pub state-past-spec : {M : Type 1} → statement M
+unfolding andThen
+state-past-spec =
+    tie.close
+    (tie.spec
+    (λ c κs. search needs)  -- part-at-requires
+    (λ c. search needs)  -- enum-known-outputs
+    (λ c. search needs)  -- enum-told
+    (λ c κs. search needs)  -- cut-requires
+    (λ c. state-passed _ _ (search needs) _ (search passing depth 8))  -- returns
+    (λ c κs. search needs)  -- u32-at-requires
+    (λ c. search needs)  -- enum-known-count
+    (λ c. search needs)  -- enum-told-2
+    (λ c. search needs)  -- cut-requires-2
+    (λ c. state-passed _ _ (search needs) _ (search passing depth 8))  -- returns-2
+    (λ c κs. search needs)  -- outputs-past-requires
+    (λ c. state-passed _ _ (search needs) _ (search passing depth 8)))  -- returns-3

@@ -1,0 +1,27 @@
+-- `element::lengths::terms_past` meets its contract.
+-- Assumes nothing.
+use borrow.Author.Needs.{needs}
+use Rattle.wire.specs.Sequence.{andThen}
+use Rattle.element.proofs.Passing.{passing, terms-told}
+use Rattle.element.proofs.lengths.terms_past.Statement.{statement}
+use Rattle.element.proofs.lengths.terms_past.Tie as tie
+
+pub terms-past-spec : {M : Type 1} → statement M
+unfolding andThen
+terms-past-spec =
+    tie.close
+    (tie.spec
+    (λ c κs. search needs)  -- list-past-requires
+    (λ c. search needs)  -- enum-known-refusal
+    (λ c. search needs)  -- enum-known-count
+    (λ c κs. search needs)  -- part-at-requires
+    (λ c. search needs)  -- enum-known-payload
+    (λ c. search needs)  -- enum-told
+    (λ c κs. search needs)  -- cut-requires
+    (λ c. terms-told _ _ (search needs) _ (search passing depth 8))  -- returns
+    (λ c κs. search needs)  -- string-past-requires
+    (λ c. search needs)  -- enum-known-refusal-2
+    (λ c. search needs)  -- enum-known-next
+    (λ c. terms-told _ _ (search needs) _ (search passing depth 8))  -- returns-2
+    (λ c. terms-told _ _ (search needs) _ (search passing depth 8))  -- returns-3
+    (λ c. terms-told _ _ (search needs) _ (search passing depth 8)))  -- returns-4

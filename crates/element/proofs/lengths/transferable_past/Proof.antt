@@ -1,0 +1,20 @@
+-- `element::lengths::transferable_past` meets its contract.
+-- Assumes nothing.
+use borrow.Author.Needs.{needs}
+use Rattle.wire.specs.Sequence.{andThen}
+use Rattle.element.proofs.Passing.{passing, transferable-passed}
+use Rattle.element.proofs.lengths.transferable_past.Statement.{statement}
+use Rattle.element.proofs.lengths.transferable_past.Tie as tie
+
+pub transferable-past-spec : {M : Type 1} → statement M
+unfolding andThen
+transferable-past-spec =
+    tie.close
+    (tie.spec
+    (λ c κs. search needs)  -- part-at-requires
+    (λ c. search needs)  -- enum-known-next
+    (λ c. search needs)  -- enum-told
+    (λ c κs. search needs)  -- cut-requires
+    (λ c. transferable-passed _ _ (search needs) _ (search passing depth 8))  -- returns
+    (λ c κs. search needs)  -- output-past-requires
+    (λ c. transferable-passed _ _ (search needs) _ (search passing depth 8)))  -- returns-2

@@ -1,0 +1,27 @@
+-- `element::operations::action_at` meets its contract. Assumes nothing.
+use borrow.Author.Needs.{needs}
+use Rattle.element.proofs.Reading.{acting}
+use Rattle.element.specs.Operations.{action}
+use Rattle.element.proofs.operations.action_at.Statement.{statement}
+use Rattle.element.proofs.operations.action_at.Tie as tie
+
+pub action-at-spec : {M : Type 1} → statement M
+unfolding action
+action-at-spec =
+    tie.close
+    (tie.spec
+    (λ c κs. search needs)  -- u32-at-requires
+    (λ c. search needs)  -- enum-known-kind
+    (λ c. search needs)  -- enum-told
+    (λ c κs. search needs)  -- cut-requires
+    (λ c. search acting depth 12)  -- returns
+    (λ c κs. search needs)  -- refuse-requires
+    (λ c. search acting depth 12)  -- returns-2
+    (λ c κs. search needs)  -- refuse-requires-2
+    (λ c. search acting depth 12)  -- returns-3
+    (λ c κs. search needs)  -- terms-at-requires
+    (λ c. search needs)  -- enum-known-refusal
+    (λ c. search needs)  -- enum-known-o
+    (λ c κs. search needs)  -- recipients-at-requires
+    (λ c. search acting depth 12)  -- returns-4
+    (λ c. search acting depth 12))  -- returns-5

@@ -1,0 +1,28 @@
+-- `element::operations::operation_at` meets its contract. Assumes nothing.
+use borrow.Author.Needs.{needs}
+use Rattle.element.proofs.Reading.{reading}
+use Rattle.element.specs.Operations.{operation}
+use Rattle.element.proofs.operations.operation_at.Statement.{statement}
+use Rattle.element.proofs.operations.operation_at.Tie as tie
+
+pub operation-at-spec : {M : Type 1} → statement M
+unfolding operation
+operation-at-spec =
+    tie.close
+    (tie.spec
+    (λ c κs. search needs)  -- part-at-requires
+    (λ c. search needs)  -- enum-known-p
+    (λ c. search needs)  -- enum-told
+    (λ c κs. search needs)  -- cut-requires
+    (λ c. search reading depth 12)  -- returns
+    (λ c κs. search needs)  -- u32-at-requires
+    (λ c. search needs)  -- enum-known-count
+    (λ c. search needs)  -- enum-told-2
+    (λ c κs. search needs)  -- cut-requires-2
+    (λ c. search reading depth 12)  -- returns-2
+    (λ c κs. search needs)  -- pairs-from-requires
+    (λ c. search needs)  -- enum-known-refusal
+    (λ c. search needs)  -- enum-known-t
+    (λ c κs. search needs)  -- action-at-requires
+    (λ c. search reading depth 12)  -- returns-3
+    (λ c. search reading depth 12))  -- returns-4

@@ -1,0 +1,28 @@
+-- `element::operations::terms_at` meets its contract. Assumes nothing.
+use borrow.Author.Needs.{needs}
+use Rattle.element.proofs.Reading.{reading}
+use Rattle.element.specs.Operations.{terms}
+use Rattle.element.proofs.operations.terms_at.Statement.{statement}
+use Rattle.element.proofs.operations.terms_at.Tie as tie
+
+pub terms-at-spec : {M : Type 1} → statement M
+unfolding terms
+terms-at-spec =
+    tie.close
+    (tie.spec
+    (λ c κs. search needs)  -- u32-at-requires
+    (λ c. search needs)  -- enum-known-count
+    (λ c. search needs)  -- enum-told
+    (λ c κs. search needs)  -- cut-requires
+    (λ c. search reading depth 12)  -- returns
+    (λ c κs. search needs)  -- indices-from-requires
+    (λ c. search needs)  -- enum-known-refusal
+    (λ c. search needs)  -- enum-known-g
+    (λ c κs. search needs)  -- u32-at-requires-2
+    (λ c. search needs)  -- enum-known-p
+    (λ c. search needs)  -- enum-told-2
+    (λ c κs. search needs)  -- cut-requires-2
+    (λ c. search reading depth 12)  -- returns-2
+    (λ c κs. search needs)  -- string-at-requires
+    (λ c. search reading depth 12)  -- returns-3
+    (λ c. search reading depth 12))  -- returns-4

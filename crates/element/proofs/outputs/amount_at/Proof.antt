@@ -1,0 +1,20 @@
+-- `element::outputs::amount_at` meets its contract. Assumes nothing.
+use borrow.Author.Needs.{needs}
+use Rattle.element.proofs.Reading.{reading}
+use Rattle.element.specs.Outputs.{amount}
+use Rattle.element.proofs.outputs.amount_at.Statement.{statement}
+use Rattle.element.proofs.outputs.amount_at.Tie as tie
+
+pub amount-at-spec : {M : Type 1} → statement M
+unfolding amount
+amount-at-spec =
+    tie.close
+    (tie.spec
+    (λ c κs. search needs)  -- u64-at-requires
+    (λ c. search needs)  -- enum-known-amount
+    (λ c. search needs)  -- enum-told
+    (λ c κs. search needs)  -- cut-requires
+    (λ c. search reading depth 12)  -- returns
+    (λ c κs. search needs)  -- refuse-requires
+    (λ c. search reading depth 12)  -- returns-2
+    (λ c. search reading depth 12))  -- returns-3

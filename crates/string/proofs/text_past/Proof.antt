@@ -1,0 +1,21 @@
+-- `string::text_past` meets its contract.
+-- Assumes nothing.
+use borrow.Author.Needs.{needs}
+use Rattle.wire.specs.Sequence.{andThen}
+use Rattle.string.proofs.Reading.{reading}
+use Rattle.string.proofs.Passing.{text-passed}
+use Rattle.string.proofs.text_past.Statement.{statement}
+use Rattle.string.proofs.text_past.Tie as tie
+
+pub text-past-spec : {M : Type 1} → statement M
+unfolding andThen
+text-past-spec =
+    tie.close
+    (tie.spec
+    (λ c κs. search needs)  -- u16-at-requires
+    (λ c. search needs)  -- enum-known-length
+    (λ c. search needs)  -- enum-told
+    (λ c κs. search needs)  -- cut-requires
+    (λ c. text-passed _ _ (search needs) _ (search reading depth 12))  -- returns
+    (λ c κs. search needs)  -- part-at-requires
+    (λ c. text-passed _ _ (search needs) _ (search reading depth 12)))  -- returns-2
