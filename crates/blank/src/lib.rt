@@ -73,24 +73,34 @@ fn blanks_end(s: &[u8], kind: u32, from: Wanting, count: u64, start: usize, limi
     requires { ⌜ start ≤ limit ⌝ }
     ensures { λ r. ⌜ OfAhead kind (now (s .entry)) from count (λ ws. r ≡ fitted start (length (blankBytes ws)) limit) ⌝ }
 {
-    let mut cursor = from;
+    let mut phase = from.phase;
+    let mut asks = from.asks;
+    let mut q = from.at;
+    let mut elements = from.left;
     let mut left = count;
     let mut at = start;
     while 0 < left {
-        match asking::next_wanted(s, kind, cursor) {
-            Wanted::End => {
-                return Part::Next(at);
+        let cursor = Wanting {
+            phase,
+            asks,
+            at: q,
+            left: elements,
+        };
+        let Wanted::Credential(_, signatures, next) = asking::next_wanted(s, kind, cursor) else {
+            return Part::Next(at);
+        };
+        match blank_end(at, signatures, limit) {
+            Part::Refused(refusal) => {
+                return Part::Refused(refusal);
             }
-            Wanted::Credential(_, signatures, next) => match blank_end(at, signatures, limit) {
-                Part::Refused(refusal) => {
-                    return Part::Refused(refusal);
-                }
-                Part::Next(end) => {
-                    cursor = next;
-                    at = end;
-                    left -= 1;
-                }
-            },
+            Part::Next(end) => {
+                phase = next.phase;
+                asks = next.asks;
+                q = next.at;
+                elements = next.left;
+                at = end;
+                left -= 1;
+            }
         }
     }
     Part::Next(at)
@@ -101,20 +111,32 @@ fn put_blanks(buf: &mut [u8], end: usize, kind: u32, from: Wanting, count: u64, 
     requires { ⌜ Room kind (take end (now buf)) from count end start (length (now buf)) ⌝ }
     ensures { λ _. ⌜ OfAhead kind (take end (now (buf .entry))) from count (λ ws. now (buf .exit) ≡ overwrite (now (buf .entry)) start (blankBytes ws)) ⌝ }
 {
-    let mut cursor = from;
+    let mut phase = from.phase;
+    let mut asks = from.asks;
+    let mut q = from.at;
+    let mut elements = from.left;
     let mut owed = count;
     let mut at = start;
     while 0 < owed {
-        match asking::next_wanted(&buf[..end], kind, cursor) {
-            Wanted::End => {
-                return;
-            }
-            Wanted::Credential(code, signatures, next) => {
-                at = put_blank(buf, at, code, signatures);
-                cursor = next;
-                owed -= 1;
-            }
-        }
+        let cursor = Wanting {
+            phase,
+            asks,
+            at: q,
+            left: elements,
+        };
+        let Wanted::Credential(code, signatures, next) = asking::next_wanted(
+            &buf[..end],
+            kind,
+            cursor,
+        ) else {
+            return;
+        };
+        at = put_blank(buf, at, code, signatures);
+        phase = next.phase;
+        asks = next.asks;
+        q = next.at;
+        elements = next.left;
+        owed -= 1;
     }
 }
 

@@ -12,13 +12,13 @@ use Rattle.blank.proofs.blanks_end.Statement.{statement}
 use Rattle.blank.proofs.blanks_end.Tie as tie
 
 abbrev Inv-loop : tie.InvT-loop
-Inv-loop s kind count start limit cursor₀ left₀ at₀ cursor left at =
-    ((r : Part) → OfAhead kind s cursor left (λ ws. r ≡ fitted at (length (blankBytes ws)) limit)
-    → OfAhead kind s cursor₀ count (λ ws. r ≡ fitted start (length (blankBytes ws)) limit))
+Inv-loop s kind count start limit phase₀ asks₀ q₀ elements₀ left₀ at₀ phase asks q elements left at =
+    ((r : Part) → OfAhead kind s record { phase = phase; asks = asks; at = q; left = elements } left (λ ws. r ≡ fitted at (length (blankBytes ws)) limit)
+    → OfAhead kind s record { phase = phase₀; asks = asks₀; at = q₀; left = elements₀ } count (λ ws. r ≡ fitted start (length (blankBytes ws)) limit))
     × (at ≤ limit)
 
 abbrev μ-loop : tie.MeasureT-loop
-μ-loop s kind count start limit cursor₀ left₀ at₀ cursor left at = left
+μ-loop s kind count start limit phase₀ asks₀ q₀ elements₀ left₀ at₀ phase asks q elements left at = left
 
 pub blanks-end-spec : {M : Type 1} → statement M
 blanks-end-spec =
@@ -28,13 +28,13 @@ blanks-end-spec =
     μ-loop
     (λ c. (λ r h. h, omega arith))  -- loop-holds
     (λ c κs. search needs)  -- next-wanted-requires
+    (λ c. search needs)  -- enum-known-signatures
     (λ c. search needs)  -- enum-told
     (λ c.
     let l = c .before .before .before .before .loop in
     let n = c .before .before in
     let a = n .before .before .before .before .args in
-    l .inv .0 _ (of-end (a .s .now) (a .kind) (l .cursor) (l .left) _ (n .next-wanted .ensures) _ (n .before .loop-test .taken) (c .enum-told .given .1)))  -- returns
-    (λ c. search needs)  -- enum-known-signatures
+    l .inv .0 _ (of-end (a .s .now) (a .kind) record { phase = l .phase; asks = l .asks; at = l .q; left = l .elements } (l .left) _ (n .next-wanted .ensures) _ (n .before .loop-test .taken) (c .enum-told .given .1)))  -- returns
     (λ c κs. search needs)  -- blank-end-requires
     (λ c. search needs)  -- enum-known-refusal
     (λ c.
@@ -42,7 +42,7 @@ blanks-end-spec =
     let n = b .before .before .before .before in
     let l = n .before .before .loop in
     let a = n .before .before .before .before .args in
-    l .inv .0 _ (end-full (a .s .now) (a .kind) (l .cursor) (l .left) _ (n .next-wanted .ensures) _ _ _
+    l .inv .0 _ (end-full (a .s .now) (a .kind) record { phase = l .phase; asks = l .asks; at = l .q; left = l .elements } (l .left) _ (n .next-wanted .ensures) _ _ _
     (b .before .before .signatures .given .1) (l .at) _ _ (b .blank-end .ensures) _ (c .before .refusal .given .1)))  -- returns-2
     (λ c. search needs)  -- enum-known-end
     (λ c. search needs)  -- sub-left
@@ -52,11 +52,11 @@ blanks-end-spec =
     let n = b .before .before .before .before in
     let l = n .before .before .loop in
     let a = n .before .before .before .before .args in (
-      λ r h. l .inv .0 r (end-on (a .s .now) (a .kind) (l .cursor) (l .left) _ (n .next-wanted .ensures) _ _ _
+      λ r h. l .inv .0 r (end-on (a .s .now) (a .kind) record { phase = l .phase; asks = l .asks; at = l .q; left = l .elements } (l .left) _ (n .next-wanted .ensures) _ _ _
           (b .before .before .signatures .given .1) (l .at) _ _ (b .blank-end .ensures) r _ (c .before .end .given .1) h),
       fitted-next _ _ _ _ (b .blank-end .ensures) _ (c .before .end .given .1) .1,
     ))  -- loop-again
     (λ c.
     let l = c .before .loop in
     let a = c .before .before .before .args in
-    l .inv .0 _ (end-none (a .kind) (a .s .now) (l .cursor) (l .left) (l .at) (a .limit) (omega arith) (omega arith))))  -- returns-3
+    l .inv .0 _ (end-none (a .kind) (a .s .now) record { phase = l .phase; asks = l .asks; at = l .q; left = l .elements } (l .left) (l .at) (a .limit) (omega arith) (omega arith))))  -- returns-3

@@ -7,10 +7,12 @@ use Rattle.blank.proofs.put_blanks.Statement.{statement}
 use Rattle.blank.proofs.put_blanks.Tie as tie
 
 abbrev Inv-loop : tie.InvT-loop
-Inv-loop buf₀ end kind count start cursor₀ owed₀ at₀ buf cursor owed at = Writing buf₀ end kind cursor₀ count start buf cursor owed at
+Inv-loop buf₀ end kind count start phase₀ asks₀ q₀ elements₀ owed₀ at₀ buf phase asks q elements owed at =
+    Writing buf₀ end kind record { phase = phase₀; asks = asks₀; at = q₀; left = elements₀ } count start buf
+    record { phase = phase; asks = asks; at = q; left = elements } owed at
 
 abbrev μ-loop : tie.MeasureT-loop
-μ-loop buf₀ end kind count start cursor₀ owed₀ at₀ buf cursor owed at = owed
+μ-loop buf₀ end kind count start phase₀ asks₀ q₀ elements₀ owed₀ at₀ buf phase asks q elements owed at = owed
 
 pub put-blanks-spec : {M : Type 1} → statement M
 put-blanks-spec =
@@ -22,13 +24,13 @@ put-blanks-spec =
     (λ c. writing-front (c .before .loop .inv))  -- slice-reshare-prefix-next-wanted
     (λ c. simp length-take (omega (arith, writing-front (c .before .before .loop .inv))))  -- slice-aggregate-next-wanted
     (λ c κs. search needs)  -- next-wanted-requires
+    (λ c. search needs)  -- enum-known-code
     (λ c. search needs)  -- enum-told
     (λ c. search needs)  -- same-length
     (λ c.
     let n = c .before .before in
     let l = n .before .before .before .loop in
     writing-end (l .inv) _ (n .next-wanted .ensures) (n .before .before .loop-test .taken) (c .enum-told .given .1))  -- returns
-    (λ c. search needs)  -- enum-known-code
     (λ c κs.
     let n = c .before .before .before .before in
     let l = n .before .before .before .loop in
