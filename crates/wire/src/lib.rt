@@ -36,10 +36,11 @@ pub enum Rule {
     NotASignature,
 }
 
-// Why a reading or a request ends: the rule that is broken, and the place.
+// Why a reading or a request ends: the rule that is broken, and the place. The place stands first, where `Part::Next` has its own: they would
+// otherwise be taken apart and put together byte by byte.
 pub struct Refusal {
-    pub rule: Rule,
     pub place: usize,
+    pub rule: Rule,
 }
 
 // A part that is wholly there, with the place behind it.
@@ -94,7 +95,7 @@ pub fn number_of(rule: Rule) -> u32
 pub fn refuse(rule: Rule, place: usize) -> Refusal
     ensures { λ r. ⌜ r ≡ refusal rule place ⌝ }
 {
-    Refusal { rule, place }
+    Refusal { place, rule }
 }
 
 // The same rule at place 0, for what has no place in the bytes.
