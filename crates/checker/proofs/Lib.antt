@@ -3,3 +3,4 @@ pub mod Planning
 pub mod Unsigned
 pub mod Ahead
 pub mod Besides
+pub mod Signatures

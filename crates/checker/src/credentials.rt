@@ -1,9 +1,11 @@
 // The credentials, each read beside the element or field that wants it.
 ghost use mathlib.Core.Path.{_≡_};
+ghost use Prim.Native.Nat.{_<_, _^_};
 ghost use mathlib.Core.List.{[]};
 ghost use Rattle.wire.specs.Answer.{ended};
 ghost use Rattle.transaction.specs.Credentials.{signatures, credentialPieces, pieces};
 ghost use Rattle.transaction.specs.Answer.{CredentialsAt};
+ghost use Rattle.checker.specs.Cut.{firstCut};
 ghost use Rattle.checker.specs.Wanted.{Beside, firstWanting};
 use crate::Wanted;
 use crate::Wanting;
@@ -11,22 +13,35 @@ use crate::asking;
 use transaction::Layout;
 use wire::Number;
 use wire::Part;
+use wire::Refusal;
 use wire::Rule;
 
-// So many signatures.
-fn signatures_at(s: &[u8], start: usize, count: u64) -> Part
-    ensures { λ r. ⌜ r ≡ ended (pieces (signatures count [])) (now (s .entry)) start ⌝ }
+// Of so many signatures that are not all there, the first that is cut. In a function that answers refusals only, so that its loop stands outside
+// that over the credentials.
+fn first_cut(s: &[u8], start: usize, count: u64) -> Refusal
+    ensures { λ r. ⌜ r ≡ firstCut count (now (s .entry)) start ⌝ }
 {
     let mut left = count;
     let mut at = start;
     while 0 < left {
         let Part::Next(next) = wire::part_at(s, at, transaction::SIGNATURE_WIDTH) else {
-            return Part::Refused(wire::cut(s, at, transaction::SIGNATURE_WIDTH));
+            return wire::cut(s, at, transaction::SIGNATURE_WIDTH);
         };
         at = next;
         left -= 1;
     }
-    Part::Next(at)
+    wire::cut(s, at, transaction::SIGNATURE_WIDTH)
+}
+
+// So many signatures: one test finds that all are there. Their number has 32 bits, so that the product is a usize.
+fn signatures_at(s: &[u8], start: usize, count: u64) -> Part
+    requires { ⌜ count < 256 ^ 4 ⌝ }
+    ensures { λ r. ⌜ r ≡ ended (pieces (signatures count [])) (now (s .entry)) start ⌝ }
+{
+    match wire::part_at(s, start, transaction::SIGNATURE_WIDTH * count as usize) {
+        Part::Next(next) => Part::Next(next),
+        Part::Refused(_) => Part::Refused(first_cut(s, start, count)),
+    }
 }
 
 // A credential of the type and of as many signatures as are wanted.

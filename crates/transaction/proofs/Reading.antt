@@ -1,12 +1,10 @@
 -- How the readers of this crate meet their formats: what each answer says of the reading that its function ensures. Assumes nothing.
-use Prim.Native.Nat.{ℕ, zero, suc, _+_, _-_, _≤_, _<_}
+use Prim.Native.Nat.{ℕ, _+_}
 use mathlib.Core.Path.{_≡_, refl, sym, _∙_}
 use mathlib.Core.Bool.{Bool, true, false, not}
 use borrow.Author.Tests.{le-leb, not-true, not-false}
 use mathlib.Core.List.{List, []}
 use native.Mathlib.Omega.{arith}
-use native.Mathlib.Numerals.{sub-one}
-use native.Mathlib.Nat.{not-suc-le-zero}
 use lib.ListN.{length}
 use lib.Dec.{leb}
 use Rattle.wire.specs.declared.Refusal.{Refusal}
@@ -17,14 +15,13 @@ use Rattle.wire.specs.declared.Number.the-variants as N
 use Rattle.wire.specs.Bytes.{pick}
 use Rattle.wire.specs.Numbers.{by, cutAt, unknownType}
 use Rattle.wire.specs.Format.{Format, took, read, run-alike}
-use Rattle.wire.specs.Fields.{blob, number}
+use Rattle.wire.specs.Fields.{number}
 use Rattle.wire.specs.Sequence.{tag, find-is, listed-code}
 use Rattle.wire.specs.Series.{items, listRun, items-sized}
 use Rattle.wire.specs.Answer.{ended, valued}
 use Rattle.wire.proofs.Bytes.{Slice, slice-bytes}
 use Rattle.wire.proofs.Reading as W
 use Rattle.element.proofs.Reading.{on-whole, on-refused}
-use Rattle.transaction.specs.Slots.{signatureWidth}
 use Rattle.transaction.specs.Credentials.{signatures, credentialPieces, pieces}
 use Rattle.transaction.specs.Plan.{kindCode, kindOf, kindOf-code, kinds, isKind}
 use Rattle.transaction.specs.declared.Kind.{Kind}
@@ -98,18 +95,6 @@ module _ {A R : Type 0} (F : Format A) (f : A → ℕ) (s : List ℕ) (at : ℕ)
   on-told-refused e q r = on-refused F N.Refused (λ v n. N.Value (f v) n) s at z stop go x p e q (λ v m i. cc) (λ d i. cc) r
 
 -- ---- signatures, and a credential
-
-module _ (s : List ℕ) (at : ℕ) where
-  pub signatures-on : (n : ℕ) (z y : Part) → ended (pieces (signatures n [])) s at ≡ y → 0 < n
-      → z ≡ blob 65 .run s at P.Refused (λ b m. ended (pieces (signatures (n - 1) [])) s m) → z ≡ y
-  unfolding pieces signatures signatureWidth
-  signatures-on zero z y i h e = absurd (not-suc-le-zero h)
-  signatures-on (suc n) z y i h e = (rw (sub-one (suc n)) at e) ∙ i
-
-  pub signatures-end : (n : ℕ) (z y : Part) → ended (pieces (signatures n [])) s at ≡ y → n ≤ 0 → z ≡ P.Next at → z ≡ y
-  unfolding pieces signatures
-  signatures-end zero z y i h e = e ∙ i
-  signatures-end (suc n) z y i h e = absurd (not-suc-le-zero h)
 
 module _ {R : Type 0} (c : ℕ) (s : List ℕ) (at : ℕ) (z : R) (stop : Refusal → R) (go : List (List ℕ) → ℕ → R) (x : Part) (p : x ≡ ended (pieces (signatures c [])) s at) where
   pub on-signatures : (n : ℕ) → x ≡ P.Next n → ((l : List (List ℕ)) → z ≡ go l n) → z ≡ pieces (signatures c []) .run s at stop go

@@ -1,0 +1,33 @@
+-- `checker::credentials::first_cut` meets its contract. The invariant: the first that is cut of what is left, from here, is the first of all.
+-- Assumes nothing.
+use borrow.Author.Needs.{needs}
+use mathlib.Core.Path.{_≡_, refl}
+use Rattle.wire.proofs.Reading.{on-part, on-cut}
+use Rattle.checker.specs.Cut.{firstCut}
+use Rattle.checker.proofs.Signatures.{cut-on, cut-end}
+use Rattle.checker.proofs.credentials.first_cut.Statement.{statement}
+use Rattle.checker.proofs.credentials.first_cut.Tie as tie
+
+abbrev Inv-loop : tie.InvT-loop
+Inv-loop s start count left₀ at₀ left at = firstCut left s at ≡ firstCut count s start
+
+abbrev μ-loop : tie.MeasureT-loop
+μ-loop s start count left₀ at₀ left at = left
+
+pub first-cut-spec : {M : Type 1} → statement M
+first-cut-spec =
+    tie.close
+    (tie.spec
+    Inv-loop
+    μ-loop
+    (λ c. refl)  -- loop-holds
+    (λ c κs. search needs)  -- part-at-requires
+    (λ c. search needs)  -- enum-known-next
+    (λ c. search needs)  -- enum-told
+    (λ c κs. search needs)  -- cut-requires
+    (λ c. search (cut-on, on-part, on-cut) depth 8)  -- returns
+    (λ c. search needs)  -- sub-left
+    (λ c. search needs)  -- loop-less
+    (λ c. search (cut-on, on-part) depth 8)  -- loop-again
+    (λ c κs. search needs)  -- cut-requires-2
+    (λ c. search cut-end))  -- returns-2
