@@ -1,12 +1,10 @@
 -- The steps from one credential that is wanted to the next, in an unsigned part that was read. Assumes nothing.
-use Prim.Native.Nat.{ℕ, zero, suc, _+_, _-_, _*_, _^_, _≤_, _<_}
+use Prim.Native.Nat.{ℕ, suc, _+_, _-_, _≤_, _<_}
 use mathlib.Core.Path.{_≡_, refl, sym, ap, _∙_, subst, subst₂}
-use mathlib.Core.List.{List, [], _∷_, _++_, append-assoc}
+use mathlib.Core.List.{List, [], _∷_, _++_}
 use mathlib.Core.Option.{Option, none, some}
 use native.Mathlib.Omega.{arith}
-use native.Mathlib.Numerals.{sub-one}
 use native.Mathlib.Nat.{not-suc-le-zero}
-use lib.ListN.{length}
 use lib.Dec.{leb}
 use Rattle.wire.specs.declared.Refusal.{Refusal}
 use Rattle.wire.specs.declared.Part.{Part}
@@ -18,12 +16,12 @@ use Rattle.wire.specs.Numbers.{by, emptyList}
 use Rattle.wire.specs.Format.{Format, took, refused, read, run-inv, pick-inv, took-refused}
 use Rattle.wire.specs.Fields.{number}
 use Rattle.wire.specs.Sequence.{andThen}
-use Rattle.wire.specs.Series.{items, listRun, list-inv, left, seriesFrom}
+use Rattle.wire.specs.Series.{items, listRun, left, seriesFrom}
 use Rattle.wire.specs.Answer.{valued}
 use Rattle.wire.proofs.Bytes.{found}
 use Rattle.wire.proofs.Reading as W
-use Rattle.transaction.specs.Credentials.{CredentialType, secpCredential, nftCredential, credentialCode, Want}
-use Rattle.transaction.specs.Plan.{Content, contentOf, wantOf, fieldCredential, fieldSignatures, elementsOf, Plan, shut, end, field, many, planOf}
+use Rattle.transaction.specs.Credentials.{CredentialType, credentialCode, Want}
+use Rattle.transaction.specs.Plan.{Content, contentOf, wantOf, fieldCredential, fieldSignatures, elementsOf, Plan, field, many, planOf}
 use Rattle.transaction.specs.Form.{atLeast, listOf, Value, form, fieldAsks, elementAsks, asked, wanted}
 use Rattle.transaction.specs.declared.FieldName.{FieldName}
 use Rattle.transaction.specs.declared.ListName.{ListName}
@@ -32,14 +30,14 @@ use Rattle.due.specs.declared.Due.{Due}
 use Rattle.due.specs.declared.Due.the-variants as D
 use Rattle.due.specs.Plans.{tail, due, Live, dueOf, credentialNumber, FieldPast, FieldSigns, ElementTells, ElementsPast, AskingTells}
 use Rattle.due.proofs.Passing.{FirstOf, first-of}
-use Rattle.due.proofs.Rows.{if-nothing, if-end, if-field, if-list}
+use Rattle.due.proofs.Rows.{live-phase, live-next, if-nothing, if-end, if-field, if-list}
 use Rattle.checker.specs.declared.Wanting.{Wanting}
 use Rattle.checker.specs.declared.Begun.{Begun}
 use Rattle.checker.specs.declared.Begun.the-variants as B
 use Rattle.checker.specs.declared.Wanted.{Wanted}
 use Rattle.checker.specs.declared.Wanted.the-variants as X
-use Rattle.checker.specs.Wanted.{WantsFrom, WantsIn, First, BegunAs, Wants, Nexts, ListBegins, Begins, BegunLive, ElementWants, NextWants}
-use Rattle.checker.proofs.Planning.{none-wanted, none-asked, live-phase, live-next}
+use Rattle.checker.specs.Wanted.{WantsFrom, WantsIn, BegunAs, Wants, ListBegins, Begins, BegunLive, ElementWants, NextWants}
+use Rattle.checker.proofs.Planning.{none-wanted, none-asked}
 
 -- ---- what is told of one that asks, or does not
 
@@ -324,9 +322,6 @@ module _ (s : List ℕ) (kind : ℕ) (from : Wanting) (phase asks at left : ℕ)
 
   pub next-end : r ≡ B.End → NextWants kind s from X.End
   next-end q most ws w = subst (λ (r : Begun). BegunAs most s (tail (due phase (planOf kind))) ws r) q (begun most ws w)
-
-  next-live : (p : Begun → Type 0) → p r → (s : Begun) → r ≡ s → p s
-  next-live p v s q = subst p q v
 
   pub into-phase : (a c m : ℕ) → r ≡ B.Into a c m → phase ≤ 8
   into-phase a c m q = live-phase kind phase (subst (BegunLive (due phase (planOf kind))) q l)

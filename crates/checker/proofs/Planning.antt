@@ -1,12 +1,10 @@
 -- The loop over a plan: each turn passes the segment that is due, and what is left of the plan gives the whole. Assumes nothing.
-use Prim.Native.Nat.{ℕ, zero, suc, _+_, _-_, _*_, _^_, _≤_, _<_}
+use Prim.Native.Nat.{ℕ, _+_, _^_, _≤_, _<_}
 use mathlib.Core.Path.{_≡_, refl, sym, ap, _∙_}
-use mathlib.Core.Bool.{Bool, true, false}
 use mathlib.Core.Option.{Option, none, some}
-use mathlib.Core.List.{List, [], _∷_, _++_}
+use mathlib.Core.List.{List, [], _∷_}
 use native.Mathlib.Omega.{arith}
 use native.Mathlib.Nat.{add-zero}
-use native.Mathlib.Numerals.{add-one}
 use lib.ListN.{length, length-append}
 use Rattle.wire.specs.declared.Refusal.{Refusal}
 use Rattle.wire.specs.declared.Part.{Part}
@@ -20,7 +18,7 @@ use Rattle.wire.specs.Answer.{ended}
 use Rattle.wire.proofs.Bytes.{Slice, slice-bytes}
 use Rattle.wire.proofs.Reading as W
 use Rattle.element.proofs.Reading.{answer-took, on-whole, on-refused}
-use Rattle.transaction.specs.Credentials.{CredentialType, secpCredential, nftCredential, credentialCode, Want}
+use Rattle.transaction.specs.Credentials.{CredentialType, secpCredential, nftCredential, Want}
 use Rattle.transaction.specs.Plan.{contentOf, wantOf, fieldCredential, fieldSignatures, elementsOf, Plan, shut, end, field, many, planOf}
 use Rattle.transaction.specs.Form.{atLeast, listOf, form, fieldAsks, elementAsks, asked, wanted}
 use Rattle.transaction.specs.Answer.{listAt}
@@ -33,7 +31,7 @@ use Rattle.transaction.proofs.Reading.{on-told, on-told-refused}
 use Rattle.due.specs.declared.Due.{Due}
 use Rattle.due.specs.declared.Due.the-variants as D
 use Rattle.due.specs.Plans.{tail, due, Live, dueOf, credentialNumber}
-use Rattle.due.proofs.Rows.{phase-small, due-next, if-nothing, if-end, if-field, if-list}
+use Rattle.due.proofs.Rows.{live-phase, live-next, if-nothing, if-end, if-field, if-list}
 use Rattle.checker.specs.declared.Passed.{Passed}
 use Rattle.checker.specs.declared.Passed.the-variants as P
 use Rattle.checker.specs.Segments.{passedAt, planAt}
@@ -172,24 +170,6 @@ past-live most s at x c n q shut h = let z : _≡_ {A = ℕ} 0 1 = cc in absurd 
 past-live most s at x c n q end h = tt
 past-live most s at x c n q (field f p) h = tt
 past-live most s at x c n q (many l least p) h = tt
-
-abbrev isMore : Due → Bool
-isMore D.Nothing = false
-isMore D.End = true
-isMore (D.Field f) = true
-isMore (D.List l n) = true
-
-live-more : (p : Plan) → Live p → isMore (dueOf p) ≡ true
-live-more shut h = absurd h
-live-more end h = refl
-live-more (field f p) h = refl
-live-more (many l least p) h = refl
-
-pub live-phase : (kind phase : ℕ) → Live (due phase (planOf kind)) → phase ≤ 8
-live-phase kind phase h = phase-small kind phase isMore refl (live-more (due phase (planOf kind)) h)
-
-pub live-next : (kind phase : ℕ) → Live (due phase (planOf kind)) → due (phase + 1) (planOf kind) ≡ tail (due phase (planOf kind))
-live-next kind phase h = rw add-one (due-next phase (planOf kind) (due phase (planOf kind)) h refl)
 
 sized : {A : Type 0} (least : ℕ) (E : List ℕ → Format A) (v : List A) → atLeast least E .Good v → length v < 2 ^ 32
 unfolding atLeast guard number

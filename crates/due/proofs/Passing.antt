@@ -1,7 +1,7 @@
 -- Fields and elements that were read are passed by their names. Assumes nothing.
 use Prim.Native.Nat.{ℕ, zero, suc, _-_, _≤_, _<_}
-use mathlib.Core.Path.{_≡_, refl, sym, ap, _∙_, subst}
-use mathlib.Core.List.{List, [], _∷_}
+use mathlib.Core.Path.{_≡_, sym, ap, _∙_, subst}
+use mathlib.Core.List.{List, _∷_}
 use native.Mathlib.Omega.{arith}
 use native.Mathlib.Numerals.{sub-one}
 use native.Mathlib.Nat.{not-suc-le-zero}
@@ -12,7 +12,7 @@ use Rattle.wire.specs.declared.Part.the-variants as P
 use Rattle.wire.specs.declared.Number.{Number}
 use Rattle.wire.specs.declared.Number.the-variants as N
 use Rattle.wire.specs.Format.{Format, took, refused, read, run-inv}
-use Rattle.wire.specs.Fields.{number, length-number, blob}
+use Rattle.wire.specs.Fields.{length-number, blob}
 use Rattle.wire.specs.Sequence.{guard}
 use Rattle.wire.specs.Series.{items, listRun, list-inv, left, seriesFrom, notBelow}
 use Rattle.wire.specs.Answer.{ended, Passes, Tells}
@@ -23,13 +23,12 @@ use Rattle.string.specs.Strings.{memo, text, denomination}
 use Rattle.element.specs.Outputs.{transferableOutput}
 use Rattle.element.specs.Inputs.{input}
 use Rattle.element.specs.Operations.{operation, initialState}
-use Rattle.transaction.specs.Credentials.{secpCredential, nftCredential}
 use Rattle.transaction.specs.Plan.{elementsOf}
 use Rattle.transaction.specs.declared.FieldName.{FieldName}
 use Rattle.transaction.specs.declared.FieldName.the-variants as F
 use Rattle.transaction.specs.declared.ListName.{ListName}
 use Rattle.transaction.specs.declared.ListName.the-variants as L
-use Rattle.due.specs.Plans.{placeOf, FieldPast, FieldSigns, silentOf, ElementTells, ElementsPast, AskingTells, credentialNumber}
+use Rattle.due.specs.Plans.{placeOf, FieldPast, FieldSigns, silentOf, ElementTells, ElementsPast, AskingTells}
 
 -- ---- fields
 

@@ -234,21 +234,6 @@ module _ {R : Type 0} (s : List ℕ) (at : ℕ) (z : R) (stop : Refusal → R) (
   pub on-amount-refused : (e : Refusal) → x ≡ ended amount s at → x ≡ P.Refused e → z ≡ stop e → z ≡ amount .run s at stop go
   on-amount-refused = W.stops amount R s at z stop go x
 
-module _ {R : Type 0} (s : List ℕ) (at : ℕ) (z : R) (stop : Refusal → R) (x : Part) where
-  module _ (go : TransferableOutput → ℕ → R) where
-    pub on-transferable : (n : ℕ) → x ≡ ended transferableOutput s at → x ≡ P.Next n → ((v : TransferableOutput) → z ≡ go v n) → z ≡ transferableOutput .run s at stop go
-    on-transferable = W.ends transferableOutput R s at z stop go x
-
-    pub on-transferable-refused : (e : Refusal) → x ≡ ended transferableOutput s at → x ≡ P.Refused e → z ≡ stop e → z ≡ transferableOutput .run s at stop go
-    on-transferable-refused = W.stops transferableOutput R s at z stop go x
-
-  module _ (types : List OutputType) (go : Output → ℕ → R) where
-    pub on-output : (n : ℕ) → x ≡ ended (output types) s at → x ≡ P.Next n → ((v : Output) → z ≡ go v n) → z ≡ output types .run s at stop go
-    on-output = W.ends (output types) R s at z stop go x
-
-    pub on-output-refused : (e : Refusal) → x ≡ ended (output types) s at → x ≡ P.Refused e → z ≡ stop e → z ≡ output types .run s at stop go
-    on-output-refused = W.stops (output types) R s at z stop go x
-
 -- what code answers for an element that is to be not below the one before is what the format of such an element does
 pub ordered-is : {A : Type 0} (F : Format A) (s : List ℕ) (prev at : ℕ) → Slice s → inOrder s prev at (ended F s at) ≡ ended (notBelow F (part prev at s)) s at
 unfolding guard

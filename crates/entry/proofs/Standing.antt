@@ -39,7 +39,7 @@ use Rattle.transaction.specs.declared.ListName.the-variants as L
 use Rattle.transaction.specs.Credentials.{Want, credentialCode}
 use Rattle.transaction.proofs.Reading.{written-next}
 use Rattle.walk.specs.Walk.{start, Ahead}
-use Rattle.walk.proofs.Walking.{State, state-of, Leading}
+use Rattle.walk.proofs.Walking.{state-of, Leading}
 use Rattle.walk.proofs.Each.{Each, rest-each, plan-each}
 use Rattle.fields.specs.Found.{outputFound, inputFound}
 use Rattle.fields.specs.declared.OutputFound.{OutputFound}

@@ -30,11 +30,7 @@ entryAnswer bytes (some e) = foundEntry bytes e
 abbrev pub entryOf : ℕ → List ℕ → ℕ → EntryRead
 entryOf most s n = onResult (check (avm most) s) refusedEntry (λ v end. entryAnswer end (entry (avm most) v n))
 
--- the number and the place that an answer reports: done is 0, with the bytes of the transaction
+-- the number that an answer reports: done is 0
 abbrev pub entryNumber : EntryAnswer → ℕ
 entryNumber (A.Found fields start end bytes) = 0
 entryNumber (A.Refused e) = numberOf e
-
-abbrev pub entryPlace : EntryAnswer → ℕ
-entryPlace (A.Found fields start end bytes) = bytes
-entryPlace (A.Refused e) = e .place

@@ -22,8 +22,6 @@ use Rattle.element.specs.Answer.{Terms, Action}
 use Rattle.element.specs.declared.OwnersFields.{OwnersFields}
 use Rattle.element.specs.declared.OutputFields.{OutputFields}
 use Rattle.element.specs.declared.OutputFields.the-variants as F
-use Rattle.element.specs.declared.TermsFields.{TermsFields}
-use Rattle.element.specs.declared.Recipients.{Recipients}
 use Rattle.element.specs.declared.Recipients.the-variants as Q
 use Rattle.element.specs.declared.OperationFields.{OperationFields}
 use Rattle.element.proofs.Reading.{key-wide}
@@ -60,7 +58,7 @@ module _ (s : List ℕ) (b : Slice s) where
 
   -- ---- owners
 
-  pub owners-found : (at : ℕ) (v : Owners) (m : ℕ) → read owners s at ≡ took v m → ownersFound s at ≡ W.Fields (ownersFields m v)
+  owners-found : (at : ℕ) (v : Owners) (m : ℕ) → read owners s at ≡ took v m → ownersFound s at ≡ W.Fields (ownersFields m v)
   unfolding owners named andThen guard
   owners-found at v m h =
       let (l, t, el, e₁) = run-inv (number 8) s at _ v m h in

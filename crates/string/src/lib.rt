@@ -1,7 +1,6 @@
 // Strings: a length and so many bytes.
 ghost use mathlib.Core.Path.{_≡_};
 ghost use Prim.Native.Nat.{ℕ};
-ghost use Rattle.wire.specs.Bytes.{part};
 ghost use Rattle.wire.specs.Answer.{ended, Passes};
 ghost use Rattle.string.specs.Strings.{string, memo, unprintable, text, denomination};
 use wire::Number;

@@ -13,7 +13,6 @@ use Rattle.wire.specs.Numbers.{refusal, tooLong, bytesAfterEnd}
 use Rattle.wire.specs.Format.{took, read}
 use Rattle.wire.specs.Whole.{whole-same}
 use Rattle.wire.specs.Answer.{ended}
-use Rattle.wire.proofs.Bytes.{Slice}
 use Rattle.wire.proofs.Reading as W
 use Rattle.element.proofs.Reading.{answer-took, answer-refused}
 use Rattle.transaction.specs.Credentials.{credentials}

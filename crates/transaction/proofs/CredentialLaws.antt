@@ -3,7 +3,7 @@ use mathlib.Core.Path.{_≡_, refl, sym, ap, _∙_, subst}
 use mathlib.Core.Logic.{inl, inr}
 use mathlib.Core.List.{List, [], _∷_, _++_, append-assoc, map}
 use Prim.Native.Nat.{ℕ, zero, suc, _+_, _-_, _*_, _^_, _≤_, _<_}
-use native.Mathlib.Nat.{le-of-suc-le-suc, not-suc-le-zero, add-mul}
+use native.Mathlib.Nat.{le-of-suc-le-suc, add-mul}
 use native.Mathlib.Decide.{decLe}
 use native.Mathlib.Omega.{arith}
 use lib.Dec.{eqb}
@@ -12,7 +12,7 @@ use lib.Seq.{take-at, drop-at, getD-append-add}
 use borrow.Author.Tests.{eq-eqb}
 use Rattle.wire.specs.Bytes.{Bytes, digits, length-digits, pick}
 use Rattle.wire.specs.Numbers.{by, unknownType, wrongCount}
-use Rattle.wire.specs.Format.{Format, run-alike}
+use Rattle.wire.specs.Format.{run-alike}
 use Rattle.wire.specs.Fields.{number, blob}
 use Rattle.wire.specs.declared.Refusal.{Refusal}
 use Rattle.transaction.specs.Slots.{signatureWidth, blank, slotAt, Outside, Spaced, length-slotAt, bytes-slotAt, bytes-blank, length-blank}
@@ -143,10 +143,6 @@ pub total-cons : (w : Want) (ws : List Want) → total (w ∷ ws) * signatureWid
 unfolding total
 total-cons w ws = add-mul (w .signatures) (total ws) signatureWidth
 
-pub size-layout : (ws : List Want) → size (layout ws) ≡ 4 + 8 * length ws + total ws * signatureWidth
-unfolding layout size
-size-layout ws = omega (arith, size-each ws)
-
 -- ---- blank signatures
 
 pub blanks-blank : (ps : List Piece) (k : ℕ) → getD (blanks ps) k blank ≡ blank
@@ -155,29 +151,6 @@ blanks-blank [] k = refl
 blanks-blank (due x v ∷ ps) k = blanks-blank ps k
 blanks-blank (signature ∷ ps) zero = refl
 blanks-blank (signature ∷ ps) (suc k) = blanks-blank ps k
-
-abbrev pub AllBlank : List (List ℕ) → Type 0
-AllBlank [] = Unit {0}
-AllBlank (b ∷ l) = (b ≡ blank) × AllBlank l
-
-pub all-blank : (ps : List Piece) → AllBlank (blanks ps)
-unfolding blanks
-all-blank [] = tt
-all-blank (due x v ∷ ps) = all-blank ps
-all-blank (signature ∷ ps) = (refl, all-blank ps)
-
--- what the format takes is signatures
-abbrev pub AllSigned : List (List ℕ) → Type 0
-AllSigned [] = Unit {0}
-AllSigned (b ∷ l) = (length b ≡ signatureWidth) × Bytes b × AllSigned l
-
-pub all-signed : (ps : List Piece) (l : List (List ℕ)) → pieces ps .Good l → AllSigned l
-unfolding pieces
-all-signed [] [] h = tt
-all-signed [] (b ∷ l) h = absurd (not-suc-le-zero (subst (λ (n : ℕ). 0 < n) (ap length h) (omega arith)))
-all-signed (due x v ∷ ps) l h = all-signed ps l (h .1)
-all-signed (signature ∷ ps) [] h = absurd h
-all-signed (signature ∷ ps) (b ∷ l) h = (h .0 .0, h .0 .1, all-signed ps l (h .1))
 
 -- the numbers that are due have 32 bits
 abbrev pub Fitting : List Piece → Type 0

@@ -1,7 +1,6 @@
 -- What is proved of a signed transaction
 pub mod CredentialLaws
 pub mod Reading
-pub mod Beside
 pub mod Checking
 pub mod Signed
 pub mod Codec

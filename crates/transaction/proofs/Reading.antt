@@ -104,17 +104,3 @@ module _ {R : Type 0} (c : ℕ) (s : List ℕ) (at : ℕ) (z : R) (stop : Refusa
   on-signatures-refused e q r = W.stops (pieces (signatures c [])) R s at z stop go x e p q r
 
 pub ruleset piecewise = (W.on-value, W.on-short, W.if-eq, W.if-ne, on-signatures, on-signatures-refused, W.part-made)
-
-module _ {R : Type 0} (t c d : ℕ) (s : List ℕ) (at : ℕ) (z : R) (stop : Refusal → R) (go : List (List ℕ) → ℕ → R) (x : Part) (p : x ≡ ended (pieces (credentialPieces t c [])) s at) (h : c ≡ d) where
-  pub on-credential : (n : ℕ) → x ≡ P.Next n → ((v : List (List ℕ)) → z ≡ go v n) → z ≡ pieces (credentialPieces t d []) .run s at stop go
-  on-credential n q e = rw (← h) (W.ends (pieces (credentialPieces t c [])) R s at z stop go x n p q e)
-
-  pub on-credential-refused : (e : Refusal) → x ≡ P.Refused e → z ≡ stop e → z ≡ pieces (credentialPieces t d []) .run s at stop go
-  on-credential-refused e q r = rw (← h) (W.stops (pieces (credentialPieces t c [])) R s at z stop go x e p q r)
-
--- an answer that is taken apart and made again
-pub made-again : {A : Type 0} (x y z : A) → x ≡ z → x ≡ y → y ≡ z
-made-again x y z p q = sym q ∙ p
-
-pub same : {A : Type 0} (a : A) → a ≡ a
-same a = refl

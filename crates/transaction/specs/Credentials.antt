@@ -7,8 +7,8 @@ use Prim.Native.Nat.{ℕ, zero, suc, _+_}
 use lib.ListN.{length}
 use Rattle.wire.specs.Numbers.{ReadingRule, unknownType, wrongCount}
 use Rattle.wire.specs.Format.{Format}
-use Rattle.wire.specs.Fields.{number, blob, constant}
-use Rattle.wire.specs.Sequence.{andThen, guard, «as», named, only}
+use Rattle.wire.specs.Fields.{blob, constant}
+use Rattle.wire.specs.Sequence.{andThen, «as», named, only}
 use Rattle.transaction.specs.Slots.{signatureWidth, blank}
 
 pub data CredentialType : Type 0 where

@@ -12,7 +12,7 @@ use Rattle.transaction.specs.Entries.{EntryAt, credentialEntry, credentialEntri
 use Rattle.transaction.specs.Plan.{elementsOf, Plan, shut, end, field, many}
 use Rattle.transaction.specs.declared.ListName.{ListName}
 use Rattle.walk.specs.Walk.{Rest, Credentials, PlanAhead}
-use Rattle.walk.proofs.Walking.{rest-done, One, one-of, Leading, leading-of}
+use Rattle.walk.proofs.Walking.{rest-done, one-of, Leading, leading-of}
 
 module _ (P : EntryAt → Type 0) where
   abbrev pub Each : List EntryAt → Type 0

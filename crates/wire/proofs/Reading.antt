@@ -4,7 +4,7 @@
 -- and the rest of the walk. The format, s and at are read off the goal; the answer x and its fields, off the context.
 -- Assumes nothing.
 use Prim.Native.Nat.{ℕ, zero, suc, _+_, _-_, _*_, _^_, _≤_, _<_}
-use mathlib.Core.Path.{_≡_, refl, sym, ap, _∙_, subst}
+use mathlib.Core.Path.{_≡_, refl, sym, ap, _∙_}
 use mathlib.Core.List.{List, [], _∷_}
 use mathlib.Core.Bool.{Bool, true, false, not}
 use native.Mathlib.Omega.{arith}
@@ -19,9 +19,9 @@ use Rattle.wire.specs.declared.Part.{Part}
 use Rattle.wire.specs.declared.Part.the-variants as P
 use Rattle.wire.specs.declared.Number.{Number}
 use Rattle.wire.specs.declared.Number.the-variants as N
-use Rattle.wire.specs.Bytes.{value, digits, digits-value, length-digits, pick, part, below}
-use Rattle.wire.specs.Numbers.{outOfOrder, by, cutAt}
-use Rattle.wire.specs.Format.{Format, Result, took, refused, onResult, read, refused-took, took-refused, run-alike-read, Stands, stands-part, stands-append}
+use Rattle.wire.specs.Bytes.{value, pick, part, below}
+use Rattle.wire.specs.Numbers.{cutAt}
+use Rattle.wire.specs.Format.{Format, Result, took, refused, onResult, read, refused-took, took-refused, Stands, stands-part, stands-append}
 use Rattle.wire.specs.Fields.{blob, blobRun, number, length-number}
 use Rattle.wire.specs.Sequence.{guard}
 use Rattle.wire.specs.Series.{listRun, listWrite, Chain, items, left, above, increasing}
@@ -243,10 +243,6 @@ module _ (k : ℕ) (s : List ℕ) (at : ℕ) (x : Part) (n : ℕ) (p : x ≡ end
   part-long b =
       let (v, t) = next-took (blob k) s at x n p q in
       ap length (sym (blob-part k s at v n t)) ∙ blob k .sound s at v n (slice-bytes s b) t .0 .0
-
-pub on-value-next : {R : Type 0} (s : List ℕ) (at : ℕ) (z : R) (stop : Refusal → R) (b : Slice s) (k : ℕ) (go : ℕ → ℕ → R) (x : Number) (v n : ℕ) → x ≡ valued (number k) s at → x ≡ N.Value v n
-    → (n ≡ at + k → z ≡ go v n) → z ≡ number k .run s at stop go
-on-value-next s at z stop b k go x v n p q e = on-value k s at z stop go x v n p q (e (value-ends k s at x v n p q b))
 
 -- ---- bytes handed over by value
 

@@ -1,8 +1,6 @@
 -- `checker::credentials::beside` meets its contract. The invariant: what is left, from here, gives the whole. Assumes nothing.
 use borrow.Author.Needs.{needs}
 use Rattle.wire.specs.declared.Part.{Part}
-use Rattle.wire.specs.declared.Part.the-variants as P
-use Rattle.checker.specs.declared.Wanting.{Wanting}
 use Rattle.checker.specs.Wanted.{Beside}
 use Rattle.checker.proofs.Besides.{beside-end, beside-refused, beside-past, beside-done}
 use Rattle.checker.proofs.credentials.beside.Statement.{statement}
