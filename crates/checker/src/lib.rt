@@ -7,7 +7,7 @@ pub mod credentials;
 use wire::Refusal;
 
 // A segment that is passed: how many credentials it wants, and the place behind it. End: there is none.
-pub enum Passed {
+pub(crate) enum Passed {
     End,
     Past(u64, usize),
     Refused(Refusal),
@@ -24,7 +24,7 @@ pub struct Wanting {
 
 // The segment that comes next: a list or field of which so many elements ask for a credential of a type, from a place on; or a field that asks for
 // one of so many signatures, and the place behind it.
-pub enum Begun {
+pub(crate) enum Begun {
     End,
     Into(u64, u64, usize),
     Asks(u64, u64, usize),

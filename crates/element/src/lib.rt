@@ -7,36 +7,36 @@ pub mod outputs;
 pub mod owners;
 
 // The widths of fields, in bytes: an asset or transaction id, an address, an address index, an amount, an NFT group and an FxID.
-pub const ID_WIDTH: usize = 32;
+pub(crate) const ID_WIDTH: usize = 32;
 
-pub const ADDRESS_WIDTH: usize = 20;
+pub(crate) const ADDRESS_WIDTH: usize = 20;
 
-pub const INDEX_WIDTH: usize = 4;
+pub(crate) const INDEX_WIDTH: usize = 4;
 
-pub const AMOUNT_WIDTH: usize = 8;
+pub(crate) const AMOUNT_WIDTH: usize = 8;
 
-pub const GROUP_WIDTH: usize = 4;
+pub(crate) const GROUP_WIDTH: usize = 4;
 
-pub const FX_WIDTH: usize = 4;
+pub(crate) const FX_WIDTH: usize = 4;
 
 // A transaction id and an output index.
-pub const KEY_WIDTH: usize = 36;
+pub(crate) const KEY_WIDTH: usize = 36;
 
 // What stands before the number of addresses: locktime and threshold.
-pub const BEFORE_ADDRESSES: usize = 12;
+pub(crate) const BEFORE_ADDRESSES: usize = 12;
 
 // What stands before the number of an input's address indices: key, asset id, type and amount.
-pub const BEFORE_INDICES: usize = 80;
+pub(crate) const BEFORE_INDICES: usize = 80;
 
 // The types of outputs, but for the NFT transfer (11).
-pub const SECP_MINT: u64 = 6;
+pub(crate) const SECP_MINT: u64 = 6;
 
-pub const SECP_TRANSFER: u64 = 7;
+pub(crate) const SECP_TRANSFER: u64 = 7;
 
-pub const NFT_MINT: u64 = 10;
+pub(crate) const NFT_MINT: u64 = 10;
 
 // The type of an operation that mints; the other is the transfer (13).
-pub const MINT_OPERATION: u64 = 12;
+pub(crate) const MINT_OPERATION: u64 = 12;
 
 // The numbers of an owners part: its addresses are addresses_count times 20 bytes from addresses_at on.
 pub struct OwnersFields {

@@ -30,7 +30,7 @@ pub struct EntryRead {
     pub txid: [u8; 32],
 }
 
-pub enum Typed {
+enum Typed {
     Entry(Entry),
     Missing,
 }
@@ -199,7 +199,7 @@ fn row_entry(s: &[u8], row: Row, bytes: usize) -> EntryRead
 }
 
 // Reads entry n, from 0, where a memo has at most so many bytes. Bytes that are not accepted get the check's own refusal.
-pub fn entry_within(s: &[u8], n: u64, most: u64) -> EntryRead
+fn entry_within(s: &[u8], n: u64, most: u64) -> EntryRead
     ensures { λ r. ⌜ r ≡ entryOf most (now (s .entry)) n ⌝ }
 {
     match checker::check::check_within(s, most) {

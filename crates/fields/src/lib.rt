@@ -11,7 +11,7 @@ use wire::Number;
 use wire::Part;
 
 // The fields of what stands at a place, if they are all there.
-pub enum OwnersFound {
+enum OwnersFound {
     Fields(OwnersFields),
     Missing,
 }
@@ -27,12 +27,12 @@ pub enum InputFound {
 }
 
 // With the place behind them.
-pub enum TermsFound {
+enum TermsFound {
     Fields(TermsFields, usize),
     Missing,
 }
 
-pub enum RecipientsFound {
+enum RecipientsFound {
     Fields(Recipients),
     Missing,
 }

@@ -5,10 +5,10 @@ use walk::Row;
 use wire::Refusal;
 
 // The numbers of a row: kind, start, length.
-pub const ROW_NUMBERS: usize = 3;
+pub(crate) const ROW_NUMBERS: usize = 3;
 
 // How many entries there are, if not more than asked for.
-pub enum Count {
+pub(crate) enum Count {
     Rows(usize),
     TooMany,
 }

@@ -114,7 +114,7 @@ fn put_rows(s: &[u8], kind: u32, n: usize, table: &mut [u32])
 }
 
 // Checks the bytes, where a memo has at most so many of them, and writes a row of three numbers for each entry.
-pub fn check_table_within(s: &[u8], table: &mut [u32], most: u64) -> Tabled
+fn check_table_within(s: &[u8], table: &mut [u32], most: u64) -> Tabled
     ensures { λ r. ⌜ filled r (now (table .exit)) ≡ tabled most (now (s .entry)) (now (table .entry)) ⌝ }
 {
     match checker::check::check_within(s, most) {

@@ -27,7 +27,7 @@ use Rattle.walk.specs.Walk.{start, PlanAhead, Ahead}
 use Rattle.walk.proofs.Walking.{number-next}
 
 -- the outputs' count stands at 42
-pub head-long : (most : ℕ) (h : Head Kind) → head (avm most) .Good h → length (head (avm most) .write h) ≡ 42
+head-long : (most : ℕ) (h : Head Kind) → head (avm most) .Good h → length (head (avm most) .write h) ≡ 42
 unfolding head constant tag blob
 head-long most h g =
     omega (

@@ -56,7 +56,7 @@ module _ {A : Type 0} (E : List ℕ → Format A) (entry : ℕ → ℕ → A →
       subst₂ Later (sym n) (sym same) (r .behind)
   rest-done (suc c) at es z r = absurd (not-suc-le-zero z)
 
-  pub rest-none : (at : ℕ) (es : List EntryAt) → Later at es → Rest s E entry Later 0 at es
+  rest-none : (at : ℕ) (es : List EntryAt) → Later at es → Rest s E entry Later 0 at es
   unfolding items listRun entriesFrom
   rest-none at es h = record { prev = []; values = []; next = at; later = es; stands = refl; behind = h; entries = refl }
 

@@ -3,15 +3,15 @@
 pub mod steps;
 
 // The kinds of entries that are no elements of a list: an initial state's output, a credential.
-pub const STATE_OUTPUT: u32 = 6;
+pub(crate) const STATE_OUTPUT: u32 = 6;
 
-pub const CREDENTIAL: u32 = 7;
+pub(crate) const CREDENTIAL: u32 = 7;
 
 // Codec, type, network and chain id, before the first segment.
-pub const HEAD_WIDTH: usize = 42;
+pub(crate) const HEAD_WIDTH: usize = 42;
 
 // The phase of the longest plan's last segment.
-pub const LAST_PHASE: u32 = 8;
+pub(crate) const LAST_PHASE: u32 = 8;
 
 // Where the next entry stands: how many of the plan's segments are begun, the place, and how many elements of the last one begun are left; the
 // credentials are the last. Among initial states: the outputs that are left of the one at hand.
