@@ -184,7 +184,7 @@ closing-full l s at limit h f g most ws w e = ap P.Refused g ∙ fitted-full at 
 
 -- their writing
 module _ (l : Layout) (s : List ℕ) (at : ℕ) (R : RoomForAll l (take at s) at (length s)) where
-  pub count-small : l .«credentials_count» < 256 ^ 4
+  count-small : l .«credentials_count» < 256 ^ 4
   count-small = omega (arith, R .short, R .ahead .counts, blank-long (R .ahead .all))
 
   count-room : at + 4 ≤ length s

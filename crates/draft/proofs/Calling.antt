@@ -3,7 +3,7 @@ use mathlib.Core.Path.{_≡_, refl, sym, ap, ap₂, _∙_}
 use mathlib.Core.Bool.{Bool, true, false, not}
 use mathlib.Core.Option.{Option, none, some}
 use mathlib.Core.List.{List, _++_, append-nil}
-use Prim.Native.Nat.{ℕ, _+_, _≤_, _<_}
+use Prim.Native.Nat.{ℕ, _≤_, _<_}
 use native.Mathlib.Omega.{arith}
 use lib.Dec.{leb, ltb, eqb}
 use borrow.Author.Tests.{le-leb, lt-leb, eq-eqb, ne-eqb}
@@ -12,8 +12,8 @@ use lib.Seq.{take-all, length-take-le}
 use Rattle.wire.specs.Bytes.{part, pick}
 use Rattle.wire.specs.declared.Refusal.{Refusal}
 use Rattle.wire.specs.Numbers.{noRoom, noEntry, firstNotAccepted, secondNotAccepted, draftsDiffer, conflict, notASignature}
-use Rattle.wire.proofs.Bytes.{Slice, found}
-use Rattle.transaction.specs.Slots.{signatureWidth, slotAt, length-slotAt, put, putAll}
+use Rattle.wire.proofs.Bytes.{Slice}
+use Rattle.transaction.specs.Slots.{signatureWidth, slotAt, length-slotAt, put}
 use Rattle.transaction.specs.Answer.{checked}
 use Rattle.transaction.specs.declared.Layout.{Layout}
 use Rattle.transaction.specs.declared.Checked.{Checked}

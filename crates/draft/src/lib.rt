@@ -25,7 +25,7 @@ fn refused(rule: Rule, place: usize) -> Answer
 }
 
 // Puts a signature into slot number k, if no other is there. A memo has at most so many bytes.
-pub fn fill_within(draft: &mut [u8], k: usize, signature: &[u8], most: u64) -> Answer
+fn fill_within(draft: &mut [u8], k: usize, signature: &[u8], most: u64) -> Answer
     ensures { λ r. ⌜ (r, now (draft .exit)) ≡ fillCall (reader (avm most)) (now (draft .entry)) k (now (signature .entry)) ⌝ }
 {
     let Checked::Accepted(layout, end) = checker::check::check_within(draft, most) else {
@@ -59,7 +59,7 @@ fn put_merge(room: &mut [u8], first: &[u8], second: &[u8], at: usize)
 }
 
 // Joins the second draft's signatures to the first's, at the front of out. A memo has at most so many bytes.
-pub fn merge_within(first: &[u8], second: &[u8], out: &mut [u8], most: u64) -> Answer
+fn merge_within(first: &[u8], second: &[u8], out: &mut [u8], most: u64) -> Answer
     ensures { λ r. ⌜ (r, now (out .exit)) ≡ mergeCall (reader (avm most)) (now (first .entry)) (now (second .entry)) (now (out .entry)) ⌝ }
 {
     let Checked::Accepted(layout, end) = checker::check::check_within(first, most) else {

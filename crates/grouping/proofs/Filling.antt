@@ -105,7 +105,7 @@ module _ (R : Reader) (L : Laws R) (d : List ℕ) (hd : Draft R d) where
   in-like e l k b = subst⁻¹ (λ (ps : List ℕ). k < length ps) (l .slots) b
 
   -- the slots before k are filled as in d, the others empty
-  pub record UpTo (k : ℕ) (e : List ℕ) : Type 0 where
+  record UpTo (k : ℕ) (e : List ℕ) : Type 0 where
     pub like : Like R d e
     pub filled : (j : ℕ) → j < k → j < length (R .slots d) → slot R e j ≡ slot R d j
     pub empty : (j : ℕ) → k ≤ j → j < length (R .slots d) → slot R e j ≡ blank

@@ -1,6 +1,5 @@
 // The rules of fields and of a close, as tests on what a step is given.
 ghost use mathlib.Core.Path.{_≡_};
-ghost use lib.ListN.{length};
 ghost use Rattle.judge.specs.Texts.{kindRules, listRules, memoRules, textRules, denominationRules};
 use crate::Verdict;
 use wire::Rule;

@@ -1,5 +1,5 @@
 -- The answers of check and merge as one number. Assumes nothing.
-use Prim.Native.Nat.{ℕ, _+_, _≤_}
+use Prim.Native.Nat.{ℕ, _≤_}
 use lib.Dec.{leb}
 use mathlib.Core.Path.{_≡_, refl, sym, ap, _∙_, subst}
 use mathlib.Core.Bool.{Bool, true, false}
@@ -117,7 +117,7 @@ pub ruleset merged-packing = (merge-done, merge-refused)
 -- ---- a merge that is done has at most 65,536 bytes
 
 -- what holds where a merge of bytes m is done
-pub record Tests (u v w : Bool) (m : List ℕ) (n : ℕ) : Type 0 where
+record Tests (u v w : Bool) (m : List ℕ) (n : ℕ) : Type 0 where
   pub first : u ≡ true
   pub second : v ≡ true
   pub alike : w ≡ true

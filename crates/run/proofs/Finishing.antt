@@ -47,7 +47,7 @@ use Rattle.run.proofs.Keeping.{leaves, Here, Stays, Begun, begun-stays,
 
 module _ (F : Family) where
   -- the head and the first parts of the plan stand written, and behind them what is due
-  pub record Running (w : Writer) (s : List ℕ) : Type 1 where
+  record Running (w : Writer) (s : List ℕ) : Type 1 where
     pub first : Head (F .Kind)
     pub good : head F .Good first
     pub kind : F .kind (w .kind) ≡ first .kind
@@ -57,7 +57,7 @@ module _ (F : Family) where
     pub reach : Reach (F .memoMost) (F .plan (first .kind)) (head F .write first) parts done
     pub stays : Stays parts w s done
 
-  pub data Kept (w : Writer) (s : List ℕ) : Type 1 where
+  data Kept (w : Writer) (s : List ℕ) : Type 1 where
     waiting : w .phase ≡ 0 → Kept w s
     running : Running w s → Kept w s
 
@@ -240,7 +240,7 @@ module _ (F : Family) where
   act-keeps closes f w s i = by-due closeAt close-keeps (λ w s. refl) w s i
   act-keeps finishes f w s i = by-due (finishAt F) finish-keeps (λ w s. refl) w s i
 
-  pub run-keeps : (l : List Act) → AllFair l → (w : Writer) (s : List ℕ) → Kept w s → Kept (run F l w s .0) (run F l w s .1)
+  run-keeps : (l : List Act) → AllFair l → (w : Writer) (s : List ℕ) → Kept w s → Kept (run F l w s .0) (run F l w s .1)
   unfolding run
   run-keeps [] f w s i = i
   run-keeps (a ∷ l) (f, fs) w s i = run-keeps l fs (act F a w s .step .next) (act F a w s .buffer) (act-keeps a f w s i)
@@ -322,7 +322,7 @@ module _ (F : Family) where
   due-outcome first good (field f q) w s b reach stays = not-due refl
   due-outcome first good (many l least q) w s b reach stays = not-due refl
 
-  pub finish-outcome : (w : Writer) (s : List ℕ) → Kept w s → Outcome (finish F w s)
+  finish-outcome : (w : Writer) (s : List ℕ) → Kept w s → Outcome (finish F w s)
   unfolding finish finishAt answered
   finish-outcome w s (waiting e) = subst (λ (k : ℕ). Outcome (finishAt F (due k (planFor F (w .kind))) w s)) (sym e) (not-due refl)
   finish-outcome w s (running r) =

@@ -109,7 +109,7 @@ fn put_slots(s: &[u8], table: &mut [u32], at: usize)
 }
 
 // Checks the bytes, and writes a row of three numbers for each slot: credential, place, filled. A memo has at most so many bytes.
-pub fn list_slots_within(s: &[u8], table: &mut [u32], most: u64) -> Tabled
+fn list_slots_within(s: &[u8], table: &mut [u32], most: u64) -> Tabled
     ensures { λ r. ⌜ filled r (now (table .exit)) ≡ tabledSlots most (now (s .entry)) (now (table .entry)) ⌝ }
 {
     match checker::check::check_within(s, most) {

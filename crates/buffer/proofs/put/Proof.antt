@@ -1,8 +1,6 @@
 -- `buffer::put` meets its contract. Assumes nothing.
-use Prim.Native.Nat.{_+_}
 use mathlib.Core.List.{[]}
 use native.Mathlib.Omega.{arith}
-use lib.ListN.{length}
 use borrow.Author.Needs.{needs}
 use Rattle.buffer.proofs.Stores.{rules-bar, room-bars, room-made, all-done}
 use Rattle.buffer.proofs.Numbering.{all, length-all, sum-fits}
