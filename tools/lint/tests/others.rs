@@ -42,6 +42,8 @@ fn comments_and_locals_of_other_crates_are_no_uses() {
     let own = ("crates/a/src/lib.rt", "pub fn f() {\n}\n");
     let other = ("crates/b/src/lib.rt", "// a::f\nfn g() {\n    f()\n}\n");
     assert_eq!(idle(&[own, other]), ["1: pub fn f is used by no other crate"]);
+    let by_itself = ("crates/a/src/lib.rt", "pub fn f() {\n}\nfn g() {\n    a::f()\n}\n");
+    assert_eq!(idle(&[by_itself]), ["1: pub fn f is used by no other crate"]);
     let other = ("crates/b/src/lib.rt", "fn g() {\n    a::f()\n}\n");
     assert!(idle(&[own, other]).is_empty());
 }
