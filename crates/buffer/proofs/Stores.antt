@@ -18,7 +18,7 @@ use Rattle.transaction.specs.Signed.{mostBytes}
 use Rattle.judge.specs.declared.Verdict.{Verdict}
 use Rattle.judge.specs.declared.Verdict.the-variants as J
 use Rattle.judge.proofs.Verdicts.{pick-fine}
-use Rattle.judge.specs.Judged.{barred, onFine}
+use Rattle.judge.specs.Judged.{barred}
 use Rattle.buffer.specs.Stores.{roomIn, roomFor, overwrite, withNumber, stored}
 
 -- ---- room
@@ -162,23 +162,19 @@ module _ (s : List ℕ) (at n : ℕ) where
 
 -- ---- stores made whole or not at all
 
-module _ (v : Verdict) (m n : ℕ) (s t : List ℕ) where
-  pub rules-bar : (u : Verdict) (d : Refusal) → v ≡ J.Refuse d → (P.Refused d, s) ≡ stored (onFine v u) n s t
-  unfolding stored
-  rules-bar u d e = rw e
+module _ (m : ℕ) (s : List ℕ) (x : Verdict) (p : x ≡ roomIn m (length s)) where
+  pub room-made : x ≡ J.Fine → m ≤ length s
+  unfolding roomFor
+  room-made q = room-inv m s (sym p ∙ q) .0
 
-  module _ (e : v ≡ J.Fine) (x : Verdict) (p : x ≡ roomIn m (length s)) where
-    pub room-bars : (d : Refusal) → x ≡ J.Refuse d → (P.Refused d, s) ≡ stored (onFine v (roomFor m s)) n s t
+  module _ (n : ℕ) (t : List ℕ) where
+    pub room-bars : (d : Refusal) → x ≡ J.Refuse d → (P.Refused d, s) ≡ stored (roomFor m s) n s t
     unfolding stored roomFor
-    room-bars d q = rw (e, sym p ∙ q)
+    room-bars d q = rw (sym p ∙ q)
 
-    pub room-made : x ≡ J.Fine → m ≤ length s
-    unfolding roomFor
-    room-made q = room-inv m s (sym p ∙ q) .0
-
-    pub all-done : x ≡ J.Fine → (i : ℕ) → i ≡ n → (u : List ℕ) → u ≡ t → (P.Next i, u) ≡ stored (onFine v (roomFor m s)) n s t
+    pub all-done : x ≡ J.Fine → (i : ℕ) → i ≡ n → (u : List ℕ) → u ≡ t → (P.Next i, u) ≡ stored (roomFor m s) n s t
     unfolding stored roomFor
-    all-done q i h u k = rw (e, sym p ∙ q) (ap₂ (λ (a : ℕ) (b : List ℕ). (P.Next a, b)) h k)
+    all-done q i h u k = rw (sym p ∙ q) (ap₂ (λ (a : ℕ) (b : List ℕ). (P.Next a, b)) h k)
 
 -- what its answer tells
 module _ (n : ℕ) (s t : List ℕ) (x : Part) (u : List ℕ) where

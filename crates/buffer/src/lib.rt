@@ -3,7 +3,6 @@ ghost use mathlib.Core.Path.{_≡_};
 ghost use Prim.Native.Nat.{_+_, _*_, _≤_};
 ghost use mathlib.Core.List.{_++_};
 ghost use lib.ListN.{length};
-ghost use Rattle.judge.specs.Judged.{onFine};
 ghost use Rattle.judge.specs.Elements.{numbersBytes};
 ghost use Rattle.buffer.specs.Stores.{roomIn, roomFor, overwrite, withNumber, stored};
 use judge::Verdict;
@@ -90,25 +89,15 @@ fn room_of(at: usize, first: &[u8], second: &[u8], numbers: &[u32], limit: usize
     room_for(at, first.len() + second.len() + 4 * numbers.len(), limit)
 }
 
-// Stores two byte strings and numbers, one behind the other, where nothing bars them and there is room. Answers the place behind them.
-pub fn put(
-    buf: &mut [u8],
-    at: usize,
-    verdict: Verdict,
-    first: &[u8],
-    second: &[u8],
-    numbers: &[u32],
-) -> Part
-    ensures { λ r. ⌜ (r, now (buf .exit)) ≡ stored (onFine verdict (roomFor (at + length ((now (first .entry) ++ now (second .entry)) ++ numbersBytes (now (numbers .entry)))) (now (buf .entry)))) (at + length ((now (first .entry) ++ now (second .entry)) ++ numbersBytes (now (numbers .entry)))) (now (buf .entry)) (overwrite (now (buf .entry)) at ((now (first .entry) ++ now (second .entry)) ++ numbersBytes (now (numbers .entry)))) ⌝ }
+// Stores two byte strings and numbers, one behind the other, where there is room. Answers the place behind them.
+pub fn put(buf: &mut [u8], at: usize, first: &[u8], second: &[u8], numbers: &[u32]) -> Part
+    ensures { λ r. ⌜ (r, now (buf .exit)) ≡ stored (roomFor (at + length ((now (first .entry) ++ now (second .entry)) ++ numbersBytes (now (numbers .entry)))) (now (buf .entry))) (at + length ((now (first .entry) ++ now (second .entry)) ++ numbersBytes (now (numbers .entry)))) (now (buf .entry)) (overwrite (now (buf .entry)) at ((now (first .entry) ++ now (second .entry)) ++ numbersBytes (now (numbers .entry)))) ⌝ }
 {
-    match verdict {
+    match room_of(at, first, second, numbers, buf.len()) {
         Verdict::Refuse(refusal) => Part::Refused(refusal),
-        Verdict::Fine => match room_of(at, first, second, numbers, buf.len()) {
-            Verdict::Refuse(refusal) => Part::Refused(refusal),
-            Verdict::Fine => {
-                put_all(buf, at, first, second, numbers);
-                Part::Next(at + first.len() + second.len() + 4 * numbers.len())
-            }
-        },
+        Verdict::Fine => {
+            put_all(buf, at, first, second, numbers);
+            Part::Next(at + first.len() + second.len() + 4 * numbers.len())
+        }
     }
 }

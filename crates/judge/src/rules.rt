@@ -1,5 +1,5 @@
-// The rules of the steps that are given an output or an input as fields, in the order in which the reading of its bytes judges them; and the bytes
-// in front of its addresses or indices.
+// The rules of the steps that are given an output or an input as fields, in the order in which the reading of its bytes judges them; and its head,
+// the bytes in front of its addresses or indices, which is made once: to be compared, and for the step to store.
 ghost use mathlib.Core.Path.{_≡_};
 ghost use Prim.Native.Nat.{_+_, _/_, _%_, _^_, _≤_};
 ghost use mathlib.Core.List.{[], _++_};
@@ -34,13 +34,7 @@ fn put_number_behind(room: &mut [u8], at: usize, width: usize, value: u64)
 }
 
 // An output in front of its addresses. Of their number, the lowest four bytes.
-pub fn output_head(
-    asset: [u8; 32],
-    amount: u64,
-    locktime: u64,
-    threshold: u32,
-    count: u64,
-) -> [u8; 60]
+fn output_head(asset: [u8; 32], amount: u64, locktime: u64, threshold: u32, count: u64) -> [u8; 60]
     ensures { λ r. ⌜ r ≡ outputHead asset amount locktime threshold (count % 256 ^ 4) ⌝ }
 {
     let mut head = [0u8; 60];
@@ -54,7 +48,7 @@ pub fn output_head(
 }
 
 // An input in front of its indices. Of their number, the lowest four bytes.
-pub fn input_head(txid: [u8; 32], index: u32, asset: [u8; 32], amount: u64, count: u64) -> [u8; 84]
+fn input_head(txid: [u8; 32], index: u32, asset: [u8; 32], amount: u64, count: u64) -> [u8; 84]
     ensures { λ r. ⌜ r ≡ inputHead txid index asset amount (count % 256 ^ 4) ⌝ }
 {
     let mut head = [0u8; 84];
@@ -89,7 +83,7 @@ fn pieces_below(head: &[u8], rest: &[u8], prev: &[u8]) -> bool
     }
 }
 
-// Is an output strictly below prev? A number of addresses that four bytes do not hold is above all that they do.
+// Is an output strictly below prev? A number of addresses that four bytes do not hold is above all that they do. Leaves its head.
 fn output_below(
     prev: &[u8],
     asset: [u8; 32],
@@ -97,18 +91,20 @@ fn output_below(
     locktime: u64,
     threshold: u32,
     addresses: &[u8],
+    head: &mut [u8; 60],
 ) -> bool
     ensures { λ r. ⌜ r ≡ below (outputHead asset amount locktime threshold (length (now (addresses .entry)) / 20) ++ now (addresses .entry)) (now (prev .entry)) ⌝ }
+    ensures { λ _. ⌜ now (head .exit) ≡ outputHead asset amount locktime threshold (length (now (addresses .entry)) / 20 % 256 ^ 4) ⌝ }
 {
     let count = (addresses.len() / 20) as u64;
-    let head = output_head(asset, amount, locktime, threshold, count);
+    *head = output_head(asset, amount, locktime, threshold, count);
     if 4294967295 < count {
-        return wire::is_below(wire::between(&head, 0, 56), wire::between(prev, 0, 56));
+        return wire::is_below(wire::between(head, 0, 56), wire::between(prev, 0, 56));
     }
-    pieces_below(&head, addresses, prev)
+    pieces_below(head, addresses, prev)
 }
 
-// What bars an output behind prev, the bytes of the one before it.
+// What bars an output behind prev, the bytes of the one before it. Leaves its head.
 pub fn output_rules(
     prev: &[u8],
     asset: [u8; 32],
@@ -116,9 +112,12 @@ pub fn output_rules(
     locktime: u64,
     threshold: u32,
     addresses: &[u8],
+    head: &mut [u8; 60],
 ) -> Verdict
     ensures { λ r. ⌜ r ≡ judged (notBelow transferableOutput (now (prev .entry))) (outputGiven asset amount locktime threshold (now (addresses .entry))) Verdict.Fine ⌝ }
+    ensures { λ _. ⌜ now (head .exit) ≡ outputHead asset amount locktime threshold (length (now (addresses .entry)) / 20 % 256 ^ 4) ⌝ }
 {
+    let is_below = output_below(prev, asset, amount, locktime, threshold, addresses, head);
     if addresses.len() % 20 != 0 {
         return crate::bar(Rule::CutShort);
     }
@@ -131,7 +130,7 @@ pub fn output_rules(
     if !addresses_rise(addresses) {
         return crate::bar(Rule::OutOfOrder);
     }
-    if output_below(prev, asset, amount, locktime, threshold, addresses) {
+    if is_below {
         return crate::bar(Rule::OutOfOrder);
     }
     Verdict::Fine
@@ -151,7 +150,7 @@ fn indices_rise(indices: &[u32]) -> bool
     true
 }
 
-// What bars an input behind prev, the bytes of the one before it. Its key is the first 36 bytes of its head.
+// What bars an input behind prev, the bytes of the one before it. Leaves its head, of which the first 36 bytes are its key.
 pub fn input_rules(
     prev: &[u8],
     txid: [u8; 32],
@@ -159,11 +158,13 @@ pub fn input_rules(
     asset: [u8; 32],
     amount: u64,
     indices: &[u32],
+    head: &mut [u8; 84],
 ) -> Verdict
     ensures { λ r. ⌜ r ≡ judged (input (now (prev .entry))) (inputGiven txid index asset amount (now (indices .entry))) Verdict.Fine ⌝ }
+    ensures { λ _. ⌜ now (head .exit) ≡ inputHead txid index asset amount (length (now (indices .entry)) % 256 ^ 4) ⌝ }
 {
-    let head = input_head(txid, index, asset, amount, indices.len() as u64);
-    if !wire::is_below(wire::between(prev, 0, 36), wire::between(&head, 0, 36)) {
+    *head = input_head(txid, index, asset, amount, indices.len() as u64);
+    if !wire::is_below(wire::between(prev, 0, 36), wire::between(head, 0, 36)) {
         return crate::bar(Rule::OutOfOrder);
     }
     if amount == 0 {

@@ -1,22 +1,18 @@
 -- The tests in front of a step. Assumes nothing.
 use Prim.Native.Nat.{ℕ, _+_, _≤_, _<_}
-use mathlib.Core.Path.{_≡_, sym, ap, _∙_}
-use mathlib.Core.Bool.{Bool, true, false}
+use mathlib.Core.Path.{_≡_, ap}
+use mathlib.Core.Bool.{Bool, false}
 use mathlib.Core.List.{List, []}
-use lib.ListN.{length}
-use lib.Dec.{ltb, leb}
+use lib.Dec.{ltb}
 use borrow.Author.Tests.{le-leb, lt-leb, ne-eqb}
-use Rattle.wire.specs.Bytes.{part, pick}
+use Rattle.wire.specs.Bytes.{part}
 use Rattle.wire.specs.declared.Refusal.{Refusal}
-use Rattle.wire.specs.Numbers.{noRoom, stepNotDue}
 use Rattle.judge.specs.declared.Verdict.{Verdict}
 use Rattle.judge.specs.declared.Verdict.the-variants as J
-use Rattle.judge.specs.Judged.{barred}
-use Rattle.judge.proofs.Verdicts.{not-fine}
 use Rattle.writer.specs.declared.Writer.{Writer}
 use Rattle.writer.specs.declared.Step.{Step}
-use Rattle.writer.specs.Steps.{answered, guarded, prev, sane}
-use Rattle.writer.specs.Code.{after, refusedStep, enteredIn}
+use Rattle.writer.specs.Steps.{answered, prev, sane}
+use Rattle.writer.specs.Code.{after, refusedStep}
 
 -- ---- the element before
 
@@ -29,33 +25,13 @@ module _ (w : Writer) (s : List ℕ) where
   unfolding prev
   last-there t h e = rw (ne-eqb (w .count) 0 e) h
 
--- ---- whether a step is entered
+-- ---- a step that is barred
 
-module _ (t : Bool) (w : Writer) (limit : ℕ) where
-  pub too-short : t ≡ true → limit < w .at → (x : Verdict) → x ≡ barred noRoom → x ≡ enteredIn t w limit
-  too-short e h x i = rw (e, lt-leb (w .at) limit h) i
-
-  pub goes-on : t ≡ true → w .at ≤ limit → J.Fine ≡ enteredIn t w limit
-  goes-on e h = rw (e, le-leb (w .at) limit h)
-
-  pub not-entered : t ≡ false → (x : Verdict) → x ≡ barred stepNotDue → x ≡ enteredIn t w limit
-  not-entered e x i = rw e i
-
-  pub entered-when : (x : Verdict) → x ≡ enteredIn t w limit → (b : Bool) → t ≡ b → x ≡ enteredIn b w limit
-  entered-when x h b e = h ∙ ap (λ (y : Bool). enteredIn y w limit) e
-
--- what bars a step before its rules is what it answers
-module _ (w : Writer) (s : List ℕ) (d : Refusal) (r : Step) (h : r ≡ refusedStep w d) where
-  pub kept-out : (t : Bool) → enteredIn t w (length s) ≡ J.Refuse d → (v : Verdict) (w′ : Writer) (s′ : List ℕ)
-      → after r s ≡ answered (guarded t w s v) w s w′ s′
-  unfolding answered
-  kept-out t e v w′ s′ = rw (go t (leb (w .at) (length s)) e) (ap (λ (y : Step). after y s) h)
-    where
-      go : (t b : Bool) → pick t (pick b J.Fine (barred noRoom)) (barred stepNotDue) ≡ J.Refuse d
-          → pick t (pick b v (barred noRoom)) (barred stepNotDue) ≡ J.Refuse d
-      go true true e = not-fine d (sym e)
-      go true false e = e
-      go false b e = e
+-- what bars a step is what it answers
+pub kept-out : (w : Writer) (s : List ℕ) (v : Verdict) (w′ : Writer) (s′ : List ℕ) (d : Refusal) → v ≡ J.Refuse d → (r : Step) → r ≡ refusedStep w d
+    → after r s ≡ answered v w s w′ s′
+unfolding answered
+kept-out w s v w′ s′ d e r h = rw e (ap (λ (y : Step). after y s) h)
 
 -- ---- an open list
 

@@ -1,14 +1,15 @@
 -- Whether a step is entered, and what its answer keeps. Assumes nothing.
-use Prim.Native.Nat.{ℕ, _≤_}
+use Prim.Native.Nat.{ℕ, _≤_, _<_}
 use mathlib.Core.Path.{_≡_, refl, sym}
 use mathlib.Core.Bool.{Bool, true, false, not}
 use mathlib.Core.List.{List}
 use lib.ListN.{length}
 use lib.Dec.{leb}
-use borrow.Author.Tests.{leb-true, le-leb}
+use borrow.Author.Tests.{leb-true, le-leb, lt-leb}
 use Rattle.wire.specs.Numbers.{noRoom, stepNotDue}
 use Rattle.judge.specs.declared.Verdict.{Verdict}
 use Rattle.judge.specs.declared.Verdict.the-variants as J
+use Rattle.judge.specs.Judged.{barred}
 use Rattle.judge.proofs.Verdicts.{pick-fine}
 use Rattle.writer.specs.declared.Writer.{Writer}
 use Rattle.writer.specs.Steps.{answered, guarded}
@@ -21,6 +22,12 @@ guarded-inv t w s v e =
 
 pub guarded-fine : (t : Bool) (w : Writer) (s : List ℕ) (v : Verdict) → t ≡ true → w .at ≤ length s → guarded t w s v ≡ v
 guarded-fine t w s v a b = rw (a, le-leb (w .at) (length s) b)
+
+pub guarded-not : (t : Bool) (w : Writer) (s : List ℕ) (v : Verdict) → t ≡ false → guarded t w s v ≡ barred stepNotDue
+guarded-not t w s v e = rw e
+
+pub guarded-short : (t : Bool) (w : Writer) (s : List ℕ) (v : Verdict) → t ≡ true → length s < w .at → guarded t w s v ≡ barred noRoom
+guarded-short t w s v e h = rw (e, lt-leb (w .at) (length s) h)
 
 -- what holds of state and buffer holds after the step, if it held before and holds where the step is done
 pub answered-keeps : (P : Writer → List ℕ → Type 1) (v : Verdict) (w : Writer) (s : List ℕ) (w′ : Writer) (s′ : List ℕ) → P w s → (v ≡ J.Fine → P w′ s′)

@@ -1,14 +1,14 @@
 -- The public steps, from what the code below them answered. Assumes nothing.
 use Prim.Native.Nat.{ℕ, suc, _+_, _*_, _/_, _%_, _^_, _≤_, _<_}
 use mathlib.Core.Path.{_≡_, refl, sym, ap, ap₂, _∙_}
-use mathlib.Core.Bool.{Bool, true, false, _&&_, false≢true}
+use mathlib.Core.Bool.{Bool, true, false, not, _&&_, false≢true}
 use mathlib.Core.List.{List, [], _++_, append-assoc, append-nil}
 use native.Mathlib.Omega.{arith}
 use native.Mathlib.Nat.{mod-eq-of-lt, add-zero, zero-add, div-le-self}
 use native.Mathlib.Numerals.{add-one}
 use lib.ListN.{length, length-append}
 use lib.Dec.{ltb, leb, eqb}
-use borrow.Author.Tests.{leb-true, eqb-true}
+use borrow.Author.Tests.{leb-true, eq-eqb, eqb-true, ne-eqb}
 use Rattle.wire.specs.Bytes.{digits, length-digits, pick}
 use Rattle.wire.specs.Numbers.{ruleOf, cutShort, badLength, emptyList}
 use Rattle.wire.specs.Fields.{blob}
@@ -19,7 +19,7 @@ use Rattle.wire.specs.declared.Part.the-variants as P
 use Rattle.element.specs.Outputs.{transferableOutput}
 use Rattle.element.specs.Inputs.{input}
 use Rattle.element.specs.Operations.{operation, initialState}
-use Rattle.transaction.specs.Plan.{elementsOf, Plan, shut, end, field, many, planOf}
+use Rattle.transaction.specs.Plan.{contentOf, Plan, shut, end, field, many, planOf}
 use Rattle.transaction.specs.Avm.{avm}
 use Rattle.transaction.specs.Family.{head}
 use Rattle.transaction.specs.declared.FieldName.{FieldName}
@@ -44,13 +44,13 @@ use Rattle.due.proofs.Rows.{phase-small}
 use Rattle.blank.specs.Closing.{closing, closable}
 use Rattle.writer.specs.declared.Writer.{Writer}
 use Rattle.writer.specs.declared.Step.{Step}
-use Rattle.writer.specs.Steps.{answered, prev, sane, opening, opened, closeAt, start, putField, putElement, close, finish, finishAt}
+use Rattle.writer.specs.Steps.{Turn, answered, guarded, prev, sane, opened, closeAt, start, close, finish, finishAt}
 use Rattle.writer.specs.Fields.{addOutput, addInput, addOperation, addInitialState, putMemo, putName, putSymbol, putDenomination, putChain}
-use Rattle.writer.specs.Code.{after, refusedStep, notDueStep, storedStep, dueAt, enteredIn, settled, partStep, opensNext, elementStep}
-use Rattle.writer.proofs.Laws.{guarded-inv, guarded-fine}
+use Rattle.writer.specs.Code.{after, refusedStep, notDueStep, noRoomStep, storedStep, dueAt, settled, partStep, opensNext, elementStep}
+use Rattle.writer.proofs.Laws.{guarded-fine, guarded-not, guarded-short}
 use Rattle.writer.proofs.Entering.{kept-out}
 use Rattle.writer.proofs.Fitting.{opening-is}
-use Rattle.writer.proofs.Naming.{next-opens, field-is, element-is}
+use Rattle.writer.proofs.Naming.{next-opens, field-barred, field-is, element-barred, element-is}
 use Rattle.buffer.specs.Stores.{roomFor, overwrite, countOf, stored}
 use Rattle.writer.proofs.Settling.{store-refused, store-done}
 
@@ -66,74 +66,102 @@ text-short long b e =
 
 -- ---- fields
 
--- v has let the step in, and x are the rules
-module _ (most : ℕ) (w : Writer) (s : List ℕ) (v : Verdict) (fine : v ≡ J.Fine) (x : Verdict) (c : List ℕ) (r : Step) (u : List ℕ) where
-  abbrev EnteredField : FieldName → Type 0
-  EnteredField f = v ≡ enteredIn (isField f (dueAt w)) w (length s)
+-- t has let the step in, the buffer has the bytes written, and x are the rules
+module _ (most : ℕ) (w : Writer) (s : List ℕ) (t : Bool) (n : not t ≡ false) (long : w .at ≤ length s) (x : Verdict) where
+  abbrev IsDue : FieldName → Type 0
+  IsDue f = t ≡ isField f (dueAt w)
 
-  abbrev Puts : List ℕ → Type 0
-  Puts ys = after r u ≡ partStep w s x ys (opensNext w)
+  -- the bytes zs are put
+  abbrev Puts : Step → List ℕ → List ℕ → Type 0
+  Puts r u zs = after r u ≡ partStep w s zs (opensNext w)
 
-  pub memo-is : EnteredField F.Memo → (b : List ℕ) → most < 256 ^ 4 → x ≡ memoRules most (length b) → c ≡ digits 4 (length b % 256 ^ 4)
-      → Puts (c ++ b) → after r u ≡ putMemo most w s b
-  memo-is p b k hx hc h =
-      field-is w s F.Memo v p fine most (digits 4 (length b) ++ b) (c ++ b) (memoRules most (length b)) (string-judged most b)
-      (λ e.
-      let short : length b ≤ most = leb-true (length b) most (pick-fine (leb (length b) most) J.Fine (ruleOf badLength) e .0) in
-      ap (λ (z : List ℕ). z ++ b) (hc ∙ fits-digits 4 (length b) most short k)) x hx r u h
-      ∙ ap (λ (z : List ℕ). putField (avm most) w s F.Memo (given z)) (sym (string-write 4 most b))
+  module _ (b : List ℕ) where
+    module _ (p : IsDue F.Memo) (hx : x ≡ memoRules most (length b)) where
+      memo-judged : x ≡ judged (contentOf most F.Memo) (given (contentOf most F.Memo .write b)) J.Fine
+      memo-judged = hx ∙ sym (string-judged most b) ∙ ap (λ (z : List ℕ). judged (contentOf most F.Memo) (given z) J.Fine) (sym (string-write 4 most b))
 
-  pub name-is : EnteredField F.Name → (b : List ℕ) → x ≡ textRules 128 b → c ≡ digits 2 (length b % 256 ^ 2) → Puts (c ++ b)
-      → after r u ≡ putName most w s b
-  name-is p b hx hc h =
-      field-is w s F.Name v p fine most (digits 2 (length b) ++ b) (c ++ b) (textRules 128 b) (text-judged 128 b)
-      (λ e. ap (λ (z : List ℕ). z ++ b) (hc ∙ fits-digits 2 (length b) 128 (text-short 128 b e) (omega arith))) x hx r u h
-      ∙ ap (λ (z : List ℕ). putField (avm most) w s F.Name (given z)) (sym (text-write 128 b))
+      pub memo-barred : (d : Refusal) → x ≡ J.Refuse d → (r : Step) → r ≡ refusedStep w d → after r s ≡ putMemo most w s b
+      memo-barred d e r h = field-barred w s F.Memo t p n most _ long x memo-judged d e r h
 
-  pub symbol-is : EnteredField F.Symbol → (b : List ℕ) → x ≡ textRules 4 b → c ≡ digits 2 (length b % 256 ^ 2) → Puts (c ++ b)
-      → after r u ≡ putSymbol most w s b
-  symbol-is p b hx hc h =
-      field-is w s F.Symbol v p fine most (digits 2 (length b) ++ b) (c ++ b) (textRules 4 b) (text-judged 4 b)
-      (λ e. ap (λ (z : List ℕ). z ++ b) (hc ∙ fits-digits 2 (length b) 4 (text-short 4 b e) (omega arith))) x hx r u h
-      ∙ ap (λ (z : List ℕ). putField (avm most) w s F.Symbol (given z)) (sym (text-write 4 b))
+      pub memo-is : most < 256 ^ 4 → x ≡ J.Fine → (c : List ℕ) → c ≡ digits 4 (length b % 256 ^ 4) → (r : Step) (u : List ℕ) → Puts r u (c ++ b)
+          → after r u ≡ putMemo most w s b
+      memo-is k e c hc r u h =
+          let short : length b ≤ most = leb-true (length b) most (pick-fine (leb (length b) most) J.Fine (ruleOf badLength) (sym hx ∙ e) .0) in
+          field-is w s F.Memo t p n most _ long x memo-judged e (c ++ b)
+          (ap (λ (z : List ℕ). z ++ b) (hc ∙ fits-digits 4 (length b) most short k) ∙ sym (string-write 4 most b)) r u h
 
-  pub denomination-is : EnteredField F.Denomination → (n : ℕ) → x ≡ denominationRules n → c ≡ digits 1 (n % 256 ^ 1) → n < 256 → Puts (c ++ [])
-      → after r u ≡ putDenomination most w s n
-  denomination-is p n hx hc f h =
-      field-is w s F.Denomination v p fine most (digits 1 n ++ []) (c ++ []) (denominationRules n) (denomination-judged n)
-      (λ e. ap (λ (z : List ℕ). z ++ []) (hc ∙ ap (digits 1) (mod-eq-of-lt f))) x hx r u h
-      ∙ ap (λ (z : List ℕ). putField (avm most) w s F.Denomination (given z)) (sym (denomination-write n))
+    text-made : (m : ℕ) → m < 256 ^ 2 → x ≡ textRules m b → x ≡ J.Fine → (c : List ℕ) → c ≡ digits 2 (length b % 256 ^ 2)
+        → c ++ b ≡ digits 2 (length b) ++ b
+    text-made m k hx e c hc = ap (λ (z : List ℕ). z ++ b) (hc ∙ fits-digits 2 (length b) m (text-short m b (sym hx ∙ e)) k)
 
-  pub chain-is : EnteredField F.Chain → length c ≡ 32 → x ≡ J.Fine → Puts c → after r u ≡ putChain most w s c
-  unfolding blob
-  chain-is p e hx h = field-is w s F.Chain v p fine most c c J.Fine (id-judged c e) (λ i. refl) x hx r u h
+    module _ (p : IsDue F.Name) (hx : x ≡ textRules 128 b) where
+      name-judged : x ≡ judged (contentOf most F.Name) (given (contentOf most F.Name .write b)) J.Fine
+      name-judged = hx ∙ sym (text-judged 128 b) ∙ ap (λ (z : List ℕ). judged (contentOf most F.Name) (given z) J.Fine) (sym (text-write 128 b))
+
+      pub name-barred : (d : Refusal) → x ≡ J.Refuse d → (r : Step) → r ≡ refusedStep w d → after r s ≡ putName most w s b
+      name-barred d e r h = field-barred w s F.Name t p n most _ long x name-judged d e r h
+
+      pub name-is : x ≡ J.Fine → (c : List ℕ) → c ≡ digits 2 (length b % 256 ^ 2) → (r : Step) (u : List ℕ) → Puts r u (c ++ b)
+          → after r u ≡ putName most w s b
+      name-is e c hc r u h =
+          field-is w s F.Name t p n most _ long x name-judged e (c ++ b) (text-made 128 (omega arith) hx e c hc ∙ sym (text-write 128 b)) r u h
+
+    module _ (p : IsDue F.Symbol) (hx : x ≡ textRules 4 b) where
+      symbol-judged : x ≡ judged (contentOf most F.Symbol) (given (contentOf most F.Symbol .write b)) J.Fine
+      symbol-judged = hx ∙ sym (text-judged 4 b) ∙ ap (λ (z : List ℕ). judged (contentOf most F.Symbol) (given z) J.Fine) (sym (text-write 4 b))
+
+      pub symbol-barred : (d : Refusal) → x ≡ J.Refuse d → (r : Step) → r ≡ refusedStep w d → after r s ≡ putSymbol most w s b
+      symbol-barred d e r h = field-barred w s F.Symbol t p n most _ long x symbol-judged d e r h
+
+      pub symbol-is : x ≡ J.Fine → (c : List ℕ) → c ≡ digits 2 (length b % 256 ^ 2) → (r : Step) (u : List ℕ) → Puts r u (c ++ b)
+          → after r u ≡ putSymbol most w s b
+      symbol-is e c hc r u h =
+          field-is w s F.Symbol t p n most _ long x symbol-judged e (c ++ b) (text-made 4 (omega arith) hx e c hc ∙ sym (text-write 4 b)) r u h
+
+  module _ (p : IsDue F.Denomination) (v : ℕ) (hx : x ≡ denominationRules v) where
+    denomination-is-judged : x ≡ judged (contentOf most F.Denomination) (given (contentOf most F.Denomination .write v)) J.Fine
+    denomination-is-judged =
+        hx ∙ sym (denomination-judged v) ∙ ap (λ (z : List ℕ). judged (contentOf most F.Denomination) (given z) J.Fine) (sym (denomination-write v))
+
+    pub denomination-barred : (d : Refusal) → x ≡ J.Refuse d → (r : Step) → r ≡ refusedStep w d → after r s ≡ putDenomination most w s v
+    denomination-barred d e r h = field-barred w s F.Denomination t p n most _ long x denomination-is-judged d e r h
+
+    pub denomination-is : x ≡ J.Fine → v < 256 → (c : List ℕ) → c ≡ digits 1 (v % 256 ^ 1) → (r : Step) (u : List ℕ) → Puts r u (c ++ [])
+        → after r u ≡ putDenomination most w s v
+    denomination-is e f c hc r u h =
+        field-is w s F.Denomination t p n most _ long x denomination-is-judged e (c ++ [])
+        (ap (λ (z : List ℕ). z ++ []) (hc ∙ ap (digits 1) (mod-eq-of-lt f)) ∙ sym (denomination-write v)) r u h
+
+pub chain-is : (most : ℕ) (w : Writer) (s : List ℕ) (t : Bool) → not t ≡ false → w .at ≤ length s → t ≡ isField F.Chain (dueAt w)
+    → (c : List ℕ) → length c ≡ 32 → (r : Step) (u : List ℕ) → after r u ≡ partStep w s c (opensNext w) → after r u ≡ putChain most w s c
+unfolding blob
+chain-is most w s t n long p c e r u h = field-is w s F.Chain t p n most (given c) long J.Fine (sym (id-judged c e)) refl c refl r u h
 
 -- ---- closing a list
 
 module _ (w : Writer) (s : List ℕ) where
-  close-here : (least : ℕ) (q : Plan) (l : ListName) → w .at ≤ length s
-      → partStep w s (listRules (w .count) least) [] (isList (dueOf q)) ≡ closeAt (many l least q) w s
-  unfolding closeAt
-  close-here least q l long =
-      let R : Verdict = roomFor (w .at + length (opening q)) s in
-      let cnt : countOf (isList (dueOf q)) ≡ opening q = sym (opening-is q) in
-      ap₂ (λ (c : List ℕ) (i : ℕ). answered (onFine (listRules (w .count) least) (roomFor (w .at + length c) s)) w s
-      (record { kind = w .kind; phase = suc (w .phase); at = i + length c; list = i; count = 0; last = 0 }) (overwrite s (w .at) c)) cnt (add-zero (w .at))
-      ∙ ap (λ (v : Verdict). answered v w s (opened (w .kind) (suc (w .phase)) (w .at) q) (overwrite s (w .at) (opening q)))
-      (go (leb least (w .count)) R ∙ sym (guarded-fine true w s (pick (leb least (w .count)) R (barred (ruleOf emptyList))) refl long))
-    where
-      go : (b : Bool) (R : Verdict) → onFine (pick b J.Fine (barred (ruleOf emptyList))) R ≡ pick b R (barred (ruleOf emptyList))
-      go true R = refl
-      go false R = refl
+  -- what bars the close of a list that is due, where another is next or not
+  abbrev closeVerdict : ℕ → Bool → Verdict
+  closeVerdict least opens = guarded true w s (pick (leb least (w .count)) (roomFor (w .at + length (countOf opens)) s) (barred (ruleOf emptyList)))
 
-  closed-at : (q : Plan) (m : ListName) (least : ℕ) → dueOf q ≡ D.List m least → w .at ≤ length s
-      → partStep w s (listRules (w .count) least) [] (isList (dueOf (tail q))) ≡ closeAt q w s
-  closed-at shut m least e long = let z : _≡_ {A = ℕ} 0 1 = cc in absurd (omega arith)
-  closed-at end m least e long = let z : _≡_ {A = ℕ} 0 1 = cc in absurd (omega arith)
-  closed-at (field f q) m least e long = let z : _≡_ {A = ℕ} 0 1 = cc in absurd (omega arith)
-  closed-at (many l n q) m least e long =
+  -- the close that is due
+  abbrev closeStep : Verdict → Bool → Turn
+  closeStep v opens =
+      answered v w s record { kind = w .kind; phase = suc (w .phase); at = w .at + length (countOf opens); list = w .at; count = 0; last = 0 }
+      (overwrite s (w .at) (countOf opens))
+
+  closed-at : (q : Plan) (m : ListName) (least : ℕ) → dueOf q ≡ D.List m least
+      → closeStep (closeVerdict least (isList (dueOf (tail q)))) (isList (dueOf (tail q))) ≡ closeAt q w s
+  unfolding closeAt
+  closed-at shut m least e = let z : _≡_ {A = ℕ} 0 1 = cc in absurd (omega arith)
+  closed-at end m least e = let z : _≡_ {A = ℕ} 0 1 = cc in absurd (omega arith)
+  closed-at (field f q) m least e = let z : _≡_ {A = ℕ} 0 1 = cc in absurd (omega arith)
+  closed-at (many l n q) m least e =
       let i : least ≡ n = cc in
-      ap (λ (k : ℕ). partStep w s (listRules (w .count) k) [] (isList (dueOf q))) i ∙ close-here n q l long
+      ap₂ (λ (k : ℕ) (c : List ℕ).
+      answered (guarded true w s (pick (leb k (w .count)) (roomFor (w .at + length c) s) (barred (ruleOf emptyList)))) w s
+      (record { kind = w .kind; phase = suc (w .phase); at = w .at + length c; list = w .at; count = 0; last = 0 }) (overwrite s (w .at) c))
+      i (sym (opening-is q))
 
   module _ (x : Due) (p : x ≡ dueAt w) where
     -- no list is open
@@ -151,58 +179,95 @@ module _ (w : Writer) (s : List ℕ) where
       pub close-small : w .phase ≤ 8
       close-small = phase-small (w .kind) (w .phase) isList refl (ap isList (sym p ∙ e))
 
-      module _ (most : ℕ) (v : Verdict) (hv : v ≡ enteredIn true w (length s)) where
-        -- barred before its elements are counted
-        pub close-barred : (d : Refusal) → v ≡ J.Refuse d → (r : Step) → r ≡ refusedStep w d → after r s ≡ close (avm most) w s
-        unfolding close closeAt
-        close-barred d b r h = go (due (w .phase) (planOf (w .kind))) (ap isList (sym p ∙ e))
-          where
-            go : (q : Plan) → isList (dueOf q) ≡ true → after r s ≡ closeAt q w s
-            go shut i = absurd (false≢true i)
-            go end i = absurd (false≢true i)
-            go (field f q) i = absurd (false≢true i)
-            go (many l least q) i = kept-out w s d r h true (sym hv ∙ b) _ _ _
-
-        pub close-is : v ≡ J.Fine → (rules : Verdict) → rules ≡ listRules (w .count) least → (r : Step) (u : List ℕ)
-            → after r u ≡ partStep w s rules [] (opensNext w) → after r u ≡ close (avm most) w s
+      module _ (most : ℕ) where
+        close-here : closeStep (closeVerdict least (opensNext w)) (opensNext w) ≡ close (avm most) w s
         unfolding close
-        close-is fine rules hr r u h =
-            h ∙ ap₂ (λ (y : Verdict) (b : Bool). partStep w s y [] b) hr (next-opens isList refl w (ap isList (sym p ∙ e)))
-            ∙ closed-at (due (w .phase) (planOf (w .kind))) m least (sym p ∙ e) (guarded-inv true w s J.Fine (sym hv ∙ fine) .1)
+        close-here =
+            ap (λ (b : Bool). closeStep (closeVerdict least b) b) (next-opens isList refl w (ap isList (sym p ∙ e)))
+            ∙ closed-at (due (w .phase) (planOf (w .kind))) m least (sym p ∙ e)
+
+        pub close-short : length s < w .at → (r : Step) → r ≡ noRoomStep w → after r s ≡ close (avm most) w s
+        close-short k r h = kept-out w s _ _ _ _ (guarded-short true w s _ refl k) r h ∙ close-here
+
+        module _ (long : w .at ≤ length s) (rules : Verdict) (hr : rules ≡ listRules (w .count) least) where
+          abbrev room : Verdict
+          room = roomFor (w .at + length (countOf (opensNext w))) s
+
+          close-judged : (v : Verdict) → rules ≡ v → closeVerdict least (opensNext w) ≡ onFine v room
+          close-judged v i = guarded-fine true w s _ refl long ∙ go (leb least (w .count)) ∙ ap (λ (y : Verdict). onFine y room) (sym hr ∙ i)
+            where
+              go : (b : Bool) → pick b room (barred (ruleOf emptyList)) ≡ onFine (pick b J.Fine (barred (ruleOf emptyList))) room
+              go true = refl
+              go false = refl
+
+          pub close-barred : (d : Refusal) → rules ≡ J.Refuse d → (r : Step) → r ≡ refusedStep w d → after r s ≡ close (avm most) w s
+          close-barred d i r h = kept-out w s _ _ _ d (close-judged (J.Refuse d) i) r h ∙ close-here
+
+          pub close-is : rules ≡ J.Fine → (r : Step) (u : List ℕ) → after r u ≡ partStep w s [] (opensNext w) → after r u ≡ close (avm most) w s
+          close-is i r u h =
+              h ∙ ap (λ (k : ℕ). answered room w s
+              (record { kind = w .kind; phase = suc (w .phase); at = k + length (countOf (opensNext w)); list = k; count = 0; last = 0 })
+              (overwrite s (w .at) (countOf (opensNext w)))) (add-zero (w .at))
+              ∙ ap (λ (v : Verdict). closeStep v (opensNext w)) (sym (close-judged J.Fine i)) ∙ close-here
 
 -- ---- the start
 
-module _ (most : ℕ) (w : Writer) (s : List ℕ) (kind network : ℕ) (chain : List ℕ) (v : Verdict)
-    (hv : v ≡ enteredIn (eqb (w .phase) 0) w (length s)) where
-  pub start-not : (d : Refusal) → v ≡ J.Refuse d → (r : Step) → r ≡ refusedStep w d → after r s ≡ start (avm most) w s kind network chain
+module _ (most : ℕ) (w : Writer) (s : List ℕ) (kind network : ℕ) (chain : List ℕ) where
+  pub start-not : (w .phase ≡ 0 → ⊥) → (r : Step) → r ≡ notDueStep w → after r s ≡ start (avm most) w s kind network chain
   unfolding start
-  start-not d e r h = kept-out w s d r h (eqb (w .phase) 0) (sym hv ∙ e) _ _ _
+  start-not n r h = kept-out w s _ _ _ _ (guarded-not (eqb (w .phase) 0) w s _ (ne-eqb (w .phase) 0 n)) r h
 
-  pub start-is : v ≡ J.Fine → length chain ≡ 32 → kind < 256 ^ 4 → network < 256 ^ 4
-      → (rules : Verdict) → rules ≡ kindRules kind → (front : List ℕ) → front ≡ digits 10 ((kind * 4294967296 + network) % 256 ^ 10)
-      → (r : Step) (u : List ℕ)
-      → after r u ≡ settled w s rules (front ++ chain) true record { kind = kind; phase = 1; at = 0; list = 0; count = 0; last = 0 }
-      → after r u ≡ start (avm most) w s kind network chain
-  unfolding start
-  start-is fine long fk fn rules hr front hf r u h =
-      let ys : List ℕ = headBytes kind network chain in
-      let R : Verdict = roomFor (length (ys ++ digits 4 0)) s in
-      let t : Bool = eqb (w .phase) 0 in
-      let (i, k, _) = guarded-inv t w s J.Fine (sym hv ∙ fine) in
-      let same : front ++ chain ≡ ys =
-      ap (λ (z : List ℕ). z ++ chain) (hf ∙ front-is kind network fk fn)
-      ∙ append-assoc (digits 2 0) (digits 4 kind ++ digits 4 network) chain
-      ∙ ap (λ (z : List ℕ). digits 2 0 ++ z) (append-assoc (digits 4 kind) (digits 4 network) chain) in
-      h ∙ ap₂ (λ (x : Verdict) (z : List ℕ). settled w s x z true record { kind = kind; phase = 1; at = 0; list = 0; count = 0; last = 0 }) hr same
-      ∙ ap₂ (λ (i j : ℕ). answered (onFine (kindRules kind) (roomFor i s)) w s
-      (record { kind = kind; phase = 1; at = j + length (digits 4 0); list = j; count = 0; last = 0 }) (overwrite s 0 (ys ++ digits 4 0)))
-      (zero-add (length (ys ++ digits 4 0))) (zero-add (length ys))
-      ∙ ap (λ (x : Verdict). answered x w s (opened kind 1 (length ys) (planOf kind)) (overwrite s 0 (ys ++ digits 4 0)))
-      (ap (λ (x : Verdict). onFine x R) (sym (head-judged most kind network chain long))
-      ∙ sym (judged-on (head (avm most)) (given ys) R)
-      ∙ sym (guarded-fine t w s (judged (head (avm most)) (given ys) R) i k))
+  module _ (e : w .phase ≡ 0) where
+    isFresh : eqb (w .phase) 0 ≡ true
+    isFresh = eq-eqb (w .phase) 0 e
+
+    pub start-short : length s < w .at → (r : Step) → r ≡ noRoomStep w → after r s ≡ start (avm most) w s kind network chain
+    unfolding start
+    start-short k r h = kept-out w s _ _ _ _ (guarded-short (eqb (w .phase) 0) w s _ isFresh k) r h
+
+    module _ (long : w .at ≤ length s) (l : length chain ≡ 32) (rules : Verdict) (hr : rules ≡ kindRules kind) where
+      abbrev frontBytes : List ℕ
+      frontBytes = headBytes kind network chain
+
+      start-judged : (v : Verdict) → rules ≡ v → (R : Verdict)
+          → guarded (eqb (w .phase) 0) w s (judged (head (avm most)) (given frontBytes) R) ≡ onFine v R
+      start-judged v i R =
+          guarded-fine (eqb (w .phase) 0) w s _ isFresh long ∙ judged-on (head (avm most)) (given frontBytes) R
+          ∙ ap (λ (y : Verdict). onFine y R) (head-judged most kind network chain l ∙ sym hr ∙ i)
+
+      pub start-barred : (d : Refusal) → rules ≡ J.Refuse d → (r : Step) → r ≡ refusedStep w d → after r s ≡ start (avm most) w s kind network chain
+      unfolding start
+      start-barred d i r h = kept-out w s _ _ _ d (start-judged (J.Refuse d) i _) r h
+
+      pub start-is : rules ≡ J.Fine → kind < 256 ^ 4 → network < 256 ^ 4
+          → (front : List ℕ) → front ≡ digits 10 ((kind * 4294967296 + network) % 256 ^ 10) → (r : Step) (u : List ℕ)
+          → after r u ≡ settled w s (front ++ chain) true record { kind = kind; phase = 1; at = 0; list = 0; count = 0; last = 0 }
+          → after r u ≡ start (avm most) w s kind network chain
+      unfolding start
+      start-is i fk fn front hf r u h =
+          let same : front ++ chain ≡ frontBytes =
+          ap (λ (z : List ℕ). z ++ chain) (hf ∙ front-is kind network fk fn)
+          ∙ append-assoc (digits 2 0) (digits 4 kind ++ digits 4 network) chain
+          ∙ ap (λ (z : List ℕ). digits 2 0 ++ z) (append-assoc (digits 4 kind) (digits 4 network) chain) in
+          h ∙ ap (λ (z : List ℕ). settled w s z true record { kind = kind; phase = 1; at = 0; list = 0; count = 0; last = 0 }) same
+          ∙ ap₂ (λ (i j : ℕ). answered (roomFor i s) w s
+          (record { kind = kind; phase = 1; at = j + length (digits 4 0); list = j; count = 0; last = 0 }) (overwrite s 0 (frontBytes ++ digits 4 0)))
+          (zero-add (length (frontBytes ++ digits 4 0))) (zero-add (length frontBytes))
+          ∙ ap (λ (x : Verdict). answered x w s (opened kind 1 (length frontBytes) (planOf kind)) (overwrite s 0 (frontBytes ++ digits 4 0)))
+          (sym (start-judged J.Fine i (roomFor (length (frontBytes ++ digits 4 0)) s)))
 
 -- ---- elements given as fields
+
+-- a head has its width
+pub output-head-wide : (asset : List ℕ) (amount locktime threshold count : ℕ) → length asset ≡ 32 → (head : List ℕ)
+    → head ≡ outputHead asset amount locktime threshold count → length head ≡ 60
+unfolding outputHead outputFront
+output-head-wide asset amount locktime threshold count h head e = ap length e ∙ simp (length-append, length-digits) (omega arith)
+
+pub input-head-wide : (txid : List ℕ) (index : ℕ) (asset : List ℕ) (amount count : ℕ) → length txid ≡ 32 → length asset ≡ 32 → (head : List ℕ)
+    → head ≡ inputHead txid index asset amount count → length head ≡ 84
+unfolding inputHead
+input-head-wide txid index asset amount count h k head e = ap length e ∙ simp (length-append, length-digits) (omega arith)
 
 -- a head is as long for every count
 head-long : (asset : List ℕ) (amount locktime threshold m n : ℕ)
@@ -228,25 +293,32 @@ module _ (most : ℕ) (w : Writer) (s : List ℕ) (asset : List ℕ) (amount loc
       (pick-fine (eqb (length addresses % 20) 0) _ (ruleOf cutShort)
       (sym (judged-read (notBelow transferableOutput last) (outputGiven asset amount locktime threshold addresses) J.Fine) ∙ e) .0)
 
-  pub output-is : (v : Verdict) → v ≡ enteredIn (isOpen L.Output (dueAt w) && sane w) w (length s) → v ≡ J.Fine
-      → (last : List ℕ) → last ≡ prev w s → (x : Verdict) → x ≡ outputRules last
-      → (head : List ℕ) → head ≡ outputHead asset amount locktime threshold (length addresses / 20 % 256 ^ 4)
-      → (r : Step) (u : List ℕ) → after r u ≡ elementStep w s x ((head ++ addresses) ++ [])
-      → after r u ≡ addOutput most w s asset amount locktime threshold addresses
-  output-is v p fine last hl x hx head hh r u h =
-      element-is w s L.Output v p fine most (outputGiven asset amount locktime threshold addresses) (head ++ addresses) (outputRules (prev w s)) refl
-      (λ e.
-      omega (
-        arith,
-        length-append head addresses,
-        ap length hh,
-        head-long asset amount locktime threshold (length addresses / 20 % 256 ^ 4) (length addresses / 20),
-        ap length (built-written asset amount locktime threshold addresses (whole-addresses (prev w s) e)),
-        length-append (outputHead asset amount locktime threshold (length addresses / 20)) addresses,
-      ))
-      (λ e k. output-bytes asset amount locktime threshold addresses head hh (whole-addresses (prev w s) e)
-      (omega (arith, length-append head addresses, div-le-self (length addresses) 20)))
-      x (hx ∙ ap outputRules hl) r u (h ∙ ap (elementStep w s x) (append-nil (head ++ addresses)))
+  module _ (t : Bool) (ht : t ≡ (isOpen L.Output (dueAt w) && sane w)) (n : not t ≡ false) (long : w .at ≤ length s)
+      (last : List ℕ) (hl : last ≡ prev w s) (x : Verdict) (hx : x ≡ outputRules last) where
+    output-judged : x ≡ outputRules (prev w s)
+    output-judged = hx ∙ ap outputRules hl
+
+    pub output-barred : (d : Refusal) → x ≡ J.Refuse d → (r : Step) → r ≡ refusedStep w d
+        → after r s ≡ addOutput most w s asset amount locktime threshold addresses
+    output-barred d e r h = element-barred w s L.Output t ht n most _ long x output-judged d e r h
+
+    pub output-is : x ≡ J.Fine → (head : List ℕ) → head ≡ outputHead asset amount locktime threshold (length addresses / 20 % 256 ^ 4)
+        → (r : Step) (u : List ℕ) → after r u ≡ elementStep w s ((head ++ addresses) ++ [])
+        → after r u ≡ addOutput most w s asset amount locktime threshold addresses
+    output-is e head hh r u h =
+        let whole : length addresses % 20 ≡ 0 = whole-addresses (prev w s) (sym output-judged ∙ e) in
+        element-is w s L.Output t ht n most (outputGiven asset amount locktime threshold addresses) long x output-judged e (head ++ addresses)
+        (omega (
+          arith,
+          length-append head addresses,
+          ap length hh,
+          head-long asset amount locktime threshold (length addresses / 20 % 256 ^ 4) (length addresses / 20),
+          ap length (built-written asset amount locktime threshold addresses whole),
+          length-append (outputHead asset amount locktime threshold (length addresses / 20)) addresses,
+        ))
+        (λ k. output-bytes asset amount locktime threshold addresses head hh whole
+        (omega (arith, length-append head addresses, div-le-self (length addresses) 20)))
+        r u (h ∙ ap (elementStep w s) (append-nil (head ++ addresses)))
 
 input-head-long : (txid : List ℕ) (index : ℕ) (asset : List ℕ) (amount m n : ℕ)
     → length (inputHead txid index asset amount m) ≡ length (inputHead txid index asset amount n)
@@ -259,42 +331,54 @@ module _ (most : ℕ) (w : Writer) (s : List ℕ) (txid : List ℕ) (index : ℕ
   abbrev inputRules : List ℕ → Verdict
   inputRules last = judged (input last) (inputGiven txid index asset amount indices) J.Fine
 
-  pub input-is : (v : Verdict) → v ≡ enteredIn (isOpen L.Input (dueAt w) && sane w) w (length s) → v ≡ J.Fine
-      → (last : List ℕ) → last ≡ prev w s → (x : Verdict) → x ≡ inputRules last
-      → (head : List ℕ) → head ≡ inputHead txid index asset amount (length indices % 256 ^ 4)
-      → (r : Step) (u : List ℕ) → after r u ≡ elementStep w s x ((head ++ []) ++ numbersBytes indices)
-      → after r u ≡ addInput most w s txid index asset amount indices
-  input-is v p fine last hl x hx head hh r u h =
-      element-is w s L.Input v p fine most (inputGiven txid index asset amount indices) (head ++ numbersBytes indices) (inputRules (prev w s)) refl
-      (λ e.
-      omega (
-        arith,
-        length-append head (numbersBytes indices),
-        ap length hh,
-        input-head-long txid index asset amount (length indices % 256 ^ 4) (length indices),
-        ap length (written-input txid index asset amount indices),
-        length-append (inputHead txid index asset amount (length indices)) (numbersBytes indices),
-      ))
-      (λ e k. sym (input-bytes txid index asset amount indices head hh (omega (arith, length-append head (numbersBytes indices), length-numbers indices))))
-      x (hx ∙ ap inputRules hl) r u (h ∙ ap (λ (z : List ℕ). elementStep w s x (z ++ numbersBytes indices)) (append-nil head))
+  module _ (t : Bool) (ht : t ≡ (isOpen L.Input (dueAt w) && sane w)) (n : not t ≡ false) (long : w .at ≤ length s)
+      (last : List ℕ) (hl : last ≡ prev w s) (x : Verdict) (hx : x ≡ inputRules last) where
+    input-judged : x ≡ inputRules (prev w s)
+    input-judged = hx ∙ ap inputRules hl
+
+    pub input-barred : (d : Refusal) → x ≡ J.Refuse d → (r : Step) → r ≡ refusedStep w d → after r s ≡ addInput most w s txid index asset amount indices
+    input-barred d e r h = element-barred w s L.Input t ht n most _ long x input-judged d e r h
+
+    pub input-is : x ≡ J.Fine → (head : List ℕ) → head ≡ inputHead txid index asset amount (length indices % 256 ^ 4)
+        → (r : Step) (u : List ℕ) → after r u ≡ elementStep w s ((head ++ []) ++ numbersBytes indices)
+        → after r u ≡ addInput most w s txid index asset amount indices
+    input-is e head hh r u h =
+        element-is w s L.Input t ht n most (inputGiven txid index asset amount indices) long x input-judged e (head ++ numbersBytes indices)
+        (omega (
+          arith,
+          length-append head (numbersBytes indices),
+          ap length hh,
+          input-head-long txid index asset amount (length indices % 256 ^ 4) (length indices),
+          ap length (written-input txid index asset amount indices),
+          length-append (inputHead txid index asset amount (length indices)) (numbersBytes indices),
+        ))
+        (λ k. sym (input-bytes txid index asset amount indices head hh (omega (arith, length-append head (numbersBytes indices), length-numbers indices))))
+        r u (h ∙ ap (λ (z : List ℕ). elementStep w s (z ++ numbersBytes indices)) (append-nil head))
 
 -- ---- elements given as bytes
 
-module _ (most : ℕ) (w : Writer) (s b : List ℕ) (v : Verdict) (fine : v ≡ J.Fine) (x : Verdict) (r : Step) (u : List ℕ)
-    (h : after r u ≡ elementStep w s x (b ++ [])) where
-  bytes-are : (l : ListName) → v ≡ enteredIn (isOpen l (dueAt w) && sane w) w (length s)
-      → x ≡ judged (elementsOf l .element (prev w s)) (given b) J.Fine → after r u ≡ putElement (avm most) w s l (given b)
-  bytes-are l p hx =
-      element-is w s l v p fine most (given b) b (judged (elementsOf l .element (prev w s)) (given b) J.Fine) refl
-      (λ e. refl) (λ e k. refl) x hx r u (h ∙ ap (elementStep w s x) (append-nil b))
+module _ (most : ℕ) (w : Writer) (s b : List ℕ) (t : Bool) (n : not t ≡ false) (long : w .at ≤ length s) (x : Verdict) where
+  abbrev IsNext : ListName → Type 0
+  IsNext l = t ≡ (isOpen l (dueAt w) && sane w)
 
-  pub operation-is : v ≡ enteredIn (isOpen L.Operation (dueAt w) && sane w) w (length s) → x ≡ judged operation (given b) J.Fine
-      → after r u ≡ addOperation most w s b
-  operation-is p hx = bytes-are L.Operation p hx
+  module _ (p : IsNext L.Operation) (hx : x ≡ judged operation (given b) J.Fine) where
+    pub operation-barred : (d : Refusal) → x ≡ J.Refuse d → (r : Step) → r ≡ refusedStep w d → after r s ≡ addOperation most w s b
+    operation-barred d e r h = element-barred w s L.Operation t p n most (given b) long x hx d e r h
 
-  pub state-is : v ≡ enteredIn (isOpen L.State (dueAt w) && sane w) w (length s) → (last : List ℕ) → last ≡ prev w s
-      → x ≡ judged (initialState last) (given b) J.Fine → after r u ≡ addInitialState most w s b
-  state-is p last hl hx = bytes-are L.State p (hx ∙ ap (λ (z : List ℕ). judged (initialState z) (given b) J.Fine) hl)
+    pub operation-is : x ≡ J.Fine → (r : Step) (u : List ℕ) → after r u ≡ elementStep w s (b ++ []) → after r u ≡ addOperation most w s b
+    operation-is e r u h =
+        element-is w s L.Operation t p n most (given b) long x hx e b refl (λ k. refl) r u (h ∙ ap (elementStep w s) (append-nil b))
+
+  module _ (p : IsNext L.State) (last : List ℕ) (hl : last ≡ prev w s) (hx : x ≡ judged (initialState last) (given b) J.Fine) where
+    state-judged : x ≡ judged (initialState (prev w s)) (given b) J.Fine
+    state-judged = hx ∙ ap (λ (z : List ℕ). judged (initialState z) (given b) J.Fine) hl
+
+    pub state-barred : (d : Refusal) → x ≡ J.Refuse d → (r : Step) → r ≡ refusedStep w d → after r s ≡ addInitialState most w s b
+    state-barred d e r h = element-barred w s L.State t p n most (given b) long x state-judged d e r h
+
+    pub state-is : x ≡ J.Fine → (r : Step) (u : List ℕ) → after r u ≡ elementStep w s (b ++ []) → after r u ≡ addInitialState most w s b
+    state-is e r u h =
+        element-is w s L.State t p n most (given b) long x state-judged e b refl (λ k. refl) r u (h ∙ ap (elementStep w s) (append-nil b))
 
 -- ---- the finish
 

@@ -1,8 +1,8 @@
 -- A step by the name of a part is the step that the plan has there. Assumes nothing.
-use Prim.Native.Nat.{ℕ, _+_, _≤_}
+use Prim.Native.Nat.{ℕ, _+_, _≤_, _<_}
 use mathlib.Core.Path.{_≡_, refl, sym, ap, _∙_}
-use mathlib.Core.Bool.{Bool, true, false, _&&_, false≢true}
-use mathlib.Core.List.{List}
+use mathlib.Core.Bool.{Bool, true, false, not, _&&_, false≢true}
+use mathlib.Core.List.{List, _++_}
 use native.Mathlib.Omega.{arith}
 use lib.ListN.{length}
 use Rattle.wire.specs.declared.Refusal.{Refusal}
@@ -13,21 +13,22 @@ use Rattle.transaction.specs.declared.FieldName.{FieldName}
 use Rattle.transaction.specs.declared.ListName.{ListName}
 use Rattle.judge.specs.declared.Verdict.{Verdict}
 use Rattle.judge.specs.declared.Verdict.the-variants as J
-use Rattle.judge.specs.Given.{Given, given}
-use Rattle.judge.specs.Judged.{judged}
-use Rattle.judge.proofs.Verdicts.{both-true}
+use Rattle.judge.specs.Given.{Given}
+use Rattle.judge.specs.Judged.{judged, onFine}
+use Rattle.judge.proofs.Verdicts.{both-true, judged-on}
 use Rattle.due.specs.declared.Due.{Due}
 use Rattle.due.specs.declared.Due.the-variants as D
 use Rattle.due.specs.Plans.{tail, due, dueOf, isList, isField, isOpen, Live}
 use Rattle.due.proofs.Rows.{due-next, phase-small}
-use Rattle.buffer.specs.Stores.{roomFor}
+use Rattle.buffer.specs.Stores.{roomFor, countOf}
 use Rattle.buffer.proofs.Stores.{room-inv}
 use Rattle.writer.specs.declared.Writer.{Writer}
 use Rattle.writer.specs.declared.Step.{Step}
 use Rattle.writer.specs.Steps.{answered, prev, sane, grown, appended, putField, putElement}
-use Rattle.writer.specs.Code.{after, refusedStep, dueAt, enteredIn, partStep, opensNext, elementStep}
-use Rattle.writer.proofs.Laws.{guarded-inv}
-use Rattle.writer.proofs.Fitting.{field-barred, field-put, element-barred, element-put}
+use Rattle.writer.specs.Code.{after, refusedStep, notDueStep, noRoomStep, dueAt, partStep, opensNext, elementStep}
+use Rattle.writer.proofs.Laws.{guarded-fine, guarded-short, not-true, not-false}
+use Rattle.writer.proofs.Entering.{kept-out}
+use Rattle.writer.proofs.Fitting.{other-field, fieldVerdict, fieldStep, field-put, other-list, elementVerdict, element-put}
 
 -- ---- the part behind the one that is due
 
@@ -46,69 +47,97 @@ module _ (t : Due → Bool) (none : t D.Nothing ≡ false) where
 
 -- ---- fields
 
--- where the rules refuse, the bytes do not matter
-part-bytes : (w : Writer) (s : List ℕ) (opens : Bool) (rules : Verdict) (ys zs : List ℕ) → (rules ≡ J.Fine → ys ≡ zs)
-    → partStep w s rules ys opens ≡ partStep w s rules zs opens
-unfolding answered
-part-bytes w s opens J.Fine ys zs e = ap (λ (x : List ℕ). partStep w s J.Fine x opens) (e refl)
-part-bytes w s opens (J.Refuse d) ys zs e = refl
-
-module _ (w : Writer) (s : List ℕ) (f : FieldName) (v : Verdict) (hv : v ≡ enteredIn (isField f (dueAt w)) w (length s)) where
-  pub field-not : (most : ℕ) (d : Refusal) → v ≡ J.Refuse d → (r : Step) → r ≡ refusedStep w d → (g : Given) → after r s ≡ putField (avm most) w s f g
+-- t tells whether the field is due
+module _ (w : Writer) (s : List ℕ) (f : FieldName) (t : Bool) (ht : t ≡ isField f (dueAt w)) where
+  pub field-not : not t ≡ true → (r : Step) → r ≡ notDueStep w → (most : ℕ) (g : Given) → after r s ≡ putField (avm most) w s f g
   unfolding putField
-  field-not most d e r h g = field-barred most w s f d r h g (due (w .phase) (planOf (w .kind))) (sym hv ∙ e)
+  field-not n r h most g = other-field most w s f g r h (due (w .phase) (planOf (w .kind))) (sym ht ∙ not-true t n)
 
-  module _ (fine : v ≡ J.Fine) where
+  module _ (n : not t ≡ false) where
     field-due : isField f (dueAt w) ≡ true
-    field-due = guarded-inv (isField f (dueAt w)) w s J.Fine (sym hv ∙ fine) .0
+    field-due = sym ht ∙ not-false t n
 
     pub field-small : w .phase ≤ 8
     field-small = phase-small (w .kind) (w .phase) (isField f) refl field-due
 
-    -- the code has made zs of it
-    pub field-is : (most : ℕ) (ys zs : List ℕ) (rules : Verdict) → judged (contentOf most f) (given ys) J.Fine ≡ rules → (rules ≡ J.Fine → zs ≡ ys)
-        → (x : Verdict) → x ≡ rules → (r : Step) (u : List ℕ) → after r u ≡ partStep w s x zs (opensNext w)
-        → after r u ≡ putField (avm most) w s f (given ys)
-    unfolding putField
-    field-is most ys zs rules j e x hx r u h =
-        h ∙ ap (λ (y : Verdict). partStep w s y zs (opensNext w)) hx ∙ part-bytes w s (opensNext w) rules zs ys e
-        ∙ field-put most w s f ys rules (opensNext w) j (guarded-inv (isField f (dueAt w)) w s J.Fine (sym hv ∙ fine) .1)
-        (due (w .phase) (planOf (w .kind))) field-due (next-opens (isField f) refl w field-due)
+    module _ (most : ℕ) (g : Given) where
+      field-here : fieldStep most w s f g (fieldVerdict most w s f g (opensNext w)) (opensNext w) ≡ putField (avm most) w s f g
+      unfolding putField
+      field-here =
+          field-put most w s f g (due (w .phase) (planOf (w .kind))) field-due (opensNext w) (next-opens (isField f) refl w field-due)
+
+      pub field-short : length s < w .at → (r : Step) → r ≡ noRoomStep w → after r s ≡ putField (avm most) w s f g
+      field-short k r h = kept-out w s _ _ _ _ (guarded-short true w s _ refl k) r h ∙ field-here
+
+      -- x are the field's rules
+      module _ (long : w .at ≤ length s) (x : Verdict) (hx : x ≡ judged (contentOf most f) g J.Fine) where
+        abbrev room : Verdict
+        room = roomFor (w .at + length (g .bytes ++ countOf (opensNext w))) s
+
+        field-judged : (v : Verdict) → x ≡ v → fieldVerdict most w s f g (opensNext w) ≡ onFine v room
+        field-judged v e =
+            guarded-fine true w s _ refl long ∙ judged-on (contentOf most f) g room ∙ ap (λ (y : Verdict). onFine y room) (sym hx ∙ e)
+
+        pub field-barred : (d : Refusal) → x ≡ J.Refuse d → (r : Step) → r ≡ refusedStep w d → after r s ≡ putField (avm most) w s f g
+        field-barred d e r h = kept-out w s _ _ _ d (field-judged (J.Refuse d) e) r h ∙ field-here
+
+        -- the code has made zs of it
+        pub field-is : x ≡ J.Fine → (zs : List ℕ) → zs ≡ g .bytes → (r : Step) (u : List ℕ) → after r u ≡ partStep w s zs (opensNext w)
+            → after r u ≡ putField (avm most) w s f g
+        field-is e zs hz r u h =
+            h ∙ ap (λ (y : List ℕ). partStep w s y (opensNext w)) hz
+            ∙ ap (λ (v : Verdict). fieldStep most w s f g v (opensNext w)) (sym (field-judged J.Fine e)) ∙ field-here
 
 -- ---- elements
 
--- the bytes of an element matter only where its rules hold and it is not longer than a transaction
-element-bytes : (w : Writer) (s ys zs : List ℕ) (rules : Verdict) → (rules ≡ J.Fine → length ys ≡ length zs)
-    → (rules ≡ J.Fine → length ys ≤ mostBytes → ys ≡ zs) → elementStep w s rules ys ≡ elementStep w s rules zs
+-- the bytes of an element matter only where it is not longer than a transaction
+element-bytes : (w : Writer) (s ys zs : List ℕ) → length ys ≡ length zs → (length ys ≤ mostBytes → ys ≡ zs) → elementStep w s ys ≡ elementStep w s zs
 unfolding answered
-element-bytes w s ys zs (J.Refuse d) long e = refl
-element-bytes w s ys zs J.Fine long e = go (roomFor (w .at + length ys) s) refl
+element-bytes w s ys zs long e = go (roomFor (w .at + length ys) s) refl
   where
-    go : (v : Verdict) → roomFor (w .at + length ys) s ≡ v → elementStep w s J.Fine ys ≡ elementStep w s J.Fine zs
-    go J.Fine f = ap (elementStep w s J.Fine) (e refl (omega (arith, room-inv (w .at + length ys) s f .1)))
+    go : (v : Verdict) → roomFor (w .at + length ys) s ≡ v → elementStep w s ys ≡ elementStep w s zs
+    go J.Fine f = ap (elementStep w s) (e (omega (arith, room-inv (w .at + length ys) s f .1)))
     go (J.Refuse d) f =
-        let k : roomFor (w .at + length zs) s ≡ J.Refuse d = ap (λ (i : ℕ). roomFor (w .at + i) s) (sym (long refl)) ∙ f in
+        let k : roomFor (w .at + length zs) s ≡ J.Refuse d = ap (λ (i : ℕ). roomFor (w .at + i) s) (sym long) ∙ f in
         ap (λ (v : Verdict). answered v w s (grown w (length ys)) (appended w s ys)) f
         ∙ ap (λ (v : Verdict). answered v w s (grown w (length zs)) (appended w s zs)) (sym k)
 
-module _ (w : Writer) (s : List ℕ) (l : ListName) (v : Verdict) (hv : v ≡ enteredIn (isOpen l (dueAt w) && sane w) w (length s)) where
-  pub element-not : (most : ℕ) (d : Refusal) → v ≡ J.Refuse d → (r : Step) → r ≡ refusedStep w d → (g : Given) → after r s ≡ putElement (avm most) w s l g
+-- t tells whether the element is due
+module _ (w : Writer) (s : List ℕ) (l : ListName) (t : Bool) (ht : t ≡ (isOpen l (dueAt w) && sane w)) where
+  pub element-not : not t ≡ true → (r : Step) → r ≡ notDueStep w → (most : ℕ) (g : Given) → after r s ≡ putElement (avm most) w s l g
   unfolding putElement
-  element-not most d e r h g = element-barred w s l g d r h (due (w .phase) (planOf (w .kind))) (sym hv ∙ e)
+  element-not n r h most g = other-list w s l g r h (due (w .phase) (planOf (w .kind))) (sym ht ∙ not-true t n)
 
-  module _ (fine : v ≡ J.Fine) where
+  module _ (n : not t ≡ false) where
     element-due : (isOpen l (dueAt w) && sane w) ≡ true
-    element-due = guarded-inv (isOpen l (dueAt w) && sane w) w s J.Fine (sym hv ∙ fine) .0
+    element-due = sym ht ∙ not-false t n
 
     pub element-sane : sane w ≡ true
     element-sane = both-true (isOpen l (dueAt w)) (sane w) element-due .1
 
-    -- the code has made zs of it
-    pub element-is : (most : ℕ) (g : Given) (zs : List ℕ) (rules : Verdict) → judged (elementsOf l .element (prev w s)) g J.Fine ≡ rules
-        → (rules ≡ J.Fine → length zs ≡ length (g .bytes)) → (rules ≡ J.Fine → length zs ≤ mostBytes → zs ≡ g .bytes)
-        → (x : Verdict) → x ≡ rules → (r : Step) (u : List ℕ) → after r u ≡ elementStep w s x zs → after r u ≡ putElement (avm most) w s l g
-    unfolding putElement
-    element-is most g zs rules j long e x hx r u h =
-        h ∙ ap (λ (y : Verdict). elementStep w s y zs) hx ∙ element-bytes w s zs (g .bytes) rules long e
-        ∙ element-put w s l g rules j (guarded-inv (isOpen l (dueAt w) && sane w) w s J.Fine (sym hv ∙ fine) .1)
-        (due (w .phase) (planOf (w .kind))) element-due
+    module _ (most : ℕ) (g : Given) where
+      element-here : answered (elementVerdict w s l g) w s (grown w (length (g .bytes))) (appended w s (g .bytes)) ≡ putElement (avm most) w s l g
+      unfolding putElement
+      element-here = element-put w s l g (due (w .phase) (planOf (w .kind))) element-due
+
+      pub element-short : length s < w .at → (r : Step) → r ≡ noRoomStep w → after r s ≡ putElement (avm most) w s l g
+      element-short k r h = kept-out w s _ _ _ _ (guarded-short true w s _ refl k) r h ∙ element-here
+
+      -- x are the element's rules
+      module _ (long : w .at ≤ length s) (x : Verdict) (hx : x ≡ judged (elementsOf l .element (prev w s)) g J.Fine) where
+        abbrev space : Verdict
+        space = roomFor (w .at + length (g .bytes)) s
+
+        element-judged : (v : Verdict) → x ≡ v → elementVerdict w s l g ≡ onFine v space
+        element-judged v e =
+            guarded-fine true w s _ refl long ∙ judged-on (elementsOf l .element (prev w s)) g space ∙ ap (λ (y : Verdict). onFine y space) (sym hx ∙ e)
+
+        pub element-barred : (d : Refusal) → x ≡ J.Refuse d → (r : Step) → r ≡ refusedStep w d → after r s ≡ putElement (avm most) w s l g
+        element-barred d e r h = kept-out w s _ _ _ d (element-judged (J.Refuse d) e) r h ∙ element-here
+
+        -- the code has made zs of it
+        pub element-is : x ≡ J.Fine → (zs : List ℕ) → length zs ≡ length (g .bytes) → (length zs ≤ mostBytes → zs ≡ g .bytes)
+            → (r : Step) (u : List ℕ) → after r u ≡ elementStep w s zs → after r u ≡ putElement (avm most) w s l g
+        element-is e zs same i r u h =
+            h ∙ element-bytes w s zs (g .bytes) same i
+            ∙ ap (λ (v : Verdict). answered v w s (grown w (length (g .bytes))) (appended w s (g .bytes))) (sym (element-judged J.Fine e)) ∙ element-here

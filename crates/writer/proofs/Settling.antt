@@ -15,10 +15,8 @@ use Rattle.wire.specs.declared.Part.the-variants as P
 use Rattle.transaction.specs.Signed.{mostBytes}
 use Rattle.transaction.specs.Plan.{planOf}
 use Rattle.judge.specs.declared.Verdict.{Verdict}
-use Rattle.judge.specs.declared.Verdict.the-variants as J
-use Rattle.judge.specs.Judged.{onFine}
 use Rattle.judge.specs.Elements.{numbersBytes}
-use Rattle.judge.proofs.Verdicts.{not-fine, both-true}
+use Rattle.judge.proofs.Verdicts.{both-true}
 use Rattle.due.specs.Plans.{due, dueOf, isList}
 use Rattle.buffer.specs.Stores.{roomFor, overwrite, countOf, withNumber, stored}
 use Rattle.buffer.proofs.Stores.{room-inv, length-overwrite, number-put, told-refused, told-next}
@@ -28,10 +26,6 @@ use Rattle.writer.specs.Steps.{answered, sane, grown, appended}
 use Rattle.writer.specs.Code.{after, refusedStep, storedStep, settled, partStep, opensNext, elementStep}
 
 -- ---- what a store answered
-
-pub rest-fine : (v u : Verdict) → onFine v u ≡ J.Fine → u ≡ J.Fine
-rest-fine J.Fine u e = e
-rest-fine (J.Refuse d) u e = not-fine d e
 
 module _ (v : Verdict) (n : ℕ) (w : Writer) (s t : List ℕ) (x : Part) (u : List ℕ) (p : (x, u) ≡ stored v n s t) (w′ : Writer) (r : Step) where
   pub store-refused : (t′ : List ℕ) (e : Refusal) → x ≡ P.Refused e → r ≡ refusedStep w e → after r u ≡ answered v w s w′ t′
@@ -58,18 +52,18 @@ counts-long : (opens : Bool) → length (countOf opens) ≡ 4 * pick opens 1 0
 counts-long true = length-digits 4 0
 counts-long false = refl
 
-module _ (w : Writer) (s : List ℕ) (v : Verdict) (first second : List ℕ) (opens : Bool) (from : Writer) (k : ℕ) (hk : k ≡ pick opens 1 0)
+module _ (w : Writer) (s : List ℕ) (first second : List ℕ) (opens : Bool) (from : Writer) (k : ℕ) (hk : k ≡ pick opens 1 0)
     (x : Part) (u : List ℕ) where
   abbrev fieldOf : List ℕ → Part × List ℕ
   fieldOf c =
-      stored (onFine v (roomFor (from .at + length ((first ++ second) ++ c)) s))
+      stored (roomFor (from .at + length ((first ++ second) ++ c)) s)
       (from .at + length ((first ++ second) ++ c)) s (overwrite s (from .at) ((first ++ second) ++ c))
 
   module _ (p : (x, u) ≡ fieldOf (numbersBytes (take k (0 ∷ [])))) where
     stores : (x, u) ≡ fieldOf (countOf opens)
     stores = p ∙ ap (λ (i : ℕ). fieldOf (numbersBytes (take i (0 ∷ [])))) hk ∙ ap fieldOf (counts-bytes opens)
 
-    pub settle-refused : (e : Refusal) → x ≡ P.Refused e → (r : Step) → r ≡ refusedStep w e → after r u ≡ settled w s v (first ++ second) opens from
+    pub settle-refused : (e : Refusal) → x ≡ P.Refused e → (r : Step) → r ≡ refusedStep w e → after r u ≡ settled w s (first ++ second) opens from
     settle-refused e q r h = store-refused _ _ w s _ x u stores _ r _ e q h
 
     -- the count is behind the field, and four bytes long
@@ -80,7 +74,7 @@ module _ (w : Writer) (s : List ℕ) (v : Verdict) (first second : List ℕ) (op
 
     pub settle-done : (m : ℕ) → x ≡ P.Next m → (r : Step)
         → r ≡ storedStep record { kind = from .kind; phase = from .phase; at = m; list = m - 4 * k; count = 0; last = 0 }
-        → after r u ≡ settled w s v (first ++ second) opens from
+        → after r u ≡ settled w s (first ++ second) opens from
     settle-done m q r h =
         let n : ℕ = from .at + length ((first ++ second) ++ countOf opens) in
         let long : length ((first ++ second) ++ countOf opens) ≡ length (first ++ second) + length (countOf opens) =
@@ -90,13 +84,13 @@ module _ (w : Writer) (s : List ℕ) (v : Verdict) (first second : List ℕ) (op
         store-done _ _ w s _ x u stores _ r (λ (a : ℕ). record { kind = from .kind; phase = from .phase; at = a; list = a - 4 * k; count = 0; last = 0 }) m q h
         (ap₂ (λ (a b : ℕ). record { kind = from .kind; phase = from .phase; at = a; list = b; count = 0; last = 0 }) i j)
 
-pub part-settled : (w : Writer) (s : List ℕ) (v : Verdict) (ys : List ℕ) (opens : Bool) → opens ≡ isList (dueOf (due (w .phase + 1) (planOf (w .kind))))
+pub part-settled : (w : Writer) (s : List ℕ) (ys : List ℕ) (opens : Bool) → opens ≡ isList (dueOf (due (w .phase + 1) (planOf (w .kind))))
     → (r : Step) (u : List ℕ)
-    → after r u ≡ settled w s v ys opens record { kind = w .kind; phase = w .phase + 1; at = w .at; list = 0; count = 0; last = 0 }
-    → after r u ≡ partStep w s v ys (opensNext w)
-part-settled w s v ys opens o r u h =
-    h ∙ ap (λ (b : Bool). settled w s v ys b (from (w .phase + 1))) o
-    ∙ ap (λ (i : ℕ). settled w s v ys (isList (dueOf (due i (planOf (w .kind))))) (from i)) (add-one (w .phase))
+    → after r u ≡ settled w s ys opens record { kind = w .kind; phase = w .phase + 1; at = w .at; list = 0; count = 0; last = 0 }
+    → after r u ≡ partStep w s ys (opensNext w)
+part-settled w s ys opens o r u h =
+    h ∙ ap (λ (b : Bool). settled w s ys b (from (w .phase + 1))) o
+    ∙ ap (λ (i : ℕ). settled w s ys (isList (dueOf (due i (planOf (w .kind))))) (from i)) (add-one (w .phase))
   where
     from : ℕ → Writer
     from i = record { kind = w .kind; phase = i; at = w .at; list = 0; count = 0; last = 0 }
@@ -110,19 +104,19 @@ sane-inv w e =
     let (_, c) = both-true (leb (w .last) (w .at)) (ltb (w .count) mostBytes) b in
     (leb-true (w .list + 4) (w .at) a, ltb-true (w .count) mostBytes c)
 
-module _ (w : Writer) (s : List ℕ) (v : Verdict) (ys : List ℕ) (x : Part) (u : List ℕ)
-    (p : (x, u) ≡ stored (onFine v (roomFor (w .at + length ys) s)) (w .at + length ys) s (overwrite s (w .at) ys)) where
-  pub element-refused : (e : Refusal) → x ≡ P.Refused e → (r : Step) → r ≡ refusedStep w e → after r u ≡ elementStep w s v ys
+module _ (w : Writer) (s ys : List ℕ) (x : Part) (u : List ℕ)
+    (p : (x, u) ≡ stored (roomFor (w .at + length ys) s) (w .at + length ys) s (overwrite s (w .at) ys)) where
+  pub element-refused : (e : Refusal) → x ≡ P.Refused e → (r : Step) → r ≡ refusedStep w e → after r u ≡ elementStep w s ys
   element-refused e q r h = store-refused _ _ w s _ x u p _ r _ e q h
 
   pub element-done : sane w ≡ true → (m : ℕ) → x ≡ P.Next m → (z : List ℕ) → z ≡ withNumber u (w .list) (w .count + 1) → (r : Step)
       → r ≡ storedStep record { kind = w .kind; phase = w .phase; at = m; list = w .list; count = w .count + 1; last = w .at }
-      → after r z ≡ elementStep w s v ys
+      → after r z ≡ elementStep w s ys
   unfolding answered grown appended
   element-done t m q z hz r h =
       let (a, b) = sane-inv w t in
-      let (i, k, j) = told-next (w .at + length ys) s (overwrite s (w .at) ys) x u (onFine v (roomFor (w .at + length ys) s)) p m q in
-      let (f, _) = room-inv (w .at + length ys) s (rest-fine v (roomFor (w .at + length ys) s) i) in
+      let (i, k, j) = told-next (w .at + length ys) s (overwrite s (w .at) ys) x u (roomFor (w .at + length ys) s) p m q in
+      let (f, _) = room-inv (w .at + length ys) s i in
       let l : length u ≡ length s = ap length j ∙ length-overwrite s ys (w .at) f in
       rw i (ap₂ after (h ∙ ap (λ (n : ℕ). storedStep record { kind = w .kind; phase = w .phase; at = n; list = w .list; count = w .count + 1; last = w .at }) k)
       (hz ∙ number-put u (w .list) (w .count + 1) (omega arith) (omega arith) ∙ ap (λ (y : List ℕ). overwrite y (w .list) (digits 4 (w .count + 1))) j))

@@ -4,17 +4,14 @@ use mathlib.Core.Bool.{Bool}
 use mathlib.Core.List.{List, _++_}
 use lib.ListN.{length}
 use Rattle.wire.specs.declared.Refusal.{Refusal}
-use Rattle.wire.specs.Numbers.{refusal, stepNotDue}
+use Rattle.wire.specs.Numbers.{refusal, noRoom, stepNotDue}
 use Rattle.transaction.specs.Plan.{planOf}
-use Rattle.judge.specs.declared.Verdict.{Verdict}
-use Rattle.judge.specs.declared.Verdict.the-variants as J
-use Rattle.judge.specs.Judged.{onFine}
 use Rattle.due.specs.declared.Due.{Due}
 use Rattle.due.specs.Plans.{due, dueOf, isList}
 use Rattle.writer.specs.declared.Writer.{Writer}
 use Rattle.writer.specs.declared.Step.{Step}
 use Rattle.writer.specs.declared.Written.the-variants as W
-use Rattle.writer.specs.Steps.{Turn, answered, guardedIn, grown, appended}
+use Rattle.writer.specs.Steps.{Turn, answered, grown, appended}
 use Rattle.buffer.specs.Stores.{roomFor, overwrite, countOf}
 
 -- what code answers, and what the buffer holds then
@@ -27,35 +24,32 @@ refusedStep w e = record { next = w; answer = W.Refused e }
 abbrev pub notDueStep : Writer → Step
 notDueStep w = refusedStep w (refusal stepNotDue 0)
 
+abbrev pub noRoomStep : Writer → Step
+noRoomStep w = refusedStep w (refusal noRoom 0)
+
 abbrev pub storedStep : Writer → Step
 storedStep w = record { next = w; answer = W.Done (w .at) }
-
--- ---- before the rules of a step are judged
 
 abbrev pub dueAt : Writer → Due
 dueAt w = dueOf (due (w .phase) (planOf (w .kind)))
 
--- what bars a step, whatever its rules say
-abbrev pub enteredIn : Bool → Writer → ℕ → Verdict
-enteredIn isDue w length = guardedIn isDue w length J.Fine
-
--- ---- once they are judged
+-- ---- once the rules of a step are judged
 
 -- the bytes ys where `from` has its start, and the next list's count behind them
-abbrev pub settled : Writer → List ℕ → Verdict → List ℕ → Bool → Writer → Turn
-settled w s v ys opens from =
-    answered (onFine v (roomFor (from .at + length (ys ++ countOf opens)) s)) w s
+abbrev pub settled : Writer → List ℕ → List ℕ → Bool → Writer → Turn
+settled w s ys opens from =
+    answered (roomFor (from .at + length (ys ++ countOf opens)) s) w s
     record { kind = from .kind; phase = from .phase; at = from .at + length ys + length (countOf opens); list = from .at + length ys; count = 0; last = 0 }
     (overwrite s (from .at) (ys ++ countOf opens))
 
 -- the bytes ys of the part that is due
-abbrev pub partStep : Writer → List ℕ → Verdict → List ℕ → Bool → Turn
-partStep w s v ys opens = settled w s v ys opens record { kind = w .kind; phase = suc (w .phase); at = w .at; list = 0; count = 0; last = 0 }
+abbrev pub partStep : Writer → List ℕ → List ℕ → Bool → Turn
+partStep w s ys opens = settled w s ys opens record { kind = w .kind; phase = suc (w .phase); at = w .at; list = 0; count = 0; last = 0 }
 
 -- is a list next behind that part?
 abbrev pub opensNext : Writer → Bool
 opensNext w = isList (dueOf (due (suc (w .phase)) (planOf (w .kind))))
 
 -- an element of the bytes ys
-abbrev pub elementStep : Writer → List ℕ → Verdict → List ℕ → Turn
-elementStep w s v ys = answered (onFine v (roomFor (w .at + length ys) s)) w s (grown w (length ys)) (appended w s ys)
+abbrev pub elementStep : Writer → List ℕ → List ℕ → Turn
+elementStep w s ys = answered (roomFor (w .at + length ys) s) w s (grown w (length ys)) (appended w s ys)

@@ -42,6 +42,8 @@ pub struct Step {
     pub answer: Written,
 }
 
+// Each step asks what could refuse it in the same order: whether it is due, whether the buffer has the bytes written so far, and its rules; whether
+// there is room is asked last, by the store.
 impl Writer {
     // A writer that has written nothing: the state that `start` needs.
     pub fn fresh() -> Writer
@@ -61,10 +63,15 @@ impl Writer {
     pub fn start(self, buf: &mut [u8], kind: u32, network: u32, chain: [u8; 32]) -> Step
         ensures { λ r. ⌜ after r (now (buf .exit)) ≡ start (avm memoMost) self (now (buf .entry)) kind network chain ⌝ }
     {
-        if let Verdict::Refuse(refusal) = steps::entered(self, buf.len(), self.phase == 0) {
+        if self.phase != 0 {
+            return steps::not_due(self);
+        }
+        if buf.len() < self.at {
+            return steps::no_room(self);
+        }
+        if let Verdict::Refuse(refusal) = texts::kind_rules(kind) {
             return steps::refused(self, refusal);
         }
-        let rules = texts::kind_rules(kind);
         let mut front = [0u8; 10];
         wire::put_number(&mut front, kind as u64 * 4294967296 + network as u64);
         let from = Writer {
@@ -75,7 +82,7 @@ impl Writer {
             count: 0,
             last: 0,
         };
-        steps::settle(self, buf, rules, &front, &chain, true, from)
+        steps::settle(self, buf, &front, &chain, true, from)
     }
 
     // Closes the open list, and opens the next where one follows.
@@ -87,13 +94,15 @@ impl Writer {
             Due::End => steps::not_due(self),
             Due::Field(_) => steps::not_due(self),
             Due::List(_, least) => {
-                if let Verdict::Refuse(refusal) = steps::entered(self, buf.len(), true) {
+                if buf.len() < self.at {
+                    return steps::no_room(self);
+                }
+                if let Verdict::Refuse(refusal) = texts::list_rules(self.count, least) {
                     return steps::refused(self, refusal);
                 }
-                let rules = texts::list_rules(self.count, least);
                 let none = [0u8; 1];
                 let nothing = [0u8; 1];
-                steps::put_part(self, buf, rules, &none[..0], &nothing[..0])
+                steps::put_part(self, buf, &none[..0], &nothing[..0])
             }
         }
     }
@@ -101,65 +110,84 @@ impl Writer {
     pub fn memo(self, buf: &mut [u8], bytes: &[u8]) -> Step
         ensures { λ r. ⌜ after r (now (buf .exit)) ≡ putMemo memoMost self (now (buf .entry)) (now (bytes .entry)) ⌝ }
     {
-        if let Verdict::Refuse(refusal) = steps::due_field(self, buf.len(), FieldName::Memo) {
+        if !questions::field_at(self.kind, self.phase, FieldName::Memo) {
+            return steps::not_due(self);
+        }
+        if buf.len() < self.at {
+            return steps::no_room(self);
+        }
+        if let Verdict::Refuse(refusal) = texts::memo_rules(bytes.len(), transaction::MEMO_MOST) {
             return steps::refused(self, refusal);
         }
-        let rules = texts::memo_rules(bytes.len(), transaction::MEMO_MOST);
         let mut count = [0u8; 4];
         wire::put_number(&mut count, bytes.len() as u64);
-        steps::put_part(self, buf, rules, &count, bytes)
+        steps::put_part(self, buf, &count, bytes)
     }
 
     pub fn name(self, buf: &mut [u8], bytes: &[u8]) -> Step
         ensures { λ r. ⌜ after r (now (buf .exit)) ≡ putName memoMost self (now (buf .entry)) (now (bytes .entry)) ⌝ }
     {
-        if let Verdict::Refuse(refusal) = steps::due_field(self, buf.len(), FieldName::Name) {
+        if !questions::field_at(self.kind, self.phase, FieldName::Name) {
+            return steps::not_due(self);
+        }
+        if buf.len() < self.at {
+            return steps::no_room(self);
+        }
+        if let Verdict::Refuse(refusal) = texts::text_rules(bytes, string::NAME_MOST as usize) {
             return steps::refused(self, refusal);
         }
-        let rules = texts::text_rules(bytes, string::NAME_MOST as usize);
         let mut count = [0u8; 2];
         wire::put_number(&mut count, bytes.len() as u64);
-        steps::put_part(self, buf, rules, &count, bytes)
+        steps::put_part(self, buf, &count, bytes)
     }
 
     pub fn symbol(self, buf: &mut [u8], bytes: &[u8]) -> Step
         ensures { λ r. ⌜ after r (now (buf .exit)) ≡ putSymbol memoMost self (now (buf .entry)) (now (bytes .entry)) ⌝ }
     {
-        if let Verdict::Refuse(refusal) = steps::due_field(self, buf.len(), FieldName::Symbol) {
+        if !questions::field_at(self.kind, self.phase, FieldName::Symbol) {
+            return steps::not_due(self);
+        }
+        if buf.len() < self.at {
+            return steps::no_room(self);
+        }
+        if let Verdict::Refuse(refusal) = texts::text_rules(bytes, string::SYMBOL_MOST as usize) {
             return steps::refused(self, refusal);
         }
-        let rules = texts::text_rules(bytes, string::SYMBOL_MOST as usize);
         let mut count = [0u8; 2];
         wire::put_number(&mut count, bytes.len() as u64);
-        steps::put_part(self, buf, rules, &count, bytes)
+        steps::put_part(self, buf, &count, bytes)
     }
 
     pub fn denomination(self, buf: &mut [u8], value: u8) -> Step
         ensures { λ r. ⌜ after r (now (buf .exit)) ≡ putDenomination memoMost self (now (buf .entry)) value ⌝ }
     {
-        if let Verdict::Refuse(refusal) = steps::due_field(
-            self,
-            buf.len(),
-            FieldName::Denomination,
-        ) {
+        if !questions::field_at(self.kind, self.phase, FieldName::Denomination) {
+            return steps::not_due(self);
+        }
+        if buf.len() < self.at {
+            return steps::no_room(self);
+        }
+        if let Verdict::Refuse(refusal) = texts::denomination_rules(value) {
             return steps::refused(self, refusal);
         }
-        let rules = texts::denomination_rules(value);
         let mut byte = [0u8; 1];
         wire::put_number(&mut byte, value as u64);
         let none = [0u8; 1];
-        steps::put_part(self, buf, rules, &byte, &none[..0])
+        steps::put_part(self, buf, &byte, &none[..0])
     }
 
     // The source of an import, or the destination of an export.
     pub fn chain(self, buf: &mut [u8], id: [u8; 32]) -> Step
         ensures { λ r. ⌜ after r (now (buf .exit)) ≡ putChain memoMost self (now (buf .entry)) id ⌝ }
     {
-        if let Verdict::Refuse(refusal) = steps::due_field(self, buf.len(), FieldName::Chain) {
-            return steps::refused(self, refusal);
+        if !questions::field_at(self.kind, self.phase, FieldName::Chain) {
+            return steps::not_due(self);
+        }
+        if buf.len() < self.at {
+            return steps::no_room(self);
         }
         let none = [0u8; 1];
-        steps::put_part(self, buf, Verdict::Fine, &none[..0], &id)
+        steps::put_part(self, buf, &none[..0], &id)
     }
 
     // A transferable output; its addresses stand one behind the other.
@@ -174,15 +202,28 @@ impl Writer {
     ) -> Step
         ensures { λ r. ⌜ after r (now (buf .exit)) ≡ addOutput memoMost self (now (buf .entry)) asset amount locktime threshold (now (addresses .entry)) ⌝ }
     {
-        if let Verdict::Refuse(refusal) = steps::due_element(self, buf.len(), ListName::Output) {
-            return steps::refused(self, refusal);
+        if !steps::is_element_due(self, ListName::Output) {
+            return steps::not_due(self);
+        }
+        if buf.len() < self.at {
+            return steps::no_room(self);
         }
         let last = steps::last_of(self, &buf[..]);
-        let rules = rules::output_rules(last, asset, amount, locktime, threshold, addresses);
-        let count = (addresses.len() / 20) as u64;
-        let head = rules::output_head(asset, amount, locktime, threshold, count);
+        let mut head = [0u8; 60];
+        let rules = rules::output_rules(
+            last,
+            asset,
+            amount,
+            locktime,
+            threshold,
+            addresses,
+            &mut head,
+        );
+        if let Verdict::Refuse(refusal) = rules {
+            return steps::refused(self, refusal);
+        }
         let none = [0u32; 1];
-        steps::put_element(self, buf, rules, &head, addresses, &none[..0])
+        steps::put_element(self, buf, &head, addresses, &none[..0])
     }
 
     // A transferable input, base or imported.
@@ -197,39 +238,55 @@ impl Writer {
     ) -> Step
         ensures { λ r. ⌜ after r (now (buf .exit)) ≡ addInput memoMost self (now (buf .entry)) txid index asset amount (now (indices .entry)) ⌝ }
     {
-        if let Verdict::Refuse(refusal) = steps::due_element(self, buf.len(), ListName::Input) {
-            return steps::refused(self, refusal);
+        if !steps::is_element_due(self, ListName::Input) {
+            return steps::not_due(self);
+        }
+        if buf.len() < self.at {
+            return steps::no_room(self);
         }
         let last = steps::last_of(self, &buf[..]);
-        let rules = rules::input_rules(last, txid, index, asset, amount, indices);
-        let head = rules::input_head(txid, index, asset, amount, indices.len() as u64);
+        let mut head = [0u8; 84];
+        let rules = rules::input_rules(last, txid, index, asset, amount, indices, &mut head);
+        if let Verdict::Refuse(refusal) = rules {
+            return steps::refused(self, refusal);
+        }
         let none = [0u8; 1];
-        steps::put_element(self, buf, rules, &head, &none[..0], indices)
+        steps::put_element(self, buf, &head, &none[..0], indices)
     }
 
     // An operation as its own bytes.
     pub fn add_operation(self, buf: &mut [u8], bytes: &[u8]) -> Step
         ensures { λ r. ⌜ after r (now (buf .exit)) ≡ addOperation memoMost self (now (buf .entry)) (now (bytes .entry)) ⌝ }
     {
-        if let Verdict::Refuse(refusal) = steps::due_element(self, buf.len(), ListName::Operation) {
+        if !steps::is_element_due(self, ListName::Operation) {
+            return steps::not_due(self);
+        }
+        if buf.len() < self.at {
+            return steps::no_room(self);
+        }
+        if let Verdict::Refuse(refusal) = elements::operation_rules(bytes) {
             return steps::refused(self, refusal);
         }
-        let rules = elements::operation_rules(bytes);
         let none = [0u32; 1];
-        steps::put_element(self, buf, rules, &bytes[..0], bytes, &none[..0])
+        steps::put_element(self, buf, &bytes[..0], bytes, &none[..0])
     }
 
     // An initial state as its own bytes.
     pub fn add_initial_state(self, buf: &mut [u8], bytes: &[u8]) -> Step
         ensures { λ r. ⌜ after r (now (buf .exit)) ≡ addInitialState memoMost self (now (buf .entry)) (now (bytes .entry)) ⌝ }
     {
-        if let Verdict::Refuse(refusal) = steps::due_element(self, buf.len(), ListName::State) {
-            return steps::refused(self, refusal);
+        if !steps::is_element_due(self, ListName::State) {
+            return steps::not_due(self);
+        }
+        if buf.len() < self.at {
+            return steps::no_room(self);
         }
         let last = steps::last_of(self, &buf[..]);
-        let rules = elements::state_rules(last, bytes);
+        if let Verdict::Refuse(refusal) = elements::state_rules(last, bytes) {
+            return steps::refused(self, refusal);
+        }
         let none = [0u32; 1];
-        steps::put_element(self, buf, rules, &bytes[..0], bytes, &none[..0])
+        steps::put_element(self, buf, &bytes[..0], bytes, &none[..0])
     }
 
     // Writes the blank credentials: every signature is zero bytes.

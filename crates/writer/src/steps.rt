@@ -1,19 +1,17 @@
-// What the methods share: whether a step is due, and, once its rules are judged, the store and the state that follows.
+// What the methods share: whether an element is due, and, once its rules are judged, the store and the state that follows.
 ghost use Prim.Native.Nat.{_≤_};
 ghost use mathlib.Core.Path.{_≡_};
 ghost use mathlib.Core.Bool.{true, _&&_};
 ghost use mathlib.Core.List.{_++_};
 ghost use Rattle.wire.specs.Bytes.{pick};
-ghost use Rattle.due.specs.Plans.{isField, isOpen};
+ghost use Rattle.due.specs.Plans.{isOpen};
 ghost use Rattle.judge.specs.Elements.{numbersBytes};
 ghost use Rattle.writer.specs.Steps.{prev, sane};
-ghost use Rattle.writer.specs.Code.{after, refusedStep, notDueStep, storedStep, dueAt, enteredIn, settled, partStep, opensNext, elementStep};
+ghost use Rattle.writer.specs.Code.{after, refusedStep, notDueStep, noRoomStep, storedStep, dueAt, settled, partStep, opensNext, elementStep};
 use crate::Step;
 use crate::Writer;
 use crate::Written;
 use due::questions;
-use judge::Verdict;
-use transaction::FieldName;
 use transaction::ListName;
 use wire::Part;
 use wire::Refusal;
@@ -33,6 +31,13 @@ pub fn not_due(w: Writer) -> Step
     ensures { λ r. ⌜ r ≡ notDueStep w ⌝ }
 {
     refused(w, wire::refuse(Rule::StepNotDue, 0))
+}
+
+// The buffer is shorter than the bytes written.
+pub fn no_room(w: Writer) -> Step
+    ensures { λ r. ⌜ r ≡ noRoomStep w ⌝ }
+{
+    refused(w, wire::refuse(Rule::NoRoom, 0))
 }
 
 pub fn stored(w: Writer) -> Step
@@ -71,34 +76,14 @@ pub fn last_of(w: Writer, buf: &[u8]) -> &[u8]
     wire::between(buf, w.last, w.at)
 }
 
-// What bars a step before its rules are looked at: 16 where it is not due, then 14 where the buffer is shorter than the bytes written.
-pub fn entered(w: Writer, limit: usize, is_due: bool) -> Verdict
-    ensures { λ r. ⌜ r ≡ enteredIn «is_due» w limit ⌝ }
-{
-    if is_due {
-        if limit < w.at {
-            return judge::bar(Rule::NoRoom);
-        }
-        return Verdict::Fine;
-    }
-    judge::bar(Rule::StepNotDue)
-}
-
-// What bars the field of this name, before its rules.
-pub fn due_field(w: Writer, limit: usize, field: FieldName) -> Verdict
-    ensures { λ r. ⌜ r ≡ enteredIn (isField field (dueAt w)) w limit ⌝ }
-{
-    entered(w, limit, questions::field_at(w.kind, w.phase, field))
-}
-
-// What bars an element of the list of this name, before its rules.
-pub fn due_element(w: Writer, limit: usize, list: ListName) -> Verdict
-    ensures { λ r. ⌜ r ≡ enteredIn (isOpen list (dueAt w) && sane w) w limit ⌝ }
+// Is an element of the list of this name due, in a state that holds together?
+pub fn is_element_due(w: Writer, list: ListName) -> bool
+    ensures { λ r. ⌜ r ≡ isOpen list (dueAt w) && sane w ⌝ }
 {
     if questions::open_at(w.kind, w.phase, list) {
-        return entered(w, limit, is_sane(w));
+        return is_sane(w);
     }
-    judge::bar(Rule::StepNotDue)
+    false
 }
 
 // How many counts stand behind a field: one where a list is next.
@@ -115,17 +100,16 @@ fn counts_of(opens: bool) -> usize
 pub fn settle(
     w: Writer,
     buf: &mut [u8],
-    rules: Verdict,
     first: &[u8],
     second: &[u8],
     opens: bool,
     from: Writer,
 ) -> Step
-    ensures { λ r. ⌜ after r (now (buf .exit)) ≡ settled w (now (buf .entry)) rules (now (first .entry) ++ now (second .entry)) opens from ⌝ }
+    ensures { λ r. ⌜ after r (now (buf .exit)) ≡ settled w (now (buf .entry)) (now (first .entry) ++ now (second .entry)) opens from ⌝ }
 {
     let zero = [0u32; 1];
     let counts = counts_of(opens);
-    match buffer::put(buf, from.at, rules, first, second, &zero[..counts]) {
+    match buffer::put(buf, from.at, first, second, &zero[..counts]) {
         Part::Refused(refusal) => refused(w, refusal),
         Part::Next(end) => stored(Writer {
             kind: from.kind,
@@ -139,15 +123,9 @@ pub fn settle(
 }
 
 // The bytes of the part that is due, and the next list's count behind them: a field, or nothing where a list is closed.
-pub(crate) fn put_part(
-    w: Writer,
-    buf: &mut [u8],
-    rules: Verdict,
-    first: &[u8],
-    second: &[u8],
-) -> Step
+pub(crate) fn put_part(w: Writer, buf: &mut [u8], first: &[u8], second: &[u8]) -> Step
     requires { ⌜ w .phase ≤ 8 ⌝ }
-    ensures { λ r. ⌜ after r (now (buf .exit)) ≡ partStep w (now (buf .entry)) rules (now (first .entry) ++ now (second .entry)) (opensNext w) ⌝ }
+    ensures { λ r. ⌜ after r (now (buf .exit)) ≡ partStep w (now (buf .entry)) (now (first .entry) ++ now (second .entry)) (opensNext w) ⌝ }
 {
     let phase = w.phase + 1;
     let opens = questions::list_at(w.kind, phase);
@@ -159,22 +137,21 @@ pub(crate) fn put_part(
         count: 0,
         last: 0,
     };
-    settle(w, buf, rules, first, second, opens, from)
+    settle(w, buf, first, second, opens, from)
 }
 
 // An element behind the others of the open list, and the list's new count in its place.
 pub(crate) fn put_element(
     w: Writer,
     buf: &mut [u8],
-    rules: Verdict,
     first: &[u8],
     second: &[u8],
     numbers: &[u32],
 ) -> Step
     requires { ⌜ sane w ≡ true ⌝ }
-    ensures { λ r. ⌜ after r (now (buf .exit)) ≡ elementStep w (now (buf .entry)) rules ((now (first .entry) ++ now (second .entry)) ++ numbersBytes (now (numbers .entry))) ⌝ }
+    ensures { λ r. ⌜ after r (now (buf .exit)) ≡ elementStep w (now (buf .entry)) ((now (first .entry) ++ now (second .entry)) ++ numbersBytes (now (numbers .entry))) ⌝ }
 {
-    match buffer::put(buf, w.at, rules, first, second, numbers) {
+    match buffer::put(buf, w.at, first, second, numbers) {
         Part::Refused(refusal) => refused(w, refusal),
         Part::Next(end) => {
             let count = w.count + 1;

@@ -10,7 +10,6 @@ input-rules-spec =
     (tie.spec
     (λ c κs. search needs)  -- input-head-requires
     (λ c κs. search needs)  -- between-requires
-    (λ c. search needs)  -- slice-aggregate-between
     (λ c κs. search needs)  -- between-requires-2
     (λ c κs. search needs)  -- is-below-requires
     (λ c κs. search needs)  -- bar-requires

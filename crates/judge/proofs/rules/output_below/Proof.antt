@@ -9,11 +9,9 @@ output-below-spec =
     tie.close
     (tie.spec
     (λ c κs. search needs)  -- output-head-requires
-    (λ c. search needs)  -- slice-aggregate-between
     (λ c κs. search needs)  -- between-requires
     (λ c κs. search needs)  -- between-requires-2
     (λ c κs. search needs)  -- is-below-requires
     (λ c. search output-many)  -- returns
-    (λ c. search needs)  -- slice-aggregate-pieces-below
     (λ c κs. search needs)  -- pieces-below-requires
     (λ c. search output-few))  -- returns-2

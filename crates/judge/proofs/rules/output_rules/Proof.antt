@@ -8,6 +8,7 @@ pub output-rules-spec : {M : Type 1} → statement M
 output-rules-spec =
     tie.close
     (tie.spec
+    (λ c κs. search needs)  -- output-below-requires
     (λ c κs. search needs)  -- bar-requires
     (λ c. search of-output depth 12)  -- returns
     (λ c κs. search needs)  -- bar-requires-2
@@ -18,7 +19,6 @@ output-rules-spec =
     (λ c κs. search needs)  -- addresses-rise-requires
     (λ c κs. search needs)  -- bar-requires-4
     (λ c. search of-output depth 12)  -- returns-4
-    (λ c κs. search needs)  -- output-below-requires
     (λ c κs. search needs)  -- bar-requires-5
     (λ c. search of-output depth 12)  -- returns-5
     (λ c. search of-output depth 12))  -- returns-6

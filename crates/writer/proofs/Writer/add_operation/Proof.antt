@@ -1,8 +1,8 @@
 -- `writer::Writer::add_operation` meets its contract. Assumes nothing.
 use borrow.Author.Needs.{needs}
 use Rattle.judge.specs.Elements.{numbersBytes}
-use Rattle.writer.proofs.Naming.{element-not, element-sane}
-use Rattle.writer.proofs.Methods.{operation-is}
+use Rattle.writer.proofs.Naming.{element-not, element-sane, element-short}
+use Rattle.writer.proofs.Methods.{operation-barred, operation-is}
 use Rattle.writer.proofs.Writer.add_operation.Statement.{statement}
 use Rattle.writer.proofs.Writer.add_operation.Tie as tie
 
@@ -11,15 +11,19 @@ unfolding numbersBytes
 add-operation-spec =
     tie.close
     (tie.spec
-    (λ c κs. search needs)  -- due-element-requires
+    (λ c κs. search needs)  -- is-element-due-requires
+    (λ c κs. search needs)  -- not-due-requires
+    (λ c. search element-not)  -- returns
+    (λ c κs. search needs)  -- no-room-requires
+    (λ c. search element-short)  -- returns-2
+    (λ c κs. search needs)  -- operation-rules-requires
     (λ c. search needs)  -- enum-known-refusal
     (λ c κs. search needs)  -- refused-requires
-    (λ c. search element-not)  -- returns
+    (λ c. search operation-barred)  -- returns-3
     (λ c. search needs)  -- enum-told
-    (λ c κs. search needs)  -- operation-rules-requires
     (λ c. search needs)  -- slice-aggregate-put-element
     (λ c. search needs)  -- array-share-prefix-none
     (λ c. search needs)  -- slice-aggregate-put-element-2
     (λ c κs. search element-sane)  -- put-element-requires
     (λ c. search needs)  -- same-length
-    (λ c. search operation-is))  -- returns-2
+    (λ c. search operation-is))  -- returns-4

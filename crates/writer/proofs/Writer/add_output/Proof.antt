@@ -1,8 +1,8 @@
 -- `writer::Writer::add_output` meets its contract. Assumes nothing.
 use borrow.Author.Needs.{needs}
 use Rattle.judge.specs.Elements.{numbersBytes}
-use Rattle.writer.proofs.Naming.{element-not, element-sane}
-use Rattle.writer.proofs.Methods.{output-is}
+use Rattle.writer.proofs.Naming.{element-not, element-sane, element-short}
+use Rattle.writer.proofs.Methods.{output-head-wide, output-barred, output-is}
 use Rattle.writer.proofs.Writer.add_output.Statement.{statement}
 use Rattle.writer.proofs.Writer.add_output.Tie as tie
 
@@ -11,17 +11,22 @@ unfolding numbersBytes
 add-output-spec =
     tie.close
     (tie.spec
-    (λ c κs. search needs)  -- due-element-requires
-    (λ c. search needs)  -- enum-known-refusal
-    (λ c κs. search needs)  -- refused-requires
+    (λ c κs. search needs)  -- is-element-due-requires
+    (λ c κs. search needs)  -- not-due-requires
     (λ c. search element-not)  -- returns
-    (λ c. search needs)  -- enum-told
+    (λ c κs. search needs)  -- no-room-requires
+    (λ c. search element-short)  -- returns-2
     (λ c κs. search needs)  -- last-of-requires
     (λ c κs. search needs)  -- output-rules-requires
-    (λ c κs. search needs)  -- output-head-requires
-    (λ c. search needs)  -- slice-aggregate-put-element
+    (λ c. search needs)  -- enum-known-rules
+    (λ c κs. search needs)  -- refused-requires
+    (λ c. search needs)  -- same-length
+    (λ c. search output-barred)  -- returns-3
+    (λ c. search needs)  -- enum-told
+    (λ c. let start = c .before .before .before .before .before .before .before .before .before .before .before .before .before .before in
+    search (needs, output-head-wide, start .good))  -- slice-aggregate-put-element
     (λ c. search needs)  -- array-share-prefix-none
     (λ c. search needs)  -- slice-aggregate-put-element-2
     (λ c κs. search element-sane)  -- put-element-requires
-    (λ c. search needs)  -- same-length
-    (λ c. search output-is))  -- returns-2
+    (λ c. search needs)  -- same-length-2
+    (λ c. search output-is))  -- returns-4

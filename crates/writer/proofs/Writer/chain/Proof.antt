@@ -1,6 +1,6 @@
 -- `writer::Writer::chain` meets its contract. Assumes nothing.
 use borrow.Author.Needs.{needs}
-use Rattle.writer.proofs.Naming.{field-not, field-small}
+use Rattle.writer.proofs.Naming.{field-not, field-small, field-short}
 use Rattle.writer.proofs.Methods.{chain-is}
 use Rattle.writer.proofs.Writer.chain.Statement.{statement}
 use Rattle.writer.proofs.Writer.chain.Tie as tie
@@ -9,14 +9,14 @@ pub chain-spec : {M : Type 1} → statement M
 chain-spec =
     tie.close
     (tie.spec
-    (λ c κs. search needs)  -- due-field-requires
-    (λ c. search needs)  -- enum-known-refusal
-    (λ c κs. search needs)  -- refused-requires
+    (λ c κs. search needs)  -- field-at-requires
+    (λ c κs. search needs)  -- not-due-requires
     (λ c. search field-not)  -- returns
-    (λ c. search needs)  -- enum-told
+    (λ c κs. search needs)  -- no-room-requires
+    (λ c. search field-short)  -- returns-2
     (λ c. search needs)  -- array-share-prefix-none
     (λ c. search needs)  -- slice-aggregate-put-part
     (λ c. search needs)  -- slice-aggregate-put-part-2
     (λ c κs. search field-small)  -- put-part-requires
     (λ c. search needs)  -- same-length
-    (λ c. search chain-is))  -- returns-2
+    (λ c. search chain-is))  -- returns-3

@@ -1,7 +1,7 @@
 -- `writer::Writer::denomination` meets its contract. Assumes nothing.
 use borrow.Author.Needs.{needs}
-use Rattle.writer.proofs.Naming.{field-not, field-small}
-use Rattle.writer.proofs.Methods.{denomination-is}
+use Rattle.writer.proofs.Naming.{field-not, field-small, field-short}
+use Rattle.writer.proofs.Methods.{denomination-barred, denomination-is}
 use Rattle.writer.proofs.Writer.denomination.Statement.{statement}
 use Rattle.writer.proofs.Writer.denomination.Tie as tie
 
@@ -9,12 +9,16 @@ pub denomination-spec : {M : Type 1} → statement M
 denomination-spec =
     tie.close
     (tie.spec
-    (λ c κs. search needs)  -- due-field-requires
+    (λ c κs. search needs)  -- field-at-requires
+    (λ c κs. search needs)  -- not-due-requires
+    (λ c. search field-not)  -- returns
+    (λ c κs. search needs)  -- no-room-requires
+    (λ c. search field-short)  -- returns-2
+    (λ c κs. search needs)  -- denomination-rules-requires
     (λ c. search needs)  -- enum-known-refusal
     (λ c κs. search needs)  -- refused-requires
-    (λ c. search field-not)  -- returns
+    (λ c. search denomination-barred)  -- returns-3
     (λ c. search needs)  -- enum-told
-    (λ c κs. search needs)  -- denomination-rules-requires
     (λ c. search needs)  -- slice-aggregate-put-number
     (λ c κs. search needs)  -- put-number-requires
     (λ c. search needs)  -- slice-aggregate-put-part
@@ -22,4 +26,4 @@ denomination-spec =
     (λ c. search needs)  -- slice-aggregate-put-part-2
     (λ c κs. search field-small)  -- put-part-requires
     (λ c. search needs)  -- same-length
-    (λ c. search denomination-is))  -- returns-2
+    (λ c. search denomination-is))  -- returns-4

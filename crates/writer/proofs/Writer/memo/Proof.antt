@@ -2,9 +2,9 @@
 use Prim.Native.Nat.{_<_, _^_}
 use native.Mathlib.Omega.{arith}
 use borrow.Author.Needs.{needs}
-use Rattle.writer.proofs.Naming.{field-not, field-small}
 use Rattle.transaction.specs.Answer.{memoMost}
-use Rattle.writer.proofs.Methods.{memo-is}
+use Rattle.writer.proofs.Naming.{field-not, field-small, field-short}
+use Rattle.writer.proofs.Methods.{memo-barred, memo-is}
 use Rattle.writer.proofs.Writer.memo.Statement.{statement}
 use Rattle.writer.proofs.Writer.memo.Tie as tie
 
@@ -12,15 +12,19 @@ pub memo-spec : {M : Type 1} → statement M
 memo-spec =
     tie.close
     (tie.spec
-    (λ c κs. search needs)  -- due-field-requires
+    (λ c κs. search needs)  -- field-at-requires
+    (λ c κs. search needs)  -- not-due-requires
+    (λ c. search field-not)  -- returns
+    (λ c κs. search needs)  -- no-room-requires
+    (λ c. search field-short)  -- returns-2
+    (λ c κs. search needs)  -- memo-rules-requires
     (λ c. search needs)  -- enum-known-refusal
     (λ c κs. search needs)  -- refused-requires
-    (λ c. search field-not)  -- returns
+    (λ c. search memo-barred)  -- returns-3
     (λ c. search needs)  -- enum-told
-    (λ c κs. search needs)  -- memo-rules-requires
     (λ c. search needs)  -- slice-aggregate-put-number
     (λ c κs. search needs)  -- put-number-requires
     (λ c. search needs)  -- slice-aggregate-put-part
     (λ c κs. search field-small)  -- put-part-requires
     (λ c. search needs)  -- same-length
-    (λ c. let k : memoMost < 256 ^ 4 = omega arith in search (memo-is, k)))  -- returns-2
+    (λ c. let k : memoMost < 256 ^ 4 = omega arith in search (memo-is, k)))  -- returns-4

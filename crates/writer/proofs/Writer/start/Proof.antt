@@ -1,8 +1,10 @@
 -- `writer::Writer::start` meets its contract. Assumes nothing.
 use Prim.Native.Nat.{_<_, _^_}
+use mathlib.Core.Path.{_≡_}
 use native.Mathlib.Omega.{arith}
+use lib.ListN.{length}
 use borrow.Author.Needs.{needs}
-use Rattle.writer.proofs.Methods.{start-not, start-is}
+use Rattle.writer.proofs.Methods.{start-not, start-short, start-barred, start-is}
 use Rattle.writer.proofs.Writer.start.Statement.{statement}
 use Rattle.writer.proofs.Writer.start.Tie as tie
 
@@ -10,12 +12,15 @@ pub start-spec : {M : Type 1} → statement M
 start-spec =
     tie.close
     (tie.spec
-    (λ c κs. search needs)  -- entered-requires
+    (λ c κs. search needs)  -- not-due-requires
+    (λ c. search start-not)  -- returns
+    (λ c κs. search needs)  -- no-room-requires
+    (λ c. search start-short)  -- returns-2
+    (λ c κs. search needs)  -- kind-rules-requires
     (λ c. search needs)  -- enum-known-refusal
     (λ c κs. search needs)  -- refused-requires
-    (λ c. search start-not)  -- returns
+    (λ c. search (start-barred, c .before .before .before .before .before .before .before .before .before .before .good))  -- returns-3
     (λ c. search needs)  -- enum-told
-    (λ c κs. search needs)  -- kind-rules-requires
     (λ c. search needs)  -- slice-aggregate-put-number
     (λ c. search needs)  -- mul-put-number
     (λ c. search needs)  -- add-put-number
@@ -25,7 +30,8 @@ start-spec =
     (λ c κs. search needs)  -- settle-requires
     (λ c. search needs)  -- same-length
     (λ c.
-    let b = c .before .before .before .before .before .before .before .before .before .before .before .before .before .before .before in
+    let b = c .before .before .before .before .before .before .before .before .before .before .before .before .before .before .before .before .before in
     let k : b .args .kind < 256 ^ 4 = omega (arith, b .fits) in
     let n : b .args .network < 256 ^ 4 = omega (arith, b .fits) in
-    search (start-is, k, n)))  -- returns-2
+    let l : length (b .args .t5) ≡ 32 = b .good .1 .1 .1 .1 .0 .1 .0 .1 in
+    search (start-is, l, k, n)))  -- returns-4

@@ -1,0 +1,14 @@
+-- `writer::steps::no_room` meets its contract. Assumes nothing.
+use mathlib.Core.Path.{ap, _∙_}
+use borrow.Author.Needs.{needs}
+use Rattle.writer.specs.Code.{refusedStep}
+use Rattle.writer.proofs.steps.no_room.Statement.{statement}
+use Rattle.writer.proofs.steps.no_room.Tie as tie
+
+pub no-room-spec : {M : Type 1} → statement M
+no-room-spec =
+    tie.close
+    (tie.spec
+    (λ c κs. search needs)  -- refuse-requires
+    (λ c κs. search needs)  -- refused-requires
+    (λ c. c .refused .ensures ∙ ap (refusedStep (c .before .before .args .w)) (c .before .refuse .ensures)))  -- returns
