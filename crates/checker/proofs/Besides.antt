@@ -1,5 +1,5 @@
 -- The credentials beside what wants them, behind an unsigned part that was read. Assumes nothing.
-use Prim.Native.Nat.{ℕ, zero, suc, _+_, _-_, _≤_, _<_}
+use Prim.Native.Nat.{ℕ, _+_, _-_, _≤_, _<_}
 use mathlib.Core.Path.{_≡_, refl, sym, ap, ap₂, _∙_, subst, subst₂}
 use mathlib.Core.List.{List, [], _∷_, _++_}
 use mathlib.Core.Option.{none}
@@ -17,8 +17,8 @@ use Rattle.wire.specs.Answer.{ended, valued}
 use Rattle.wire.proofs.Bytes.{Slice}
 use Rattle.wire.proofs.Reading as W
 use Rattle.transaction.specs.Credentials as Credentials
-use Rattle.transaction.specs.Credentials.{credentialPieces, credentialCode, Want, each, pieces, credentials}
-use Rattle.transaction.specs.Plan.{Plan, plan, kindOf, kindOf-code, planOf}
+use Rattle.transaction.specs.Credentials.{credentialPieces, Want, each, pieces, credentials}
+use Rattle.transaction.specs.Plan.{Plan, plan, kindOf-code}
 use Rattle.transaction.specs.Form.{listOf, Value, form, elementAsks, asked, wanted}
 use Rattle.transaction.specs.Avm.{avm}
 use Rattle.transaction.specs.Family.{Head, head, Unsigned, unsigned, wants}
@@ -29,13 +29,13 @@ use Rattle.transaction.specs.declared.ListName.the-variants as L
 use Rattle.transaction.proofs.CredentialLaws.{each-then}
 use Rattle.transaction.proofs.Reading.{written-next}
 use Rattle.transaction.proofs.Verdicts.{layout-credentials}
-use Rattle.due.specs.Plans.{tail, due}
+use Rattle.due.specs.Plans.{tail}
 use Rattle.checker.specs.declared.Wanting.{Wanting}
 use Rattle.checker.specs.declared.Wanted.{Wanted}
 use Rattle.checker.specs.declared.Wanted.the-variants as X
-use Rattle.checker.specs.Wanted.{WantsFrom, WantsIn, Wants, First, Nexts, NextWants, Beside, firstWanting}
+use Rattle.checker.specs.Wanted.{Wants, First, Nexts, NextWants, Beside, firstWanting}
 use Rattle.checker.proofs.Planning.{none-asked}
-use Rattle.checker.proofs.Ahead.{Front, front-of, list-over}
+use Rattle.checker.proofs.Ahead.{front-of, list-over}
 
 -- ---- the loop: what is left, from here, gives the whole
 

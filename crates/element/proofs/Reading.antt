@@ -34,7 +34,7 @@ use Rattle.wire.proofs.Orders.{empty-below}
 use Rattle.wire.proofs.Reading as W
 use Rattle.string.proofs.Reading as S
 use Rattle.element.specs.Owners.{Owners, owners, thresholdFits}
-use Rattle.element.specs.Outputs.{amount, OutputType, Output, output, TransferableOutput, transferableOutput}
+use Rattle.element.specs.Outputs.{amount, Output, output}
 use Rattle.element.specs.Inputs.{key, Input, spend, inputAfter, input}
 use Rattle.element.specs.Operations.{OperationType, mintNft, transferNft, operationCode, operationType, operationType-code, operationOwners, terms, Operation, operation, Fx, secpFx, nftFx, fxCode, fxOf, fxOutputs, fxId, stateOutputs, InitialState, initialStateAfter, initialState}
 use Rattle.element.specs.Answer.{Terms, inOrder}
@@ -235,7 +235,7 @@ module _ {R : Type 0} (s : List ℕ) (at : ℕ) (z : R) (stop : Refusal → R) (
   on-amount-refused = W.stops amount R s at z stop go x
 
 -- what code answers for an element that is to be not below the one before is what the format of such an element does
-pub ordered-is : {A : Type 0} (F : Format A) (s : List ℕ) (prev at : ℕ) → Slice s → inOrder s prev at (ended F s at) ≡ ended (notBelow F (part prev at s)) s at
+ordered-is : {A : Type 0} (F : Format A) (s : List ℕ) (prev at : ℕ) → Slice s → inOrder s prev at (ended F s at) ≡ ended (notBelow F (part prev at s)) s at
 unfolding guard
 ordered-is {A = A} F s prev at b =
     ap (inOrder s prev at) (F .same s at P.Refused (λ v n. P.Next n))

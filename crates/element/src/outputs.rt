@@ -34,7 +34,7 @@ fn transfer_body_at(s: &[u8], at: usize) -> Part
 }
 
 // Under FxID 0: type 6, owners; or type 7.
-pub fn secp_at(s: &[u8], at: usize) -> Part
+pub(crate) fn secp_at(s: &[u8], at: usize) -> Part
     ensures { λ r. ⌜ r ≡ ended (output (fxOutputs secpFx)) (now (s .entry)) at ⌝ }
 {
     let Number::Value(kind, a) = wire::u32_at(s, at) else {
@@ -50,7 +50,7 @@ pub fn secp_at(s: &[u8], at: usize) -> Part
 }
 
 // Under FxID 1: type 10, group, owners; or type 11, group, payload, owners.
-pub fn nft_at(s: &[u8], at: usize) -> Part
+pub(crate) fn nft_at(s: &[u8], at: usize) -> Part
     ensures { λ r. ⌜ r ≡ ended (output (fxOutputs nftFx)) (now (s .entry)) at ⌝ }
 {
     let Number::Value(kind, g) = wire::u32_at(s, at) else {
@@ -75,7 +75,7 @@ pub fn nft_at(s: &[u8], at: usize) -> Part
 }
 
 // A transferable output: asset id, and type 7.
-pub fn transferable_at(s: &[u8], at: usize) -> Part
+pub(crate) fn transferable_at(s: &[u8], at: usize) -> Part
     ensures { λ r. ⌜ r ≡ ended transferableOutput (now (s .entry)) at ⌝ }
 {
     let Part::Next(k) = wire::part_at(s, at, 32) else {

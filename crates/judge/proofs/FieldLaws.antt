@@ -1,5 +1,5 @@
 -- What reading a field back comes to, as tests on what was given. Assumes nothing.
-use Prim.Native.Nat.{ℕ, zero, suc, _+_, _*_, _%_, _^_, _≤_, _<_}
+use Prim.Native.Nat.{ℕ, suc, _+_, _*_, _%_, _^_, _≤_, _<_}
 use mathlib.Core.Path.{_≡_, refl, sym, ap, ap₂, _∙_}
 use mathlib.Core.Bool.{Bool, true, false}
 use mathlib.Core.List.{List, [], _∷_, _++_, append-nil}
@@ -9,7 +9,7 @@ use lib.Pow.{pow-add}
 use lib.ListN.{length, drop, length-append}
 use lib.Seq.{drop-at}
 use lib.Dec.{ltb, leb, eqb}
-use borrow.Author.Tests.{eq-eqb, ne-eqb, lt-ltb, le-ltb, le-leb}
+use borrow.Author.Tests.{eq-eqb, ne-eqb, lt-ltb, le-leb}
 use Rattle.wire.specs.Bytes.{pick, drop-step, Bytes, bytes-append, value, digits, length-digits, bytes-digits, value-digits, digits-value}
 use Rattle.wire.specs.Numbers.{ruleOf, unknownType, badLength, notPrintable, badDenomination, bytesAfterEnd}
 use Rattle.wire.specs.Fields.{number, blob, constant}

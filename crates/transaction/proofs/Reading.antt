@@ -1,6 +1,6 @@
 -- How the readers of this crate meet their formats: what each answer says of the reading that its function ensures. Assumes nothing.
 use Prim.Native.Nat.{ℕ, _+_}
-use mathlib.Core.Path.{_≡_, refl, sym, _∙_}
+use mathlib.Core.Path.{_≡_, sym, _∙_}
 use mathlib.Core.Bool.{Bool, true, false, not}
 use borrow.Author.Tests.{le-leb, not-true, not-false}
 use mathlib.Core.List.{List, []}
@@ -22,7 +22,7 @@ use Rattle.wire.specs.Answer.{ended, valued}
 use Rattle.wire.proofs.Bytes.{Slice, slice-bytes}
 use Rattle.wire.proofs.Reading as W
 use Rattle.element.proofs.Reading.{on-whole, on-refused}
-use Rattle.transaction.specs.Credentials.{signatures, credentialPieces, pieces}
+use Rattle.transaction.specs.Credentials.{signatures, pieces}
 use Rattle.transaction.specs.Plan.{kindCode, kindOf, kindOf-code, kinds, isKind}
 use Rattle.transaction.specs.declared.Kind.{Kind}
 

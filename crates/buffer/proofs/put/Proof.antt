@@ -1,5 +1,4 @@
 -- `buffer::put` meets its contract. Assumes nothing.
-use mathlib.Core.List.{[]}
 use native.Mathlib.Omega.{arith}
 use borrow.Author.Needs.{needs}
 use Rattle.buffer.proofs.Stores.{room-bars, room-made, all-done}
