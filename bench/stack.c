@@ -17,7 +17,7 @@
 
 enum { STACK = 1 << 16, TYPES = 5, ANSWERS = TYPES + 22, WORDS = 4, NUMBERS = 23, ID = 32 };
 
-/* The calls; those of the library `probe` are in no header. */
+/* The calls; those of the library `test_exports` are in no header. */
 typedef uint64_t check_call(const uint8_t *bytes, size_t length);
 typedef uint64_t table_call(const uint8_t *bytes, size_t length, uint32_t *table, size_t room);
 typedef void entry_call(const uint8_t *bytes, size_t length, uint64_t n, uint64_t *numbers,
@@ -27,9 +27,9 @@ typedef void fill_call(uint8_t *draft, size_t length, uint64_t slot, const uint8
                        size_t signature_length, uint64_t *answer);
 typedef uint64_t merge_call(const uint8_t *first, size_t first_length, const uint8_t *second,
                             size_t second_length, uint8_t *output, size_t room);
-table_call cellfacet_probe_table;
-entry_call cellfacet_probe_entry;
-fill_call cellfacet_probe_fill;
+table_call cellfacet_test_table;
+entry_call cellfacet_test_entry;
+fill_call cellfacet_test_fill;
 
 static unsigned char stack[STACK] __attribute__((aligned(16)));
 static ucontext_t caller, callee;
@@ -134,9 +134,9 @@ static void (*const runs[CALLS])(void) = {run_check, run_table, run_entry, run_f
 static void call_tops(int tops)
 {
     called_check = tops ? check_top : cellfacet_check;
-    called_table = tops ? table_top : cellfacet_probe_table;
-    called_entry = tops ? entry_top : cellfacet_probe_entry;
-    called_fill = tops ? fill_top : cellfacet_probe_fill;
+    called_table = tops ? table_top : cellfacet_test_table;
+    called_entry = tops ? entry_top : cellfacet_test_entry;
+    called_fill = tops ? fill_top : cellfacet_test_fill;
     called_merge = tops ? merge_top : cellfacet_merge;
 }
 

@@ -7,16 +7,16 @@ use native.Mathlib.Omega.{arith}
 use native.Mathlib.Nat.{not-suc-le-zero}
 use lib.Dec.{leb}
 use Rattle.wire.specs.declared.Refusal.{Refusal}
-use Rattle.wire.specs.declared.Part.{Part}
-use Rattle.wire.specs.declared.Part.the-variants as Q
-use Rattle.wire.specs.declared.Number.{Number}
-use Rattle.wire.specs.declared.Number.the-variants as N
+use Rattle.wire.specs.declared.End.{End}
+use Rattle.wire.specs.declared.End.the-variants as Q
+use Rattle.wire.specs.declared.Integer.{Integer}
+use Rattle.wire.specs.declared.Integer.the-variants as N
 use Rattle.wire.specs.Bytes.{pick}
 use Rattle.wire.specs.Numbers.{by, emptyList}
-use Rattle.wire.specs.Format.{Format, took, refused, read, run-inv, pick-inv, took-refused}
-use Rattle.wire.specs.Fields.{number}
+use Rattle.wire.specs.Format.{Format, took, refused, read, parse-inv, pick-inv, took-refused}
+use Rattle.wire.specs.Fields.{integer}
 use Rattle.wire.specs.Sequence.{andThen}
-use Rattle.wire.specs.Series.{items, listRun, left, seriesFrom}
+use Rattle.wire.specs.Series.{items, listParse, left, seriesFrom}
 use Rattle.wire.specs.Answer.{valued}
 use Rattle.wire.proofs.Bytes.{found}
 use Rattle.wire.proofs.Reading as W
@@ -26,11 +26,11 @@ use Rattle.transaction.specs.Form.{atLeast, listOf, Value, form, fieldAsks, ele
 use Rattle.transaction.specs.declared.FieldName.{FieldName}
 use Rattle.transaction.specs.declared.ListName.{ListName}
 use Rattle.transaction.specs.declared.ListName.the-variants as L
-use Rattle.due.specs.declared.Due.{Due}
-use Rattle.due.specs.declared.Due.the-variants as D
-use Rattle.due.specs.Plans.{tail, due, Live, dueOf, credentialNumber, FieldPast, FieldSigns, ElementTells, ElementsPast, AskingTells}
-use Rattle.due.proofs.Passing.{FirstOf, first-of}
-use Rattle.due.proofs.Rows.{live-phase, live-next, if-nothing, if-end, if-field, if-list}
+use Rattle.plan.specs.declared.Due.{Due}
+use Rattle.plan.specs.declared.Due.the-variants as D
+use Rattle.plan.specs.Due.{tail, due, Live, dueOf, credentialAsked, FieldPast, FieldSigns, ElementTells, ElementsPast, AskingTells}
+use Rattle.plan.proofs.Passing.{FirstOf, first-of}
+use Rattle.plan.proofs.RowLaws.{live-phase, live-next, if-nothing, if-end, if-field, if-list}
 use Rattle.checker.specs.declared.Wanting.{Wanting}
 use Rattle.checker.specs.declared.Begun.{Begun}
 use Rattle.checker.specs.declared.Begun.the-variants as B
@@ -41,37 +41,37 @@ use Rattle.checker.proofs.Planning.{none-wanted, none-asked}
 
 -- ---- what is told of one that asks, or does not
 
-pub one-want : (c : Option CredentialType) (t n : ℕ) → t ≡ credentialNumber c → (t ≡ 0 → ⊥)
+pub one-want : (c : Option CredentialType) (t n : ℕ) → t ≡ credentialAsked c → (t ≡ 0 → ⊥)
     → (w : Want) × (wantOf c n ≡ w ∷ []) × (t ≡ credentialCode (w .type)) × (n ≡ w .signatures)
 one-want none t n i z = absurd (z i)
 one-want (some c) t n i z = (record { type = c; signatures = n }, refl, i, refl)
 
 -- ---- the element at hand
 
-module _ (s : List ℕ) (from : Wanting) (x : Number) (h : AskingTells (from .asks) s (from .at) x) where
-  told : (most kind : ℕ) (ws : List Want) (w : Wants most s kind from ws) → 0 < from .left → ElementTells (w .list) s (from .at) x
-  told most kind ws w o = h (w .list) (w .type o) (w .asking o)
+module _ (s : List ℕ) (from : Wanting) (x : Integer) (h : AskingTells (from .asks) s (from .at) x) where
+  told : (most «type_id» : ℕ) (ws : List Want) (w : Wants most s «type_id» from ws) → 0 < from .left → ElementTells (w .list) s (from .at) x
+  told most «type_id» ws w o = h (w .list) (w .type o) (w .asking o)
 
-  firstly : (most kind c : ℕ) (ws : List Want) (w : Wants most s kind from ws) → from .left ≡ suc c
+  firstly : (most «type_id» c : ℕ) (ws : List Want) (w : Wants most s «type_id» from ws) → from .left ≡ suc c
       → FirstOf (w .list) c (w .prev) s (from .at) (w .elements) (w .next)
-  firstly most kind c ws w i =
+  firstly most «type_id» c ws w i =
       first-of (w .list) c (w .prev) s (from .at) (w .elements) (w .next)
       (subst (λ (n : ℕ). read (seriesFrom (elementsOf (w .list) .element) (w .prev) n) s (from .at) ≡ took (w .elements) (w .next)) i (w .stands))
 
   -- an element that was read is read
-  pub element-unread : (e : Refusal) → 0 < from .left → x ≡ N.Refused e → ElementWants s from X.End
-  element-unread e o q kind most ws w =
-      let f = firstly most kind (from .left - 1) ws w (omega arith) in
-      let g = told most kind ws w o (w .prev) (f .element) (f .next) (f .first) in
+  pub element-unread : (e : Refusal) → 0 < from .left → x ≡ N.Refused e → ElementWants s from X.Nothing
+  element-unread e o q «type_id» most ws w =
+      let f = firstly most «type_id» (from .left - 1) ws w (omega arith) in
+      let g = told most «type_id» ws w o (w .prev) (f .element) (f .next) (f .first) in
       let z : _≡_ {A = ℕ} 0 1 = cc in absurd (omega arith)
 
   pub element-wanted : (k m : ℕ) → 0 < from .left → x ≡ N.Value k m
       → ElementWants s from (X.Credential (from .asks) k record { phase = from .phase; asks = from .asks; at = m; left = from .left - 1 })
   unfolding asked
-  element-wanted k m o q kind most ws w =
+  element-wanted k m o q «type_id» most ws w =
       let l : ListName = w .list in
-      let f = firstly most kind (from .left - 1) ws w (omega arith) in
-      let g = told most kind ws w o (w .prev) (f .element) (f .next) (f .first) in
+      let f = firstly most «type_id» (from .left - 1) ws w (omega arith) in
+      let g = told most «type_id» ws w o (w .prev) (f .element) (f .next) (f .first) in
       let next : f .next ≡ m = cc in
       let signs : elementsOf l .signatures (f .element) ≡ k = cc in
       let (d, asks, type, count) = one-want (elementsOf l .credential) (from .asks) (elementsOf l .signatures (f .element)) (w .type o) (w .asking o) in
@@ -105,7 +105,7 @@ module _ (s : List ℕ) (from : Wanting) (x : Number) (h : AskingTells (from .as
 
 -- no element is left: the segments that come next stand there
 list-done : (most : ℕ) (s : List ℕ) (asks : ℕ) (p : Plan) (at : ℕ) (ws : List Want) → WantsIn most s asks 0 p at ws → WantsFrom most s p at ws
-unfolding items listRun asked
+unfolding items listParse asked
 list-done most s asks p at ws w =
     let l : ListName = w .list in
     let none : [] ≡ w .elements = cc in
@@ -115,7 +115,7 @@ list-done most s asks p at ws w =
 
 -- and back: whatever the list was
 pub list-over : (most : ℕ) (s : List ℕ) (asks : ℕ) (p : Plan) (at : ℕ) (ws : List Want) → WantsFrom most s p at ws → WantsIn most s asks 0 p at ws
-unfolding items listRun asked
+unfolding items listParse asked
 list-over most s asks p at ws w =
     record {
       list = L.Output;
@@ -132,21 +132,21 @@ list-over most s asks p at ws w =
 
 -- a part that was read, and the rest of the plan behind it
 pub record Front {A : Type 0} (most : ℕ) (G : Format A) (p : Plan) (s : List ℕ) (at : ℕ) (v : A × Value p) (n : ℕ) : Type 0 where
-  pub part : A
+  pub between : A
   pub others : Value p
   pub next : ℕ
-  pub all : v ≡ (part, others)
-  pub first : read G s at ≡ took part next
+  pub all : v ≡ (between, others)
+  pub first : read G s at ≡ took between next
   pub rest : read (form most p) s next ≡ took others n
 
 pub front-of : {A : Type 0} (most : ℕ) (G : Format A) (p : Plan) (s : List ℕ) (at : ℕ) (v : A × Value p) (n : ℕ)
     → read (andThen G (λ a. form most p)) s at ≡ took v n → Front most G p s at v n
 unfolding andThen
 front-of most G p s at v n e =
-    let (a, i, ea, e₁) = run-inv G s at (λ a i. form most p .run s i refused (λ u k. took (a, u) k)) v n e in
-    let (u, k, eu, e₂) = run-inv (form most p) s i (λ u k. took (a, u) k) v n e₁ in
+    let (a, i, ea, e₁) = parse-inv G s at (λ a i. form most p .parse s i refused (λ u k. took (a, u) k)) v n e in
+    let (u, k, eu, e₂) = parse-inv (form most p) s i (λ u k. took (a, u) k) v n e₁ in
     let j : k ≡ n = cc in
-    record { part = a; others = u; next = i; all = cc; first = ea; rest = eu ∙ ap (took u) j }
+    record { between = a; others = u; next = i; all = cc; first = ea; rest = eu ∙ ap (took u) j }
 
 module _ (most : ℕ) (s : List ℕ) (at : ℕ) (ws : List Want) where
   -- a field that was read, and what is behind it
@@ -157,10 +157,10 @@ module _ (most : ℕ) (s : List ℕ) (at : ℕ) (ws : List Want) where
     unfolding form wanted
     field-passed p w =
         let r = front-of most (contentOf most f) p s at (w .value) (w .next) (w .stands) in
-        let next : r .next ≡ y = sym (g most (r .part) (r .next) (r .first)) in (
-          r .part,
+        let next : r .next ≡ y = sym (g most (r .between) (r .next) (r .first)) in (
+          r .between,
           wanted p (r .others),
-          r .first ∙ ap (took (r .part)) next,
+          r .first ∙ ap (took (r .between)) next,
           w .wants ∙ ap (λ (v : Content f × Value p). fieldAsks f (v .0) ++ wanted p (v .1)) (r .all),
           record {
             value = r .others;
@@ -171,15 +171,15 @@ module _ (most : ℕ) (s : List ℕ) (at : ℕ) (ws : List Want) where
         )
 
   -- a list that was read: its count stands there, and then its elements
-  list-read : (l : ListName) (least : ℕ) (p : Plan) (y : Number) (e : Refusal) → y ≡ valued (number 4) s at → WantsFrom most s (many l least p) at ws
+  list-read : (l : ListName) (least : ℕ) (p : Plan) (y : Integer) (e : Refusal) → y ≡ valued (integer 4) s at → WantsFrom most s (many l least p) at ws
       → y ≡ N.Refused e → ⊥
   unfolding form atLeast
   list-read l least p y e h w q =
       let E : List ℕ → Format (elementsOf l .Element) = elementsOf l .element in
       let r = front-of most (listOf l least) p s at (w .value) (w .next) (w .stands) in
-      let (d, k, ed, _) = run-inv (number 4) s at (λ d k. pick (leb least d) (items E (left E) [] d .run s k refused took) (refused (by emptyList at)))
-      (r .part) (r .next) (r .first) in
-      took-refused d k e (sym ed ∙ W.number-refused-inv (read (number 4) s at) e (sym (number 4 .same s at N.Refused N.Value) ∙ found h q))
+      let (d, k, ed, _) = parse-inv (integer 4) s at (λ d k. pick (leb least d) (items E (left E) [] d .parse s k refused took) (refused (by emptyList at)))
+      (r .between) (r .next) (r .first) in
+      took-refused d k e (sym ed ∙ W.integer-refused-inv (read (integer 4) s at) e (sym (integer 4 .same s at N.Refused N.Value) ∙ found h q))
 
   -- its elements, and what is behind them
   record Entered (l : ListName) (c : ℕ) (p : Plan) (m : ℕ) : Type 0 where
@@ -190,34 +190,34 @@ module _ (most : ℕ) (s : List ℕ) (at : ℕ) (ws : List Want) where
     behind : WantsFrom most s p next later
     wants : ws ≡ asked (elementAsks l) elements ++ later
 
-  list-entered : (l : ListName) (least : ℕ) (p : Plan) (y : Number) (c m : ℕ) → y ≡ valued (number 4) s at → WantsFrom most s (many l least p) at ws
+  list-entered : (l : ListName) (least : ℕ) (p : Plan) (y : Integer) (c m : ℕ) → y ≡ valued (integer 4) s at → WantsFrom most s (many l least p) at ws
       → y ≡ N.Value c m → Entered l c p m
   unfolding form wanted atLeast
   list-entered l least p y c m h w q =
       let E : List ℕ → Format (elementsOf l .Element) = elementsOf l .element in
       let r = front-of most (listOf l least) p s at (w .value) (w .next) (w .stands) in
-      let (d, k, ed, e₁) = run-inv (number 4) s at (λ d k. pick (leb least d) (items E (left E) [] d .run s k refused took) (refused (by emptyList at)))
-      (r .part) (r .next) (r .first) in
-      let (_, e₂) = pick-inv (leb least d) (by emptyList at) (items E (left E) [] d .run s k refused took) (r .part) (r .next) e₁ in
-      let t : took d k ≡ took c m = sym ed ∙ W.number-value-inv (read (number 4) s at) c m (sym (number 4 .same s at N.Refused N.Value) ∙ found h q) in
+      let (d, k, ed, e₁) = parse-inv (integer 4) s at (λ d k. pick (leb least d) (items E (left E) [] d .parse s k refused took) (refused (by emptyList at)))
+      (r .between) (r .next) (r .first) in
+      let (_, e₂) = pick-inv (leb least d) (by emptyList at) (items E (left E) [] d .parse s k refused took) (r .between) (r .next) e₁ in
+      let t : took d k ≡ took c m = sym ed ∙ W.integer-value-inv (read (integer 4) s at) c m (sym (integer 4 .same s at N.Refused N.Value) ∙ found h q) in
       let dc : d ≡ c = cc in
       let km : k ≡ m = cc in
       record {
-        elements = r .part;
+        elements = r .between;
         next = r .next;
         later = wanted p (r .others);
-        stands = subst₂ (λ (d k : ℕ). read (seriesFrom E [] d) s k ≡ took (r .part) (r .next)) dc km e₂;
+        stands = subst₂ (λ (d k : ℕ). read (seriesFrom E [] d) s k ≡ took (r .between) (r .next)) dc km e₂;
         behind = record { value = r .others; next = w .next; stands = r .rest; wants = refl };
         wants = w .wants ∙ ap (λ (v : List (elementsOf l .Element) × Value p). asked (elementAsks l) (v .0) ++ wanted p (v .1)) (r .all);
       }
 
 -- ---- into a list
 
-module _ (s : List ℕ) (at : ℕ) (l : ListName) (y : Number) (g : y ≡ valued (number 4) s at) where
-  pub list-uncounted : (e : Refusal) → y ≡ N.Refused e → ListBegins l s at B.End
+module _ (s : List ℕ) (at : ℕ) (l : ListName) (y : Integer) (g : y ≡ valued (integer 4) s at) where
+  pub list-uncounted : (e : Refusal) → y ≡ N.Refused e → ListBegins l s at B.Nothing
   list-uncounted e i most least p ws w = absurd (list-read most s at ws l least p y e g w i)
 
-  module _ (c m : ℕ) (i : y ≡ N.Value c m) (t : ℕ) (ht : t ≡ credentialNumber (elementsOf l .credential)) where
+  module _ (c m : ℕ) (i : y ≡ N.Value c m) (t : ℕ) (ht : t ≡ credentialAsked (elementsOf l .credential)) where
     pub list-asking : (t ≡ 0 → ⊥) → ListBegins l s at (B.Into t c m)
     list-asking z most least p ws w =
         let r = list-entered most s at ws l least p y c m g w i in
@@ -234,14 +234,14 @@ module _ (s : List ℕ) (at : ℕ) (l : ListName) (y : Number) (g : y ≡ valued
           wants = r .wants;
         }
 
-    module _ (z : t ≡ 0) (x : Part) (h : ElementsPast l c s m x) where
-      pub list-unread : (e : Refusal) → x ≡ Q.Refused e → ListBegins l s at B.End
+    module _ (z : t ≡ 0) (x : End) (h : ElementsPast l c s m x) where
+      pub list-unread : (e : Refusal) → x ≡ Q.Refused e → ListBegins l s at B.Nothing
       list-unread e q most least p ws w =
           let r = list-entered most s at ws l least p y c m g w i in
           let d = h [] (r .elements) (r .next) (r .stands) in
           let z : _≡_ {A = ℕ} 0 1 = cc in absurd (omega arith)
 
-      pub list-passed : (n : ℕ) → x ≡ Q.Next n → ListBegins l s at (B.Into 0 0 n)
+      pub list-passed : (n : ℕ) → x ≡ Q.At n → ListBegins l s at (B.Into 0 0 n)
       list-passed n q most least p ws w =
           let r = list-entered most s at ws l least p y c m g w i in
           let d = h [] (r .elements) (r .next) (r .stands) in
@@ -258,18 +258,18 @@ module _ (s : List ℕ) (p : Plan) (at : ℕ) (x : Due) (h : x ≡ dueOf p) wher
   abbrev Answers : Begun → Plan → Type 0
   Answers r p = Begins p s at r
 
-  pub begun-nothing : x ≡ D.Nothing → Begins p s at B.End
+  pub begun-nothing : x ≡ D.Nothing → Begins p s at B.Nothing
   unfolding wanted
-  begun-nothing q = if-nothing x (Answers B.End) p h q (λ most ws w. w .wants)
+  begun-nothing q = if-nothing x (Answers B.Nothing) p h q (λ most ws w. w .wants)
 
-  pub begun-end : x ≡ D.End → Begins p s at B.End
+  pub begun-end : x ≡ D.Finish → Begins p s at B.Nothing
   unfolding wanted
-  begun-end q = if-end x (Answers B.End) p h q (λ most ws w. w .wants)
+  begun-end q = if-end x (Answers B.Nothing) p h q (λ most ws w. w .wants)
 
   pub begun-list : (l : ListName) (least : ℕ) (r : Begun) → x ≡ D.List l least → ListBegins l s at r → Begins p s at r
   begun-list l least r q g = if-list x (Answers r) p h l least q (λ p most ws w. g most least p ws w)
 
-  module _ (f : FieldName) (q : x ≡ D.Field f) (y : ℕ) (g : FieldPast f s at y) (t : ℕ) (ht : t ≡ credentialNumber (fieldCredential f)) where
+  module _ (f : FieldName) (q : x ≡ D.Field f) (y : ℕ) (g : FieldPast f s at y) (t : ℕ) (ht : t ≡ credentialAsked (fieldCredential f)) where
     pub begun-field : t ≡ 0 → Begins p s at (B.Into 0 0 y)
     begun-field z =
         if-field x (Answers (B.Into 0 0 y)) p h f q (λ p most ws w.
@@ -295,7 +295,7 @@ module _ (s : List ℕ) (p : Plan) (at : ℕ) (x : Due) (h : x ≡ dueOf p) wher
   field-live f q = if-field x Live p h f q (λ p. tt)
 
   pub live-list : (l : ListName) (least : ℕ) → x ≡ D.List l least → (r : Begun) → BegunLive p r
-  live-list l least q B.End = tt
+  live-list l least q B.Nothing = tt
   live-list l least q (B.Into a c m) = if-list x Live p h l least q (λ p. tt)
   live-list l least q (B.Asks t n m) = if-list x Live p h l least q (λ p. tt)
 
@@ -310,33 +310,33 @@ pub ruleset beginning = (begun-nothing, begun-end, begun-list, begun-field, begu
 -- ---- the next one: what is ahead of the start is ahead of here
 
 abbrev pub Onward : ℕ → List ℕ → Wanting → ℕ → ℕ → ℕ → ℕ → Type 0
-Onward kind s from phase asks at left =
-    (most : ℕ) (ws : List Want) → Wants most s kind from ws → WantsIn most s asks left (due phase (planOf kind)) at ws
+Onward «type_id» s from phase asks at left =
+    (most : ℕ) (ws : List Want) → Wants most s «type_id» from ws → WantsIn most s asks left (due phase (planOf «type_id»)) at ws
 
-module _ (s : List ℕ) (kind : ℕ) (from : Wanting) (phase asks at left : ℕ) (o : Onward kind s from phase asks at left) (over : left ≡ 0) (r : Begun)
-    (h : Begins (due phase (planOf kind)) s at r) (l : BegunLive (due phase (planOf kind)) r) where
-  begun : (most : ℕ) (ws : List Want) → Wants most s kind from ws → BegunAs most s (tail (due phase (planOf kind))) ws r
+module _ (s : List ℕ) («type_id» : ℕ) (from : Wanting) (phase asks at left : ℕ) (o : Onward «type_id» s from phase asks at left) (over : left ≡ 0) (r : Begun)
+    (h : Begins (due phase (planOf «type_id»)) s at r) (l : BegunLive (due phase (planOf «type_id»)) r) where
+  begun : (most : ℕ) (ws : List Want) → Wants most s «type_id» from ws → BegunAs most s (tail (due phase (planOf «type_id»))) ws r
   begun most ws w =
-      h most ws (list-done most s asks (due phase (planOf kind)) at ws
-      (subst (λ (c : ℕ). WantsIn most s asks c (due phase (planOf kind)) at ws) over (o most ws w)))
+      h most ws (list-done most s asks (due phase (planOf «type_id»)) at ws
+      (subst (λ (c : ℕ). WantsIn most s asks c (due phase (planOf «type_id»)) at ws) over (o most ws w)))
 
-  pub next-end : r ≡ B.End → NextWants kind s from X.End
-  next-end q most ws w = subst (λ (r : Begun). BegunAs most s (tail (due phase (planOf kind))) ws r) q (begun most ws w)
+  pub next-end : r ≡ B.Nothing → NextWants «type_id» s from X.Nothing
+  next-end q most ws w = subst (λ (r : Begun). BegunAs most s (tail (due phase (planOf «type_id»))) ws r) q (begun most ws w)
 
   pub into-phase : (a c m : ℕ) → r ≡ B.Into a c m → phase ≤ 8
-  into-phase a c m q = live-phase kind phase (subst (BegunLive (due phase (planOf kind))) q l)
+  into-phase a c m q = live-phase «type_id» phase (subst (BegunLive (due phase (planOf «type_id»))) q l)
 
   pub asks-phase : (t n m : ℕ) → r ≡ B.Asks t n m → phase ≤ 8
-  asks-phase t n m q = live-phase kind phase (subst (BegunLive (due phase (planOf kind))) q l)
+  asks-phase t n m q = live-phase «type_id» phase (subst (BegunLive (due phase (planOf «type_id»))) q l)
 
-  pub next-into : (a c m : ℕ) → r ≡ B.Into a c m → Onward kind s from (phase + 1) a m c
+  pub next-into : (a c m : ℕ) → r ≡ B.Into a c m → Onward «type_id» s from (phase + 1) a m c
   next-into a c m q most ws w =
-      rw (live-next kind phase (subst (BegunLive (due phase (planOf kind))) q l))
-      (subst (λ (r : Begun). BegunAs most s (tail (due phase (planOf kind))) ws r) q (begun most ws w))
+      rw (live-next «type_id» phase (subst (BegunLive (due phase (planOf «type_id»))) q l))
+      (subst (λ (r : Begun). BegunAs most s (tail (due phase (planOf «type_id»))) ws r) q (begun most ws w))
 
-  pub next-asks : (t n m : ℕ) → r ≡ B.Asks t n m → NextWants kind s from (X.Credential t n record { phase = phase + 1; asks = t; at = m; left = 0 })
+  pub next-asks : (t n m : ℕ) → r ≡ B.Asks t n m → NextWants «type_id» s from (X.Credential t n record { phase = phase + 1; asks = t; at = m; left = 0 })
   next-asks t n m q most ws w =
-      let f = subst (λ (r : Begun). BegunAs most s (tail (due phase (planOf kind))) ws r) q (begun most ws w) in
+      let f = subst (λ (r : Begun). BegunAs most s (tail (due phase (planOf «type_id»))) ws r) q (begun most ws w) in
       record {
         want = f .want;
         others = f .others;
@@ -344,10 +344,10 @@ module _ (s : List ℕ) (kind : ℕ) (from : Wanting) (phase asks at left : ℕ)
         type = f .type;
         signatures = f .signatures;
         behind =
-            rw (live-next kind phase (subst (BegunLive (due phase (planOf kind))) q l))
-            (list-over most s t (tail (due phase (planOf kind))) m (f .others) (f .behind));
+            rw (live-next «type_id» phase (subst (BegunLive (due phase (planOf «type_id»))) q l))
+            (list-over most s t (tail (due phase (planOf «type_id»))) m (f .others) (f .behind));
       }
 
-pub next-element : (s : List ℕ) (kind : ℕ) (from : Wanting) (phase asks at left : ℕ) → Onward kind s from phase asks at left → (r : Wanted)
-    → ElementWants s record { phase = phase; asks = asks; at = at; left = left } r → NextWants kind s from r
-next-element s kind from phase asks at left o r h most ws w = h kind most ws (o most ws w)
+pub next-element : (s : List ℕ) («type_id» : ℕ) (from : Wanting) (phase asks at left : ℕ) → Onward «type_id» s from phase asks at left → (r : Wanted)
+    → ElementWants s record { phase = phase; asks = asks; at = at; left = left } r → NextWants «type_id» s from r
+next-element s «type_id» from phase asks at left o r h most ws w = h «type_id» most ws (o most ws w)

@@ -6,30 +6,30 @@ use mathlib.Core.Option.{none}
 use native.Mathlib.Omega.{arith}
 use lib.ListN.{length}
 use Rattle.wire.specs.declared.Refusal.{Refusal}
-use Rattle.wire.specs.declared.Part.{Part}
-use Rattle.wire.specs.declared.Part.the-variants as Q
-use Rattle.wire.specs.declared.Number.{Number}
-use Rattle.wire.specs.declared.Number.the-variants as N
+use Rattle.wire.specs.declared.End.{End}
+use Rattle.wire.specs.declared.End.the-variants as Q
+use Rattle.wire.specs.declared.Integer.{Integer}
+use Rattle.wire.specs.declared.Integer.the-variants as N
 use Rattle.wire.specs.Numbers.{by, cutAt, wrongCount}
-use Rattle.wire.specs.Format.{took, read, run-inv}
-use Rattle.wire.specs.Fields.{number, constant}
+use Rattle.wire.specs.Format.{took, read, parse-inv}
+use Rattle.wire.specs.Fields.{integer, constant}
 use Rattle.wire.specs.Answer.{ended, valued}
 use Rattle.wire.proofs.Bytes.{Slice}
 use Rattle.wire.proofs.Reading as W
 use Rattle.transaction.specs.Credentials as Credentials
 use Rattle.transaction.specs.Credentials.{credentialPieces, Want, each, pieces, credentials}
-use Rattle.transaction.specs.Plan.{Plan, plan, kindOf-code}
+use Rattle.transaction.specs.Plan.{Plan, plan, typeOf-id}
 use Rattle.transaction.specs.Form.{listOf, Value, form, elementAsks, asked, wanted}
 use Rattle.transaction.specs.Avm.{avm}
 use Rattle.transaction.specs.Family.{Head, head, Unsigned, unsigned, wants}
 use Rattle.transaction.specs.Answer.{layout, CredentialsAt}
-use Rattle.transaction.specs.declared.Kind.{Kind}
+use Rattle.transaction.specs.declared.TransactionType.{TransactionType}
 use Rattle.transaction.specs.declared.Layout.{Layout}
 use Rattle.transaction.specs.declared.ListName.the-variants as L
 use Rattle.transaction.proofs.CredentialLaws.{each-then}
 use Rattle.transaction.proofs.Reading.{written-next}
 use Rattle.transaction.proofs.Verdicts.{layout-credentials}
-use Rattle.due.specs.Plans.{tail}
+use Rattle.plan.specs.Due.{tail}
 use Rattle.checker.specs.declared.Wanting.{Wanting}
 use Rattle.checker.specs.declared.Wanted.{Wanted}
 use Rattle.checker.specs.declared.Wanted.the-variants as X
@@ -39,56 +39,58 @@ use Rattle.checker.proofs.Ahead.{front-of, list-over}
 
 -- ---- the loop: what is left, from here, gives the whole
 
-module _ (s : List ℕ) (kind : ℕ) (c : Wanting) (n at : ℕ) (x : Wanted) (h : NextWants kind s c x) where
-  pub beside-end : (r : Part) → 0 < n → x ≡ X.End → Beside kind s c n at r
+module _ (s : List ℕ) («type_id» : ℕ) (c : Wanting) (n at : ℕ) (x : Wanted) (h : NextWants «type_id» s c x) where
+  pub beside-end : (r : End) → 0 < n → x ≡ X.Nothing → Beside «type_id» s c n at r
   beside-end r o q most ws w e =
-      let none : ws ≡ [] = subst (λ (x : Wanted). Nexts most s kind ws x) q (h most ws w) in
+      let none : ws ≡ [] = subst (λ (x : Wanted). Nexts most s «type_id» ws x) q (h most ws w) in
       absurd (omega (arith, ap length none))
 
-  module _ (t k : ℕ) (d : Wanting) (q : x ≡ X.Credential t k d) (y : Part) (g : y ≡ ended (pieces (credentialPieces t k [])) s at) where
-    first : (most : ℕ) (ws : List Want) → Wants most s kind c ws → First most s t k (Wants most s kind d) ws
-    first most ws w = subst (λ (x : Wanted). Nexts most s kind ws x) q (h most ws w)
+  module _ (t k : ℕ) (d : Wanting) (q : x ≡ X.Credential t k d) (y : End) (g : y ≡ ended (pieces (credentialPieces t k [])) s at) where
+    first : (most : ℕ) (ws : List Want) → Wants most s «type_id» c ws → First most s t k (Wants most s «type_id» d) ws
+    first most ws w = subst (λ (x : Wanted). Nexts most s «type_id» ws x) q (h most ws w)
 
-    split : (most : ℕ) (ws : List Want) (f : First most s t k (Wants most s kind d) ws)
-        → ended (pieces (each ws)) s at ≡ pieces (credentialPieces t k []) .run s at Q.Refused (λ b m. ended (pieces (each (f .others))) s m)
+    split : (most : ℕ) (ws : List Want) (f : First most s t k (Wants most s «type_id» d) ws)
+        → ended (pieces (each ws)) s at ≡ pieces (credentialPieces t k []) .parse s at Q.Refused (λ b m. ended (pieces (each (f .others))) s m)
     split most ws f =
         ap (λ (ws : List Want). ended (pieces (each ws)) s at) (f .all)
-        ∙ each-then s Q.Refused Q.Next (f .want) (f .others) at
-        ∙ ap₂ (λ (i j : ℕ). pieces (credentialPieces i j []) .run s at Q.Refused (λ b m. ended (pieces (each (f .others))) s m)) (sym (f .type)) (sym (f .signatures))
+        ∙ each-then s Q.Refused Q.At (f .want) (f .others) at
+        ∙ ap₂ (λ (i j : ℕ). pieces (credentialPieces i j []) .parse s at Q.Refused (λ b m. ended (pieces (each (f .others))) s m)) (sym (f .type))
+        (sym (f .signatures))
 
-    pub beside-refused : (e : Refusal) → y ≡ Q.Refused e → Beside kind s c n at (Q.Refused e)
+    pub beside-refused : (e : Refusal) → y ≡ Q.Refused e → Beside «type_id» s c n at (Q.Refused e)
     beside-refused e i most ws w l =
         let f = first most ws w in
-        W.stops (pieces (credentialPieces t k [])) Part s at (Q.Refused e) Q.Refused _ y e g i refl ∙ sym (split most ws f)
+        W.stops (pieces (credentialPieces t k [])) End s at (Q.Refused e) Q.Refused _ y e g i refl ∙ sym (split most ws f)
 
-    pub beside-past : (r : Part) (m : ℕ) → y ≡ Q.Next m → Beside kind s d (n - 1) m r → Beside kind s c n at r
+    pub beside-past : (r : End) (m : ℕ) → y ≡ Q.At m → Beside «type_id» s d (n - 1) m r → Beside «type_id» s c n at r
     beside-past r m i b most ws w l =
         let f = first most ws w in
         let left : length (f .others) ≡ n - 1 = omega (arith, ap length (f .all)) in
-        W.ends (pieces (credentialPieces t k [])) Part s at r Q.Refused _ y m g i (λ v. b most (f .others) (f .behind) left) ∙ sym (split most ws f)
+        W.ends (pieces (credentialPieces t k [])) End s at r Q.Refused _ y m g i (λ v. b most (f .others) (f .behind) left) ∙ sym (split most ws f)
 
-pub beside-done : (s : List ℕ) (kind : ℕ) (c : Wanting) (n at : ℕ) → n ≤ 0 → Beside kind s c n at (Q.Next at)
+pub beside-done : (s : List ℕ) («type_id» : ℕ) (c : Wanting) (n at : ℕ) → n ≤ 0 → Beside «type_id» s c n at (Q.At at)
 unfolding each pieces
-beside-done s kind c n at h most [] w l = refl
-beside-done s kind c n at h most (d ∷ ws) w l = absurd (omega arith)
+beside-done s «type_id» c n at h most [] w l = refl
+beside-done s «type_id» c n at h most (d ∷ ws) w l = absurd (omega arith)
 
 -- ---- all credentials
 
 -- the outputs ask for nothing, and are passed
-body : (most : ℕ) (s : List ℕ) → Slice s → (d : Head Kind) (v : Value (plan (d .kind))) (a k : ℕ) → a ≡ length (head (avm most) .write d) → read (form most (plan (d .kind))) s a ≡ took v k
-    → Wants most s (layout most (d, v) .kind) (firstWanting (layout most (d, v))) (wants (avm most) (d, v))
+body : (most : ℕ) (s : List ℕ) → Slice s → (d : Head TransactionType) (v : Value (plan (d .type))) (a k : ℕ) → a ≡ length (head (avm most) .write d)
+    → read (form most (plan (d .type))) s a ≡ took v k
+    → Wants most s (layout most (d, v) .«type_id») (firstWanting (layout most (d, v))) (wants (avm most) (d, v))
 unfolding form wants wanted
 body most s b d v a k ha e =
-    let o : Plan = tail (plan (d .kind)) in
+    let o : Plan = tail (plan (d .type)) in
     let f = front-of most (listOf L.Output 0) o s a v k e in
     let ws : asked (elementAsks L.Output) (v .0) ++ wanted o (v .1) ≡ wanted o (v .1) =
     ap (λ (l : List Want). l ++ wanted o (v .1)) (none-asked none (λ v. 0) 0 refl refl (v .0)) in
     let others : f .others ≡ v .1 = cc in
-    let outs : f .part ≡ v .0 = cc in
+    let outs : f .between ≡ v .0 = cc in
     let place : f .next ≡ length (head (avm most) .write d) + length (listOf L.Output 0 .write (v .0)) =
-    written-next (listOf L.Output 0) s a (f .part) (f .next) b (f .first)
+    written-next (listOf L.Output 0) s a (f .between) (f .next) b (f .first)
     ∙ ap₂ (λ (i : ℕ) (l : List _). i + length (listOf L.Output 0 .write l)) ha outs in
-    rw (kindOf-code (d .kind))
+    rw (typeOf-id (d .type))
     (list-over most s 0 o _ _
     (record {
       value = v .1;
@@ -98,13 +100,13 @@ body most s b d v a k ha e =
     }))
 
 pub first-wants : (most : ℕ) (s : List ℕ) (u : Unsigned (avm most)) (n : ℕ) → Slice s → read (unsigned (avm most)) s 0 ≡ took u n
-    → Wants most s (layout most u .kind) (firstWanting (layout most u)) (wants (avm most) u)
+    → Wants most s (layout most u .«type_id») (firstWanting (layout most u)) (wants (avm most) u)
 unfolding unsigned
 first-wants most s u n b e =
-    let (d, a, ed, e₁) = run-inv (head (avm most)) s 0 (λ d a. form most (plan (d .kind)) .run s a _ (λ v k. took (d, v) k)) u n e in
-    let (v, k, ev, e₂) = run-inv (form most (plan (d .kind))) s a (λ v k. took (d, v) k) u n e₁ in
+    let (d, a, ed, e₁) = parse-inv (head (avm most)) s 0 (λ d a. form most (plan (d .type)) .parse s a _ (λ v k. took (d, v) k)) u n e in
+    let (v, k, ev, e₂) = parse-inv (form most (plan (d .type))) s a (λ v k. took (d, v) k) u n e₁ in
     let same : (d, v) ≡ u = cc in
-    subst (λ (u : Unsigned (avm most)). Wants most s (layout most u .kind) (firstWanting (layout most u)) (wants (avm most) u)) same
+    subst (λ (u : Unsigned (avm most)). Wants most s (layout most u .«type_id») (firstWanting (layout most u)) (wants (avm most) u)) same
     (body most s b d v a k (omega (arith, written-next (head (avm most)) s 0 d a b ed)) ev)
 
 -- the credentials' count stands where the unsigned part ends
@@ -113,8 +115,8 @@ pub credentials-stand : (most : ℕ) (s : List ℕ) (u : Unsigned (avm most)) (a
 credentials-stand most s u at w b e h =
     omega (arith, written-next (unsigned (avm most)) s 0 u at b e, layout-credentials most u, ap (λ (v : Layout). v .«credentials_at») h)
 
-module _ (w : Layout) (s : List ℕ) (b : Slice s) (x : Number) (p : x ≡ valued (number 4) s (w .«credentials_at»)) where
-  on-place : (r : Part)
+module _ (w : Layout) (s : List ℕ) (b : Slice s) (x : Integer) (p : x ≡ valued (integer 4) s (w .«credentials_at»)) where
+  on-place : (r : End)
       → ((most : ℕ) (u : Unsigned (avm most)) → read (unsigned (avm most)) s 0 ≡ took u (w .«credentials_at») → w ≡ layout most u
       → r ≡ ended (credentials (wants (avm most) u)) s (w .«credentials_at»))
       → CredentialsAt w s r
@@ -123,7 +125,7 @@ module _ (w : Layout) (s : List ℕ) (b : Slice s) (x : Number) (p : x ≡ value
       subst (λ (j : ℕ). r ≡ ended (credentials (wants (avm most) u)) s j) (sym i) (g most u (e ∙ ap (took u) i) h)
 
 module _ (most : ℕ) (w : Layout) (s : List ℕ) (at : ℕ) (u : Unsigned (avm most)) (e : read (unsigned (avm most)) s 0 ≡ took u at) (h : w ≡ layout most u)
-    (x : Number) (p : x ≡ valued (number 4) s at) where
+    (x : Integer) (p : x ≡ valued (integer 4) s at) where
   abbrev Wanting-here : List Want
   Wanting-here = wants (avm most) u
 
@@ -137,17 +139,17 @@ module _ (most : ℕ) (w : Layout) (s : List ℕ) (at : ℕ) (u : Unsigned (avm 
       W.on-value 4 s at _ Q.Refused _ x c i p q
       (W.if-ne c (length Wanting-here) _ _ _ (λ j. o (j ∙ sym (ap (λ (v : Layout). v .«credentials_count») h))) refl)
 
-  count-same : (c i : ℕ) (r : Part) → x ≡ N.Value c i → c ≡ w .«credentials_count» → Slice s → Beside (w .kind) s (firstWanting w) c i r
+  count-same : (c i : ℕ) (r : End) → x ≡ N.Value c i → c ≡ w .«credentials_count» → Slice s → Beside (w .«type_id») s (firstWanting w) c i r
       → r ≡ ended (credentials Wanting-here) s at
   unfolding credentials Credentials.layout pieces constant wants
   count-same c i r q o b d =
       let counts : c ≡ length Wanting-here = o ∙ ap (λ (v : Layout). v .«credentials_count») h in
-      let here : Wants most s (w .kind) (firstWanting w) Wanting-here =
-      subst (λ (v : Layout). Wants most s (v .kind) (firstWanting v) Wanting-here) (sym h) (first-wants most s u at b e) in
+      let here : Wants most s (w .«type_id») (firstWanting w) Wanting-here =
+      subst (λ (v : Layout). Wants most s (v .«type_id») (firstWanting v) Wanting-here) (sym h) (first-wants most s u at b e) in
       W.on-value 4 s at _ Q.Refused _ x c i p q (W.if-eq c (length Wanting-here) _ _ _ counts (d most Wanting-here here (sym counts)))
 
 -- whatever was read before
-module _ (w : Layout) (s : List ℕ) (b : Slice s) (x : Number) (p : x ≡ valued (number 4) s (w .«credentials_at»)) where
+module _ (w : Layout) (s : List ℕ) (b : Slice s) (x : Integer) (p : x ≡ valued (integer 4) s (w .«credentials_at»)) where
   pub counted-short : (d f : Refusal) → x ≡ N.Refused d → f ≡ cutAt 4 s (w .«credentials_at») → CredentialsAt w s (Q.Refused f)
   counted-short d f q g = on-place w s b x p _ (λ most u e h. count-short most w s _ u e h x p d f q g)
 
@@ -156,7 +158,7 @@ module _ (w : Layout) (s : List ℕ) (b : Slice s) (x : Number) (p : x ≡ value
   counted-other c i q o f g =
       subst (λ (e : Refusal). CredentialsAt w s (Q.Refused e)) (sym g) (on-place w s b x p _ (λ most u e h. count-other most w s _ u e h x p c i q o))
 
-  pub counted-same : (c i : ℕ) (r : Part) → x ≡ N.Value c i → c ≡ w .«credentials_count» → (from : Wanting) → from ≡ firstWanting w
-      → Beside (w .kind) s from c i r → CredentialsAt w s r
+  pub counted-same : (c i : ℕ) (r : End) → x ≡ N.Value c i → c ≡ w .«credentials_count» → (from : Wanting) → from ≡ firstWanting w
+      → Beside (w .«type_id») s from c i r → CredentialsAt w s r
   counted-same c i r q o from f d =
-      on-place w s b x p r (λ most u e h. count-same most w s _ u e h x p c i r q o b (subst (λ (from : Wanting). Beside (w .kind) s from c i r) f d))
+      on-place w s b x p r (λ most u e h. count-same most w s _ u e h x p c i r q o b (subst (λ (from : Wanting). Beside (w .«type_id») s from c i r) f d))

@@ -7,13 +7,13 @@ use native.Mathlib.Omega.{arith}
 use native.Mathlib.Nat.{add-zero}
 use lib.ListN.{length, length-append}
 use Rattle.wire.specs.declared.Refusal.{Refusal}
-use Rattle.wire.specs.declared.Part.{Part}
-use Rattle.wire.specs.declared.Part.the-variants as Q
-use Rattle.wire.specs.declared.Number.{Number}
-use Rattle.wire.specs.declared.Number.the-variants as N
-use Rattle.wire.specs.Format.{Format, took, read, run-alike}
+use Rattle.wire.specs.declared.End.{End}
+use Rattle.wire.specs.declared.End.the-variants as Q
+use Rattle.wire.specs.declared.Integer.{Integer}
+use Rattle.wire.specs.declared.Integer.the-variants as N
+use Rattle.wire.specs.Format.{Format, took, read, parse-alike}
 use Rattle.wire.specs.Sequence.{guard}
-use Rattle.wire.specs.Fields.{number}
+use Rattle.wire.specs.Fields.{integer}
 use Rattle.wire.specs.Answer.{ended}
 use Rattle.wire.proofs.Bytes.{Slice, slice-bytes}
 use Rattle.wire.proofs.Reading as W
@@ -28,26 +28,26 @@ use Rattle.transaction.specs.declared.Layout.{Layout}
 use Rattle.transaction.specs.declared.UnsignedRead.{UnsignedRead}
 use Rattle.transaction.specs.declared.UnsignedRead.the-variants as U
 use Rattle.transaction.proofs.Reading.{on-told, on-told-refused}
-use Rattle.due.specs.declared.Due.{Due}
-use Rattle.due.specs.declared.Due.the-variants as D
-use Rattle.due.specs.Plans.{tail, due, Live, dueOf, credentialNumber}
-use Rattle.due.proofs.Rows.{live-phase, live-next, if-nothing, if-end, if-field, if-list}
+use Rattle.plan.specs.declared.Due.{Due}
+use Rattle.plan.specs.declared.Due.the-variants as D
+use Rattle.plan.specs.Due.{tail, due, Live, dueOf, credentialAsked}
+use Rattle.plan.proofs.RowLaws.{live-phase, live-next, if-nothing, if-end, if-field, if-list}
 use Rattle.checker.specs.declared.Passed.{Passed}
 use Rattle.checker.specs.declared.Passed.the-variants as P
 use Rattle.checker.specs.Segments.{passedAt, planAt}
 
 -- ---- how many credentials are asked for: one by each, or none
 
-pub none-wanted : (c : Option CredentialType) (t n : ℕ) → t ≡ credentialNumber c → t ≡ 0 → wantOf c n ≡ []
+pub none-wanted : (c : Option CredentialType) (t n : ℕ) → t ≡ credentialAsked c → t ≡ 0 → wantOf c n ≡ []
 none-wanted none t n i z = refl
 none-wanted (some secpCredential) t n i z = absurd (omega arith)
 none-wanted (some nftCredential) t n i z = absurd (omega arith)
 
-pub one-wanted : (c : Option CredentialType) (t n : ℕ) → t ≡ credentialNumber c → (t ≡ 0 → ⊥) → length (wantOf c n) ≡ 1
+pub one-wanted : (c : Option CredentialType) (t n : ℕ) → t ≡ credentialAsked c → (t ≡ 0 → ⊥) → length (wantOf c n) ≡ 1
 one-wanted none t n i z = absurd (z i)
 one-wanted (some c) t n i z = refl
 
-module _ {A : Type 0} (c : Option CredentialType) (f : A → ℕ) (t : ℕ) (i : t ≡ credentialNumber c) where
+module _ {A : Type 0} (c : Option CredentialType) (f : A → ℕ) (t : ℕ) (i : t ≡ credentialAsked c) where
   pub none-asked : t ≡ 0 → (v : List A) → asked (λ a. wantOf c (f a)) v ≡ []
   unfolding asked
   none-asked z [] = refl
@@ -75,19 +75,19 @@ module _ (most : ℕ) (p : Plan) (s : List ℕ) (at : ℕ) (x : Due) (h : x ≡ 
   abbrev Passes : Passed → Plan → Type 0
   Passes z p = z ≡ passedAt most p s at
 
-  pub passed-nothing : x ≡ D.Nothing → P.End ≡ passedAt most p s at
-  passed-nothing q = if-nothing x (Passes P.End) p h q refl
+  pub passed-nothing : x ≡ D.Nothing → P.Nothing ≡ passedAt most p s at
+  passed-nothing q = if-nothing x (Passes P.Nothing) p h q refl
 
-  pub passed-end : x ≡ D.End → P.End ≡ passedAt most p s at
-  passed-end q = if-end x (Passes P.End) p h q refl
+  pub passed-end : x ≡ D.Finish → P.Nothing ≡ passedAt most p s at
+  passed-end q = if-end x (Passes P.Nothing) p h q refl
 
-  module _ (f : FieldName) (q : x ≡ D.Field f) (y : Part) (w : y ≡ ended (contentOf most f) s at) where
-    pub passed-field-silent : (n t : ℕ) → y ≡ Q.Next n → t ≡ credentialNumber (fieldCredential f) → t ≡ 0 → P.Past 0 n ≡ passedAt most p s at
+  module _ (f : FieldName) (q : x ≡ D.Field f) (y : End) (w : y ≡ ended (contentOf most f) s at) where
+    pub passed-field-silent : (n t : ℕ) → y ≡ Q.At n → t ≡ credentialAsked (fieldCredential f) → t ≡ 0 → P.Past 0 n ≡ passedAt most p s at
     passed-field-silent n t i j o =
         if-field x (Passes (P.Past 0 n)) p h f q (λ q. W.ends (contentOf most f) Passed s at _ P.Refused _ y n w i (λ v.
         ap (λ (ws : List Want). P.Past (length ws) n) (sym (none-wanted (fieldCredential f) t (fieldSignatures f v) j o))))
 
-    pub passed-field-asking : (n t : ℕ) → y ≡ Q.Next n → t ≡ credentialNumber (fieldCredential f) → (t ≡ 0 → ⊥) → P.Past 1 n ≡ passedAt most p s at
+    pub passed-field-asking : (n t : ℕ) → y ≡ Q.At n → t ≡ credentialAsked (fieldCredential f) → (t ≡ 0 → ⊥) → P.Past 1 n ≡ passedAt most p s at
     passed-field-asking n t i j o =
         if-field x (Passes (P.Past 1 n)) p h f q (λ q. W.ends (contentOf most f) Passed s at _ P.Refused _ y n w i (λ v.
         ap (λ k. P.Past k n) (sym (one-wanted (fieldCredential f) t (fieldSignatures f v) j o))))
@@ -95,16 +95,17 @@ module _ (most : ℕ) (p : Plan) (s : List ℕ) (at : ℕ) (x : Due) (h : x ≡ 
     pub passed-field-refused : (e : Refusal) → y ≡ Q.Refused e → P.Refused e ≡ passedAt most p s at
     passed-field-refused e i = if-field x (Passes (P.Refused e)) p h f q (λ q. W.stops (contentOf most f) Passed s at _ P.Refused _ y e w i refl)
 
-  module _ (l : ListName) (least : ℕ) (q : x ≡ D.List l least) (y : Number) (w : y ≡ listAt l least s at) where
+  module _ (l : ListName) (least : ℕ) (q : x ≡ D.List l least) (y : Integer) (w : y ≡ listAt l least s at) where
     counting : (c n : ℕ) (z : Passed) → y ≡ N.Value c n
         → ((v : List (elementsOf l .Element)) → c ≡ length v → z ≡ P.Past (length (asked (elementAsks l) v)) n) → z ≡ passedAt most p s at
     counting c n z i j = if-list x (Passes z) p h l least q (λ q. on-told (listOf l least) length s at z P.Refused _ y w c n i (λ v e t. j v e))
 
-    pub passed-silent : (c n t : ℕ) → y ≡ N.Value c n → t ≡ credentialNumber (elementsOf l .credential) → t ≡ 0 → P.Past 0 n ≡ passedAt most p s at
+    pub passed-silent : (c n t : ℕ) → y ≡ N.Value c n → t ≡ credentialAsked (elementsOf l .credential) → t ≡ 0 → P.Past 0 n ≡ passedAt most p s at
     passed-silent c n t i j o =
-        counting c n (P.Past 0 n) i (λ v e. ap (λ (ws : List Want). P.Past (length ws) n) (sym (none-asked (elementsOf l .credential) (elementsOf l .signatures) t j o v)))
+        counting c n (P.Past 0 n) i
+        (λ v e. ap (λ (ws : List Want). P.Past (length ws) n) (sym (none-asked (elementsOf l .credential) (elementsOf l .signatures) t j o v)))
 
-    pub passed-asking : (c n t : ℕ) → y ≡ N.Value c n → t ≡ credentialNumber (elementsOf l .credential) → (t ≡ 0 → ⊥)
+    pub passed-asking : (c n t : ℕ) → y ≡ N.Value c n → t ≡ credentialAsked (elementsOf l .credential) → (t ≡ 0 → ⊥)
         → P.Past c n ≡ passedAt most p s at
     passed-asking c n t i j o =
         counting c n (P.Past c n) i (λ v e. ap (λ k. P.Past k n) (e ∙ sym (each-asked (elementsOf l .credential) (elementsOf l .signatures) t j o v)))
@@ -113,56 +114,60 @@ module _ (most : ℕ) (p : Plan) (s : List ℕ) (at : ℕ) (x : Due) (h : x ≡ 
     passed-list-refused e i =
         if-list x (Passes (P.Refused e)) p h l least q (λ q. on-told-refused (listOf l least) length s at _ P.Refused _ y w e i refl)
 
-pub ruleset passing = (passed-nothing, passed-end, passed-field-silent, passed-field-asking, passed-field-refused, passed-silent, passed-asking, passed-list-refused)
+pub ruleset passing =
+    (passed-nothing, passed-end, passed-field-silent, passed-field-asking, passed-field-refused, passed-silent, passed-asking, passed-list-refused)
 
 -- ---- the loop
 
 -- a segment F, of which each value asks for something, and what is behind it
 module _ {A : Type 0} (F : Format A) (asks : A → List Want) (s : List ℕ) (at : ℕ) (x : Passed)
-    (h : x ≡ F .run s at P.Refused (λ v n. P.Past (length (asks v)) n)) where
+    (h : x ≡ F .parse s at P.Refused (λ v n. P.Past (length (asks v)) n)) where
   abbrev past : A → ℕ → Passed
   past v n = P.Past (length (asks v)) n
 
-  never-end : {R : Type 0} (z : R) (stop : Refusal → R) (go : A → ℕ → R) → x ≡ P.End → z ≡ F .run s at stop go
+  never-end : {R : Type 0} (z : R) (stop : Refusal → R) (go : A → ℕ → R) → x ≡ P.Nothing → z ≡ F .parse s at stop go
   never-end z stop go q =
-      on-whole F P.Refused past s at z stop go x h P.End at q (λ d i. cc) (λ v m i. let z : _≡_ {A = ℕ} 0 1 = cc in absurd (omega arith))
+      on-whole F P.Refused past s at z stop go x h P.Nothing at q (λ d i. cc) (λ v m i. let z : _≡_ {A = ℕ} 0 1 = cc in absurd (omega arith))
       (λ v i t. let z : _≡_ {A = ℕ} 0 1 = cc in absurd (omega arith))
 
-  on-stop : {R : Type 0} (stop : Refusal → R) (go : A → ℕ → R) (e : Refusal) → x ≡ P.Refused e → stop e ≡ F .run s at stop go
+  on-stop : {R : Type 0} (stop : Refusal → R) (go : A → ℕ → R) (e : Refusal) → x ≡ P.Refused e → stop e ≡ F .parse s at stop go
   on-stop stop go e q = on-refused F P.Refused past s at _ stop go x h e q (λ v m i. cc) (λ d i. cc) refl
 
   on-past : {R : Type 0} (z : R) (stop : Refusal → R) (go : A → ℕ → R) (c n : ℕ) → x ≡ P.Past c n
-      → ((v : A) → c ≡ length (asks v) → read F s at ≡ took v n → z ≡ go v n) → z ≡ F .run s at stop go
+      → ((v : A) → c ≡ length (asks v) → read F s at ≡ took v n → z ≡ go v n) → z ≡ F .parse s at stop go
   on-past z stop go c n q e = on-whole F P.Refused past s at z stop go x h (P.Past c n) n q (λ d i. cc) (λ v m i. cc) (λ v i t. e v (cc) t)
 
 abbrev layoutOf : ℕ → ℕ → ℕ → ℕ → Layout
-layoutOf kind inputs w at = record { kind = kind; «inputs_at» = inputs; «credentials_count» = w; «credentials_at» = at }
+layoutOf «type_id» inputs w at = record { «type_id» = «type_id»; «inputs_at» = inputs; «credentials_count» = w; «credentials_at» = at }
 
-module _ (most kind inputs w : ℕ) (s : List ℕ) (at : ℕ) (x : Passed) where
-  pub plan-end : (p : Plan) → x ≡ passedAt most p s at → x ≡ P.End → U.Whole (layoutOf kind inputs w at) ≡ planAt most kind inputs w p s at
+module _ (most «type_id» inputs w : ℕ) (s : List ℕ) (at : ℕ) (x : Passed) where
+  pub plan-end : (p : Plan) → x ≡ passedAt most p s at → x ≡ P.Nothing → U.Whole (layoutOf «type_id» inputs w at) ≡ planAt most «type_id» inputs w p s at
   unfolding form wanted
   plan-end shut h q = rw add-zero
   plan-end end h q = rw add-zero
   plan-end (field f p) h q = never-end (contentOf most f) (fieldAsks f) s at x h _ U.Refused _ q
   plan-end (many l least p) h q = never-end (listOf l least) (asked (elementAsks l)) s at x h _ U.Refused _ q
 
-  pub plan-refused : (p : Plan) (e : Refusal) → x ≡ passedAt most p s at → x ≡ P.Refused e → U.Refused e ≡ planAt most kind inputs w p s at
+  pub plan-refused : (p : Plan) (e : Refusal) → x ≡ passedAt most p s at → x ≡ P.Refused e → U.Refused e ≡ planAt most «type_id» inputs w p s at
   unfolding form wanted
   plan-refused shut e h q = let z : _≡_ {A = ℕ} 0 1 = cc in absurd (omega arith)
   plan-refused end e h q = let z : _≡_ {A = ℕ} 0 1 = cc in absurd (omega arith)
   plan-refused (field f p) e h q = on-stop (contentOf most f) (fieldAsks f) s at x h U.Refused _ e q
   plan-refused (many l least p) e h q = on-stop (listOf l least) (asked (elementAsks l)) s at x h U.Refused _ e q
 
-  pub plan-past : (p : Plan) (c n : ℕ) → x ≡ passedAt most p s at → x ≡ P.Past c n → planAt most kind inputs (w + c) (tail p) s n ≡ planAt most kind inputs w p s at
+  pub plan-past : (p : Plan) (c n : ℕ) → x ≡ passedAt most p s at → x ≡ P.Past c n
+      → planAt most «type_id» inputs (w + c) (tail p) s n ≡ planAt most «type_id» inputs w p s at
   unfolding form wanted
   plan-past shut c n h q = let z : _≡_ {A = ℕ} 0 1 = cc in absurd (omega arith)
   plan-past end c n h q = let z : _≡_ {A = ℕ} 0 1 = cc in absurd (omega arith)
   plan-past (field f p) c n h q =
       on-past (contentOf most f) (fieldAsks f) s at x h _ U.Refused _ c n q (λ v e t.
-      run-alike (form most p) s n U.Refused _ _ (λ u m. ap (λ k. U.Whole (layoutOf kind inputs k m)) (omega (arith, length-append (fieldAsks f v) (wanted p u)))))
+      parse-alike (form most p) s n U.Refused _ _
+      (λ u m. ap (λ k. U.Whole (layoutOf «type_id» inputs k m)) (omega (arith, length-append (fieldAsks f v) (wanted p u)))))
   plan-past (many l least p) c n h q =
       on-past (listOf l least) (asked (elementAsks l)) s at x h _ U.Refused _ c n q (λ v e t.
-      run-alike (form most p) s n U.Refused _ _ (λ u m. ap (λ k. U.Whole (layoutOf kind inputs k m)) (omega (arith, length-append (asked (elementAsks l) v) (wanted p u)))))
+      parse-alike (form most p) s n U.Refused _ _
+      (λ u m. ap (λ k. U.Whole (layoutOf «type_id» inputs k m)) (omega (arith, length-append (asked (elementAsks l) v) (wanted p u)))))
 
 -- something was passed: so something was due, in one of the eight phases
 past-live : (most : ℕ) (s : List ℕ) (at : ℕ) (x : Passed) (c n : ℕ) → x ≡ P.Past c n → (p : Plan) → x ≡ passedAt most p s at → Live p
@@ -172,7 +177,7 @@ past-live most s at x c n q (field f p) h = tt
 past-live most s at x c n q (many l least p) h = tt
 
 sized : {A : Type 0} (least : ℕ) (E : List ℕ → Format A) (v : List A) → atLeast least E .Good v → length v < 2 ^ 32
-unfolding atLeast guard number
+unfolding atLeast guard integer
 sized least E v g = omega (arith, g .0 .0)
 
 few : (most : ℕ) (s : List ℕ) (at : ℕ) (x : Passed) (c n : ℕ) → Slice s → x ≡ P.Past c n → (p : Plan) → x ≡ passedAt most p s at → c < 2 ^ 32
@@ -193,28 +198,29 @@ few most s at x c n b q (many l least p) h =
       sized least (elementsOf l .element) v (listOf l least .sound s at v m (slice-bytes s b) t .0),
     )
 
-module _ (most kind phase : ℕ) (s : List ℕ) (at : ℕ) (x : Passed) (c n : ℕ) (h : x ≡ passedAt most (due phase (planOf kind)) s at) (q : x ≡ P.Past c n) where
-  live : Live (due phase (planOf kind))
-  live = past-live most s at x c n q (due phase (planOf kind)) h
+module _ (most «type_id» phase : ℕ) (s : List ℕ) (at : ℕ) (x : Passed) (c n : ℕ) (h : x ≡ passedAt most (due phase (planOf «type_id»)) s at)
+    (q : x ≡ P.Past c n) where
+  live : Live (due phase (planOf «type_id»))
+  live = past-live most s at x c n q (due phase (planOf «type_id»)) h
 
   pub past-phase : phase ≤ 8
-  past-phase = live-phase kind phase live
+  past-phase = live-phase «type_id» phase live
 
   pub past-few : Slice s → c < 2 ^ 32
-  past-few b = few most s at x c n b q (due phase (planOf kind)) h
+  past-few b = few most s at x c n b q (due phase (planOf «type_id»)) h
 
-  past-next : due (phase + 1) (planOf kind) ≡ tail (due phase (planOf kind))
-  past-next = live-next kind phase live
+  past-next : due (phase + 1) (planOf «type_id») ≡ tail (due phase (planOf «type_id»))
+  past-next = live-next «type_id» phase live
 
 -- what is left of the plan gives y
-module _ (most kind inputs phase w : ℕ) (s : List ℕ) (at : ℕ) (x : Passed) (y : UnsignedRead)
-    (i : planAt most kind inputs w (due phase (planOf kind)) s at ≡ y) (h : x ≡ passedAt most (due phase (planOf kind)) s at) where
-  pub turn-end : x ≡ P.End → U.Whole (layoutOf kind inputs w at) ≡ y
-  turn-end q = plan-end most kind inputs w s at x (due phase (planOf kind)) h q ∙ i
+module _ (most «type_id» inputs phase w : ℕ) (s : List ℕ) (at : ℕ) (x : Passed) (y : UnsignedRead)
+    (i : planAt most «type_id» inputs w (due phase (planOf «type_id»)) s at ≡ y) (h : x ≡ passedAt most (due phase (planOf «type_id»)) s at) where
+  pub turn-end : x ≡ P.Nothing → U.Whole (layoutOf «type_id» inputs w at) ≡ y
+  turn-end q = plan-end most «type_id» inputs w s at x (due phase (planOf «type_id»)) h q ∙ i
 
   pub turn-refused : (e : Refusal) → x ≡ P.Refused e → U.Refused e ≡ y
-  turn-refused e q = plan-refused most kind inputs w s at x (due phase (planOf kind)) e h q ∙ i
+  turn-refused e q = plan-refused most «type_id» inputs w s at x (due phase (planOf «type_id»)) e h q ∙ i
 
-  pub turn-past : (c n : ℕ) → x ≡ P.Past c n → planAt most kind inputs (w + c) (due (phase + 1) (planOf kind)) s n ≡ y
+  pub turn-past : (c n : ℕ) → x ≡ P.Past c n → planAt most «type_id» inputs (w + c) (due (phase + 1) (planOf «type_id»)) s n ≡ y
   turn-past c n q =
-      rw (past-next most kind phase s at x c n h q) (plan-past most kind inputs w s at x (due phase (planOf kind)) c n h q ∙ i)
+      rw (past-next most «type_id» phase s at x c n h q) (plan-past most «type_id» inputs w s at x (due phase (planOf «type_id»)) c n h q ∙ i)

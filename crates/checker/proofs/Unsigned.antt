@@ -6,51 +6,51 @@ use mathlib.Core.List.{List, _++_}
 use native.Mathlib.Omega.{arith}
 use lib.ListN.{length, length-append}
 use Rattle.wire.specs.declared.Refusal.{Refusal}
-use Rattle.wire.specs.declared.Part.{Part}
-use Rattle.wire.specs.declared.Part.the-variants as Q
-use Rattle.wire.specs.declared.Number.{Number}
-use Rattle.wire.specs.declared.Number.the-variants as N
+use Rattle.wire.specs.declared.End.{End}
+use Rattle.wire.specs.declared.End.the-variants as Q
+use Rattle.wire.specs.declared.Integer.{Integer}
+use Rattle.wire.specs.declared.Integer.the-variants as N
 use Rattle.wire.specs.Format.{Format, Result, took, refused, onResult, read}
 use Rattle.wire.specs.Answer.{ended}
 use Rattle.wire.proofs.Bytes.{Slice}
 use Rattle.wire.proofs.Reading as W
 use Rattle.element.proofs.Reading.{answer-took}
-use Rattle.transaction.specs.Plan.{Plan, plan, kindCode, kindOf, kindOf-code, planOf}
+use Rattle.transaction.specs.Plan.{Plan, plan, typeId, typeOf, typeOf-id, planOf}
 use Rattle.transaction.specs.Form.{listOf, form, elementAsks, asked, wanted}
 use Rattle.transaction.specs.Avm.{avm}
 use Rattle.transaction.specs.Family.{Head, head}
 use Rattle.transaction.specs.Answer.{memoMost, headAt, layout}
-use Rattle.transaction.specs.declared.Kind.{Kind}
-use Rattle.transaction.specs.declared.Kind.the-variants as K
+use Rattle.transaction.specs.declared.TransactionType.{TransactionType}
+use Rattle.transaction.specs.declared.TransactionType.the-variants as K
 use Rattle.transaction.specs.declared.ListName.the-variants as L
 use Rattle.transaction.specs.declared.Layout.{Layout}
 use Rattle.transaction.specs.declared.UnsignedRead.{UnsignedRead}
 use Rattle.transaction.specs.declared.UnsignedRead.the-variants as U
 use Rattle.transaction.proofs.Reading.{on-told, on-told-refused, written-next}
-use Rattle.due.specs.Plans.{tail, due}
+use Rattle.plan.specs.Due.{tail, due}
 use Rattle.checker.specs.Segments.{planAt}
 use Rattle.checker.proofs.Planning.{none-asked}
 
-module _ {R : Type 0} (most : ℕ) (s : List ℕ) (z : R) (stop : Refusal → R) (go : Head Kind → ℕ → R) (x : Number) (p : x ≡ headAt s 0) where
-  pub on-head : (k n : ℕ) → x ≡ N.Value k n → ((h : Head Kind) → k ≡ kindCode (h .kind) → read (head (avm most)) s 0 ≡ took h n → z ≡ go h n)
-      → z ≡ head (avm most) .run s 0 stop go
+module _ {R : Type 0} (most : ℕ) (s : List ℕ) (z : R) (stop : Refusal → R) (go : Head TransactionType → ℕ → R) (x : Integer) (p : x ≡ headAt s 0) where
+  pub on-head : (k n : ℕ) → x ≡ N.Value k n → ((h : Head TransactionType) → k ≡ typeId (h .type) → read (head (avm most)) s 0 ≡ took h n → z ≡ go h n)
+      → z ≡ head (avm most) .parse s 0 stop go
   unfolding head
-  on-head = on-told (head (avm most)) (λ h. kindCode (h .kind)) s 0 z stop go x p
+  on-head = on-told (head (avm most)) (λ h. typeId (h .type)) s 0 z stop go x p
 
-  pub on-head-refused : (e : Refusal) → x ≡ N.Refused e → z ≡ stop e → z ≡ head (avm most) .run s 0 stop go
+  pub on-head-refused : (e : Refusal) → x ≡ N.Refused e → z ≡ stop e → z ≡ head (avm most) .parse s 0 stop go
   unfolding head
-  on-head-refused = on-told-refused (head (avm most)) (λ h. kindCode (h .kind)) s 0 z stop go x p
+  on-head-refused = on-told-refused (head (avm most)) (λ h. typeId (h .type)) s 0 z stop go x p
 
 -- a type's number is small
-pub head-small : (s : List ℕ) (x : Number) (k n : ℕ) → x ≡ headAt s 0 → x ≡ N.Value k n → k < 2 ^ 32
+pub head-small : (s : List ℕ) (x : Integer) (k n : ℕ) → x ≡ headAt s 0 → x ≡ N.Value k n → k < 2 ^ 32
 unfolding head
 head-small s x k n p q =
-    let (h, m, t, i) = answer-took (head (avm memoMost)) s 0 N.Refused (λ h n. N.Value (kindCode (h .kind)) n) x p (N.Value k n) q
+    let (h, m, t, i) = answer-took (head (avm memoMost)) s 0 N.Refused (λ h n. N.Value (typeId (h .type)) n) x p (N.Value k n) q
     (λ e i. let z : _≡_ {A = ℕ} 0 1 = cc in omega arith) in
-    let e : kindCode (h .kind) ≡ k = cc in
-    omega (arith, code-small (h .kind))
+    let e : typeId (h .type) ≡ k = cc in
+    omega (arith, code-small (h .type))
   where
-    code-small : (k : Kind) → kindCode k < 5
+    code-small : (k : TransactionType) → typeId k < 5
     code-small K.Base = omega arith
     code-small K.CreateAsset = omega arith
     code-small K.Operation = omega arith
@@ -58,46 +58,46 @@ head-small s x k n p q =
     code-small K.Export = omega arith
 
 -- what goes on with a value that was read
-run-read : {A R : Type 0} (F : Format A) (s : List ℕ) (at : ℕ) (stop : Refusal → R) (go on : A → ℕ → R)
-    → ((v : A) (n : ℕ) → read F s at ≡ took v n → go v n ≡ on v n) → F .run s at stop go ≡ F .run s at stop on
-run-read F s at stop go on h = F .same s at stop go ∙ cases (read F s at) refl ∙ sym (F .same s at stop on)
+parse-read : {A R : Type 0} (F : Format A) (s : List ℕ) (at : ℕ) (stop : Refusal → R) (go on : A → ℕ → R)
+    → ((v : A) (n : ℕ) → read F s at ≡ took v n → go v n ≡ on v n) → F .parse s at stop go ≡ F .parse s at stop on
+parse-read F s at stop go on h = F .same s at stop go ∙ cases (read F s at) refl ∙ sym (F .same s at stop on)
   where
     cases : (o : Result _) → read F s at ≡ o → onResult o stop go ≡ onResult o stop on
     cases (took v n) e = h v n e
     cases (refused e) q = refl
 
 -- behind a head that was read
-module _ (most : ℕ) (s : List ℕ) (k : ℕ) (h : Head Kind) (n : ℕ) (hk : k ≡ kindCode (h .kind)) (hn : read (head (avm most)) s 0 ≡ took h n)
-    (y : Part) (r : y ≡ ended (listOf L.Output 0) s n) where
+module _ (most : ℕ) (s : List ℕ) (k : ℕ) (h : Head TransactionType) (n : ℕ) (hk : k ≡ typeId (h .type)) (hn : read (head (avm most)) s 0 ≡ took h n)
+    (y : End) (r : y ≡ ended (listOf L.Output 0) s n) where
   abbrev Body : UnsignedRead
-  Body = form most (plan (h .kind)) .run s n U.Refused (λ v m. U.Whole (layout most (h, v)))
+  Body = form most (plan (h .type)) .parse s n U.Refused (λ v m. U.Whole (layout most (h, v)))
 
   pub outputs-refused : (e : Refusal) → y ≡ Q.Refused e → U.Refused e ≡ Body
   unfolding form
   outputs-refused e t = W.stops (listOf L.Output 0) UnsignedRead s n _ U.Refused _ y e r t refl
 
-  pub outputs-passed : (i : ℕ) → y ≡ Q.Next i → Slice s → (z : UnsignedRead) → z ≡ planAt most k i 0 (due 2 (planOf k)) s i → z ≡ Body
+  pub outputs-passed : (i : ℕ) → y ≡ Q.At i → Slice s → (z : UnsignedRead) → z ≡ planAt most k i 0 (due 2 (planOf k)) s i → z ≡ Body
   unfolding form wanted
   outputs-passed i t b z g =
-      let o : Plan = tail (plan (h .kind)) in
-      let same : z ≡ planAt most k i 0 o s i = g ∙ ap (λ (j : Kind). planAt most k i 0 (tail (plan j)) s i) (ap kindOf hk ∙ kindOf-code (h .kind)) in
+      let o : Plan = tail (plan (h .type)) in
+      let same : z ≡ planAt most k i 0 o s i = g ∙ ap (λ (j : TransactionType). planAt most k i 0 (tail (plan j)) s i) (ap typeOf hk ∙ typeOf-id (h .type)) in
       let (outs, eo) = W.next-took (listOf L.Output 0) s n y i r t in
       let a : List ℕ = listOf L.Output 0 .write outs in
       let l : List ℕ = head (avm most) .write h in
       let ei : i ≡ length l + length a = omega (arith, written-next (head (avm most)) s 0 h n b hn, written-next (listOf L.Output 0) s n outs i b eo) in
       same
-      ∙ run-read (form most o) s i U.Refused _ (λ v m. U.Whole (layout most (h, (outs, v)))) (λ v m ev.
+      ∙ parse-read (form most o) s i U.Refused _ (λ v m. U.Whole (layout most (h, (outs, v)))) (λ v m ev.
       let silent : length (asked (elementAsks L.Output) outs) ≡ 0 = ap length (none-asked none (λ v. 0) 0 refl refl outs) in
       let count : 0 + length (wanted o v) ≡ length (asked (elementAsks L.Output) outs ++ wanted o v) =
       omega (arith, length-append (asked (elementAsks L.Output) outs) (wanted o v)) in
       let end : m ≡ length l + length (a ++ form most o .write v) =
       omega (arith, written-next (form most o) s i v m b ev, length-append a (form most o .write v)) in
       ap U.Whole (made k _ i _ _ _ m _ hk ei count end))
-      ∙ sym (W.run-took (listOf L.Output 0) s n U.Refused _ outs i eo)
+      ∙ sym (W.parse-took (listOf L.Output 0) s n U.Refused _ outs i eo)
     where
       made : (k k′ i i′ w w′ m m′ : ℕ) → k ≡ k′ → i ≡ i′ → w ≡ w′ → m ≡ m′
-          → _≡_ {A = Layout} record { kind = k; «inputs_at» = i; «credentials_count» = w; «credentials_at» = m }
-          record { kind = k′; «inputs_at» = i′; «credentials_count» = w′; «credentials_at» = m′ }
+          → _≡_ {A = Layout} record { «type_id» = k; «inputs_at» = i; «credentials_count» = w; «credentials_at» = m }
+          record { «type_id» = k′; «inputs_at» = i′; «credentials_count» = w′; «credentials_at» = m′ }
       made k k′ i i′ w w′ m m′ a b c d = rw (a, b, c, d)
 
 pub ruleset unsigning = (on-head, on-head-refused, outputs-refused, outputs-passed)

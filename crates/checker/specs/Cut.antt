@@ -8,4 +8,4 @@ use Rattle.transaction.specs.Credentials.{signatures, pieces}
 
 -- the refusal of n signatures from `at` on; where all are there, that of one more
 abbrev pub firstCut : ℕ → List ℕ → ℕ → Refusal
-firstCut n s at = pieces (signatures n []) .run s at (λ e. e) (λ l m. cutAt signatureWidth s m)
+firstCut n s at = pieces (signatures n []) .parse s at (λ e. e) (λ l m. cutAt signatureWidth s m)

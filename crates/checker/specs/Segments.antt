@@ -12,13 +12,13 @@ use Rattle.checker.specs.declared.Passed.the-variants as P
 module _ (most : ℕ) where
   -- the first segment of a plan
   abbrev pub passedAt : Plan → List ℕ → ℕ → Passed
-  passedAt shut s at = P.End
-  passedAt end s at = P.End
-  passedAt (field f q) s at = contentOf most f .run s at P.Refused (λ v n. P.Past (length (fieldAsks f v)) n)
-  passedAt (many l least q) s at = listOf l least .run s at P.Refused (λ v n. P.Past (length (asked (elementAsks l) v)) n)
+  passedAt shut s at = P.Nothing
+  passedAt end s at = P.Nothing
+  passedAt (field f q) s at = contentOf most f .parse s at P.Refused (λ v n. P.Past (length (fieldAsks f v)) n)
+  passedAt (many l least q) s at = listOf l least .parse s at P.Refused (λ v n. P.Past (length (asked (elementAsks l) v)) n)
 
   -- all segments of a plan, which want so many credentials, besides w, in a transaction whose inputs stand from a place on
   abbrev pub planAt : ℕ → ℕ → ℕ → Plan → List ℕ → ℕ → UnsignedRead
-  planAt kind inputs w p s at =
-      form most p .run s at U.Refused (λ v n.
-      U.Whole record { kind = kind; «inputs_at» = inputs; «credentials_count» = w + length (wanted p v); «credentials_at» = n })
+  planAt «type_id» inputs w p s at =
+      form most p .parse s at U.Refused (λ v n.
+      U.Whole record { «type_id» = «type_id»; «inputs_at» = inputs; «credentials_count» = w + length (wanted p v); «credentials_at» = n })

@@ -7,13 +7,13 @@ use lib.ListN.{length}
 use Rattle.wire.specs.Format.{took, read}
 use Rattle.wire.specs.Series.{seriesFrom}
 use Rattle.wire.specs.Answer.{ended}
-use Rattle.wire.specs.declared.Part.{Part}
+use Rattle.wire.specs.declared.End.{End}
 use Rattle.transaction.specs.Credentials.{credentialCode, Want, each, pieces}
 use Rattle.transaction.specs.Plan.{elementsOf, Plan, many, planOf}
 use Rattle.transaction.specs.Form.{Value, form, elementAsks, asked, wanted}
 use Rattle.transaction.specs.declared.Layout.{Layout}
 use Rattle.transaction.specs.declared.ListName.{ListName}
-use Rattle.due.specs.Plans.{tail, due, Live, credentialNumber}
+use Rattle.plan.specs.Due.{tail, due, Live, credentialAsked}
 use Rattle.checker.specs.declared.Wanting.{Wanting}
 use Rattle.checker.specs.declared.Begun.{Begun}
 use Rattle.checker.specs.declared.Begun.the-variants as B
@@ -31,7 +31,7 @@ module _ (most : ℕ) (s : List ℕ) where
   -- of a list c elements stand from `at` on, each asks for a credential of the type `asks`, and then the segments of p; together they want ws
   pub record WantsIn (asks c : ℕ) (p : Plan) (at : ℕ) (ws : List Want) : Type 0 where
     pub list : ListName
-    pub type : 0 < c → asks ≡ credentialNumber (elementsOf list .credential)
+    pub type : 0 < c → asks ≡ credentialAsked (elementsOf list .credential)
     pub asking : 0 < c → asks ≡ 0 → ⊥
     pub prev : List ℕ
     pub elements : List (elementsOf list .Element)
@@ -52,17 +52,17 @@ module _ (most : ℕ) (s : List ℕ) where
 
   -- a segment is begun, behind which is p
   abbrev pub BegunAs : Plan → List Want → Begun → Type 0
-  BegunAs p ws B.End = ws ≡ []
+  BegunAs p ws B.Nothing = ws ≡ []
   BegunAs p ws (B.Into asks c m) = WantsIn asks c p m ws
   BegunAs p ws (B.Asks t n m) = First t n (WantsFrom p m) ws
 
-  module _ (kind : ℕ) where
+  module _ («type_id» : ℕ) where
     -- ws are wanted ahead of a cursor, in a transaction of that type
     abbrev pub Wants : Wanting → List Want → Type 0
-    Wants c ws = WantsIn (c .asks) (c .left) (due (c .phase) (planOf kind)) (c .at) ws
+    Wants c ws = WantsIn (c .asks) (c .left) (due (c .phase) (planOf «type_id»)) (c .at) ws
 
     abbrev pub Nexts : List Want → Wanted → Type 0
-    Nexts ws W.End = ws ≡ []
+    Nexts ws W.Nothing = ws ≡ []
     Nexts ws (W.Credential t n c) = First t n (Wants c) ws
 
 abbrev pub ListBegins : ListName → List ℕ → ℕ → Begun → Type 0
@@ -74,21 +74,21 @@ Begins p s at r = (most : ℕ) (ws : List Want) → WantsFrom most s p at ws →
 
 -- nothing is begun where nothing is due, so that steps end on any bytes
 abbrev pub BegunLive : Plan → Begun → Type 0
-BegunLive p B.End = Unit {0}
+BegunLive p B.Nothing = Unit {0}
 BegunLive p (B.Into asks c m) = Live p
 BegunLive p (B.Asks t n m) = Live p
 
 abbrev pub NextWants : ℕ → List ℕ → Wanting → Wanted → Type 0
-NextWants kind s c r = (most : ℕ) (ws : List Want) → Wants most s kind c ws → Nexts most s kind ws r
+NextWants «type_id» s c r = (most : ℕ) (ws : List Want) → Wants most s «type_id» c ws → Nexts most s «type_id» ws r
 
 -- in a list, whatever is behind it
 abbrev pub ElementWants : List ℕ → Wanting → Wanted → Type 0
-ElementWants s c r = (kind : ℕ) → NextWants kind s c r
+ElementWants s c r = («type_id» : ℕ) → NextWants «type_id» s c r
 
 -- behind the outputs, which ask for nothing
 abbrev pub firstWanting : Layout → Wanting
 firstWanting l = record { phase = 2; asks = 0; at = l .«inputs_at»; left = 0 }
 
 -- the place behind the credentials from `at` on, beside what is wanted ahead of a cursor, which is so much
-abbrev pub Beside : ℕ → List ℕ → Wanting → ℕ → ℕ → Part → Type 0
-Beside kind s c count at r = (most : ℕ) (ws : List Want) → Wants most s kind c ws → length ws ≡ count → r ≡ ended (pieces (each ws)) s at
+abbrev pub Beside : ℕ → List ℕ → Wanting → ℕ → ℕ → End → Type 0
+Beside «type_id» s c count at r = (most : ℕ) (ws : List Want) → Wants most s «type_id» c ws → length ws ≡ count → r ≡ ended (pieces (each ws)) s at

@@ -2,50 +2,50 @@
 // so its elements and fields are passed by their lengths.
 ghost use Prim.Native.Nat.{_<_};
 ghost use Rattle.transaction.specs.Plan.{planOf};
-ghost use Rattle.due.specs.Plans.{due};
+ghost use Rattle.plan.specs.Due.{due};
 ghost use Rattle.checker.specs.Wanted.{ListBegins, Begins, BegunLive, ElementWants, NextWants};
 use crate::Begun;
 use crate::Wanted;
 use crate::Wanting;
-use due::Due;
-use due::plans;
+use plan::Due;
+use plan::rows;
 use transaction::ListName;
-use wire::Number;
-use wire::Part;
+use wire::End;
+use wire::Integer;
 
 // Into a list; one that asks for nothing is passed.
 fn list_begun(s: &[u8], at: usize, list: ListName) -> Begun
     ensures { λ r. ⌜ ListBegins list (now (s .entry)) at r ⌝ }
 {
-    let Number::Value(count, first) = wire::u32_at(s, at) else {
-        return Begun::End;
+    let Integer::Value(count, first) = wire::u32_at(s, at) else {
+        return Begun::Nothing;
     };
-    let asks = plans::credential_of(list);
+    let asks = rows::credential_of(list);
     if asks == 0 {
-        return match plans::elements_past(s, first, count, list) {
-            Part::Refused(_) => Begun::End,
-            Part::Next(next) => Begun::Into(0, 0, next),
+        return match rows::elements_past(s, first, count, list) {
+            End::Refused(_) => Begun::Nothing,
+            End::At(next) => Begun::Into(0, 0, next),
         };
     }
     Begun::Into(asks, count, first)
 }
 
 // Into the segment that comes next.
-fn begun_at(s: &[u8], kind: u32, phase: u32, at: usize) -> Begun
-    ensures { λ r. ⌜ Begins (due phase (planOf kind)) (now (s .entry)) at r ⌝ }
-    ensures { λ r. ⌜ BegunLive (due phase (planOf kind)) r ⌝ }
+fn begun_at(s: &[u8], type_id: u32, phase: u32, at: usize) -> Begun
+    ensures { λ r. ⌜ Begins (due phase (planOf «type_id»)) (now (s .entry)) at r ⌝ }
+    ensures { λ r. ⌜ BegunLive (due phase (planOf «type_id»)) r ⌝ }
 {
-    match plans::due_at(kind, phase) {
-        Due::Nothing => Begun::End,
-        Due::End => Begun::End,
+    match rows::due_at(type_id, phase) {
+        Due::Nothing => Begun::Nothing,
+        Due::Finish => Begun::Nothing,
         Due::List(list, _) => list_begun(s, at, list),
         Due::Field(field) => {
-            let next = plans::field_past(s, at, field);
-            let asks = plans::field_credential(field);
+            let next = rows::field_past(s, at, field);
+            let asks = rows::field_credential(field);
             if asks == 0 {
                 return Begun::Into(0, 0, next);
             }
-            Begun::Asks(asks, plans::field_signatures(s, at, field), next)
+            Begun::Asks(asks, rows::field_signatures(s, at, field), next)
         }
     }
 }
@@ -55,8 +55,8 @@ fn element_wanted(s: &[u8], from: Wanting) -> Wanted
     requires { ⌜ 0 < from .left ⌝ }
     ensures { λ r. ⌜ ElementWants (now (s .entry)) from r ⌝ }
 {
-    let Number::Value(signatures, at) = plans::asking_past(s, from.at, from.asks) else {
-        return Wanted::End;
+    let Integer::Value(signatures, at) = rows::asking_past(s, from.at, from.asks) else {
+        return Wanted::Nothing;
     };
     Wanted::Credential(
         from.asks,
@@ -71,17 +71,17 @@ fn element_wanted(s: &[u8], from: Wanting) -> Wanted
 }
 
 // What is wanted next. The cursor is held field by field, which is faster where this is not inlined.
-pub fn next_wanted(s: &[u8], kind: u32, from: Wanting) -> Wanted
-    ensures { λ r. ⌜ NextWants kind (now (s .entry)) from r ⌝ }
+pub fn next_wanted(s: &[u8], type_id: u32, from: Wanting) -> Wanted
+    ensures { λ r. ⌜ NextWants «type_id» (now (s .entry)) from r ⌝ }
 {
     let mut phase = from.phase;
     let mut asks = from.asks;
     let mut at = from.at;
     let mut left = from.left;
     while left == 0 {
-        match begun_at(s, kind, phase, at) {
-            Begun::End => {
-                return Wanted::End;
+        match begun_at(s, type_id, phase, at) {
+            Begun::Nothing => {
+                return Wanted::Nothing;
             }
             Begun::Asks(credential, signatures, next) => {
                 return Wanted::Credential(

@@ -6,7 +6,7 @@ use crate::credentials;
 use transaction::Checked;
 use transaction::Layout;
 use transaction::UnsignedRead;
-use wire::Part;
+use wire::End;
 use wire::Rule;
 
 // The whole behind an unsigned part that is there.
@@ -14,8 +14,8 @@ fn signed_at(s: &[u8], layout: Layout) -> Checked
     ensures { λ r. ⌜ SignedAt layout (now (s .entry)) r ⌝ }
 {
     match credentials::credentials_at(s, layout) {
-        Part::Refused(refusal) => Checked::Refused(refusal),
-        Part::Next(end) => {
+        End::Refused(refusal) => Checked::Refused(refusal),
+        End::At(end) => {
             if end != s.len() {
                 return Checked::Refused(wire::refuse(Rule::BytesAfterEnd, end));
             }

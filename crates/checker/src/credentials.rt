@@ -11,8 +11,8 @@ use crate::Wanted;
 use crate::Wanting;
 use crate::asking;
 use transaction::Layout;
-use wire::Number;
-use wire::Part;
+use wire::End;
+use wire::Integer;
 use wire::Refusal;
 use wire::Rule;
 
@@ -24,7 +24,7 @@ fn first_cut(s: &[u8], start: usize, count: u64) -> Refusal
     let mut left = count;
     let mut at = start;
     while 0 < left {
-        let Part::Next(next) = wire::part_at(s, at, transaction::SIGNATURE_WIDTH) else {
+        let End::At(next) = wire::field_at(s, at, transaction::SIGNATURE_WIDTH) else {
             return wire::cut(s, at, transaction::SIGNATURE_WIDTH);
         };
         at = next;
@@ -34,31 +34,31 @@ fn first_cut(s: &[u8], start: usize, count: u64) -> Refusal
 }
 
 // So many signatures: one test finds that all are there. Their number has 32 bits, so that the product is a usize.
-fn signatures_at(s: &[u8], start: usize, count: u64) -> Part
+fn signatures_at(s: &[u8], start: usize, count: u64) -> End
     requires { ⌜ count < 256 ^ 4 ⌝ }
     ensures { λ r. ⌜ r ≡ ended (pieces (signatures count [])) (now (s .entry)) start ⌝ }
 {
-    match wire::part_at(s, start, transaction::SIGNATURE_WIDTH * count as usize) {
-        Part::Next(next) => Part::Next(next),
-        Part::Refused(_) => Part::Refused(first_cut(s, start, count)),
+    match wire::field_at(s, start, transaction::SIGNATURE_WIDTH * count as usize) {
+        End::At(next) => End::At(next),
+        End::Refused(_) => End::Refused(first_cut(s, start, count)),
     }
 }
 
 // A credential of the type and of as many signatures as are wanted.
-fn credential_at(s: &[u8], at: usize, kind: u64, wanted: u64) -> Part
-    ensures { λ r. ⌜ r ≡ ended (pieces (credentialPieces kind wanted [])) (now (s .entry)) at ⌝ }
+fn credential_at(s: &[u8], at: usize, type_id: u64, wanted: u64) -> End
+    ensures { λ r. ⌜ r ≡ ended (pieces (credentialPieces «type_id» wanted [])) (now (s .entry)) at ⌝ }
 {
-    let Number::Value(found, n) = wire::u32_at(s, at) else {
-        return Part::Refused(wire::cut(s, at, 4));
+    let Integer::Value(found, n) = wire::u32_at(s, at) else {
+        return End::Refused(wire::cut(s, at, 4));
     };
-    if found != kind {
-        return Part::Refused(wire::refuse(Rule::UnknownType, at));
+    if found != type_id {
+        return End::Refused(wire::refuse(Rule::UnknownType, at));
     }
-    let Number::Value(count, first) = wire::u32_at(s, n) else {
-        return Part::Refused(wire::cut(s, n, 4));
+    let Integer::Value(count, first) = wire::u32_at(s, n) else {
+        return End::Refused(wire::cut(s, n, 4));
     };
     if count != wanted {
-        return Part::Refused(wire::refuse(Rule::WrongCount, n));
+        return End::Refused(wire::refuse(Rule::WrongCount, n));
     }
     signatures_at(s, first, wanted)
 }
@@ -76,8 +76,8 @@ pub fn first_wanting(layout: Layout) -> Wanting
 }
 
 // So many credentials from start, each beside what wants it. The cursor is held field by field, which is faster.
-fn beside(s: &[u8], kind: u32, from: Wanting, count: u64, start: usize) -> Part
-    ensures { λ r. ⌜ Beside kind (now (s .entry)) from count start r ⌝ }
+fn beside(s: &[u8], type_id: u32, from: Wanting, count: u64, start: usize) -> End
+    ensures { λ r. ⌜ Beside «type_id» (now (s .entry)) from count start r ⌝ }
 {
     let mut phase = from.phase;
     let mut asks = from.asks;
@@ -92,15 +92,15 @@ fn beside(s: &[u8], kind: u32, from: Wanting, count: u64, start: usize) -> Part
             at: q,
             left: elements,
         };
-        let Wanted::Credential(credential, signatures, next) = asking::next_wanted(s, kind, c)
+        let Wanted::Credential(credential, signatures, next) = asking::next_wanted(s, type_id, c)
         else {
-            return Part::Next(at);
+            return End::At(at);
         };
         match credential_at(s, at, credential, signatures) {
-            Part::Refused(refusal) => {
-                return Part::Refused(refusal);
+            End::Refused(refusal) => {
+                return End::Refused(refusal);
             }
-            Part::Next(m) => {
+            End::At(m) => {
                 phase = next.phase;
                 asks = next.asks;
                 q = next.at;
@@ -110,19 +110,19 @@ fn beside(s: &[u8], kind: u32, from: Wanting, count: u64, start: usize) -> Part
             }
         }
     }
-    Part::Next(at)
+    End::At(at)
 }
 
 // All of them: their count, and each beside what wants it.
-pub(crate) fn credentials_at(s: &[u8], layout: Layout) -> Part
+pub(crate) fn credentials_at(s: &[u8], layout: Layout) -> End
     ensures { λ r. ⌜ CredentialsAt layout (now (s .entry)) r ⌝ }
 {
     let at = layout.credentials_at;
-    let Number::Value(count, first) = wire::u32_at(s, at) else {
-        return Part::Refused(wire::cut(s, at, 4));
+    let Integer::Value(count, first) = wire::u32_at(s, at) else {
+        return End::Refused(wire::cut(s, at, 4));
     };
     if count != layout.credentials_count {
-        return Part::Refused(wire::refuse(Rule::WrongCount, at));
+        return End::Refused(wire::refuse(Rule::WrongCount, at));
     }
-    beside(s, layout.kind, first_wanting(layout), count, first)
+    beside(s, layout.type_id, first_wanting(layout), count, first)
 }

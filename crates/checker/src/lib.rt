@@ -8,7 +8,7 @@ use wire::Refusal;
 
 // A segment that is passed: how many credentials it wants, and the place behind it. End: there is none.
 pub(crate) enum Passed {
-    End,
+    Nothing,
     Past(u64, usize),
     Refused(Refusal),
 }
@@ -25,13 +25,13 @@ pub struct Wanting {
 // The segment that comes next: a list or field of which so many elements ask for a credential of a type, from a place on; or a field that asks for
 // one of so many signatures, and the place behind it.
 pub(crate) enum Begun {
-    End,
+    Nothing,
     Into(u64, u64, usize),
     Asks(u64, u64, usize),
 }
 
 // The credential that is wanted next: its type, its number of signatures, and the cursor behind what asks for it.
 pub enum Wanted {
-    End,
+    Nothing,
     Credential(u64, u64, Wanting),
 }

@@ -23,14 +23,14 @@ use Rattle.transaction.specs.Answer.{memoMost, layout, checked, checkedNumber, 
 use Rattle.transaction.specs.declared.Checked.the-variants as C
 use Rattle.transaction.proofs.Codec.{codec}
 use Rattle.transaction.proofs.Refusing.{check-numbers}
-use Rattle.table.specs.Table.{Filled, filled, tabledNumber, tabledRows}
-use Rattle.table.specs.declared.Tabled.the-variants as T
-use Rattle.table.proofs.Inside.{entries-inside}
-use Rattle.table.proofs.Tabling.{length-rows}
-use Rattle.slot_table.specs.Slots as Slots
-use Rattle.slot_table.specs.Table.{slots}
-use Rattle.slot_table.proofs.Rows.{reader-places, filled-empty, filled-signed, empty-filled}
-use Rattle.slot_table.proofs.Rows as SlotRows
+use Rattle.entry_table.specs.Table.{Filled, filled, tabledNumber, tabledRows}
+use Rattle.entry_table.specs.declared.Tabled.the-variants as T
+use Rattle.entry_table.proofs.Inside.{entries-inside}
+use Rattle.entry_table.proofs.Tabling.{length-rows}
+use Rattle.draft_slot_table.specs.Slots as Slots
+use Rattle.draft_slot_table.specs.Table.{slots}
+use Rattle.draft_slot_table.proofs.Rows.{reader-places, filled-empty, filled-signed, empty-filled}
+use Rattle.draft_slot_table.proofs.Rows as SlotRows
 use Rattle.entry.specs.declared.EntryRead.{EntryRead}
 use Rattle.entry.specs.Entry.{refusedEntry, entryAnswer, entryOf, entryNumber}
 use Rattle.claims.specs.Answers.{checkNumbers, tableNumbers, entryNumbers, CheckAnswers, Lists, TableAnswers, SlotsAnswers, StandsAs, EntryAnswers}
@@ -45,7 +45,8 @@ module _ (s : List ℕ) where
   check-number : OneOf (checkedNumber (checked memoMost s)) checkNumbers
   check-number = go (check (avm memoMost) s) refl
     where
-      go : (o : Result (Signed (avm memoMost))) → check (avm memoMost) s ≡ o → OneOf (checkedNumber (onResult o C.Refused (λ v n. C.Accepted (layout memoMost (v .0)) n))) checkNumbers
+      go : (o : Result (Signed (avm memoMost))) → check (avm memoMost) s ≡ o
+          → OneOf (checkedNumber (onResult o C.Refused (λ v n. C.Accepted (layout memoMost (v .0)) n))) checkNumbers
       go (took v n) h = inl refl
       go (refused e) h = refused-listed s e h
 
@@ -165,7 +166,8 @@ table-answers =
 pub slots-answers : SlotsAnswers
 slots-answers =
     record {
-      lists = lists (λ s v. length (slots memoMost s)) (λ s v. Slots.rows s (slots memoMost s)) (λ s v. 3 * length (slots memoMost s)) (λ s v. refl) (λ s v. SlotRows.length-rows s (slots memoMost s));
+      lists = lists (λ s v. length (slots memoMost s)) (λ s v. Slots.rows s (slots memoMost s)) (λ s v. 3 * length (slots memoMost s)) (λ s v. refl)
+          (λ s v. SlotRows.length-rows s (slots memoMost s));
       places = reader-places (avm memoMost);
       empty = λ s p. (empty-filled s p, filled-empty s p);
       not-empty = filled-signed;

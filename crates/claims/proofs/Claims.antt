@@ -4,13 +4,13 @@ use Rattle.transaction.specs.Answer.{memoMost}
 use Rattle.transaction.proofs.Codec.{codec}
 use Rattle.transaction.proofs.Accepted.{transactions}
 use Rattle.transaction.proofs.FirstBroken.{first-broken}
-use Rattle.run.proofs.Calling.{methods-finish, methods-round-trip}
-use Rattle.run.proofs.Finishing.{finished-is-accepted}
-use Rattle.run.proofs.Numbering.{methods-owe}
-use Rattle.run.proofs.Trip.{steps-round-trip}
-use Rattle.run.proofs.Occurring.{writer-numbers-occur}
-use Rattle.grouping.proofs.Theorems.{demand-3, orders, filling, slots-of-reading, calls-owe, calls-decide}
-use Rattle.grouping.proofs.Theorems.{avm-demand-3, avm-slots-of-reading, avm-orders, avm-filling, avm-calls-owe, avm-calls-decide}
+use Rattle.writer_theorems.proofs.Calling.{methods-finish, methods-round-trip}
+use Rattle.writer_theorems.proofs.Finishing.{finished-is-accepted}
+use Rattle.writer_theorems.proofs.Numbering.{methods-owe}
+use Rattle.writer_theorems.proofs.Trip.{steps-round-trip}
+use Rattle.writer_theorems.proofs.Occurring.{writer-numbers-occur}
+use Rattle.draft_theorems.proofs.Theorems.{demand-3, orders, filling, slots-of-reading, calls-owe, calls-decide}
+use Rattle.draft_theorems.proofs.Theorems.{avm-demand-3, avm-slots-of-reading, avm-orders, avm-filling, avm-calls-owe, avm-calls-decide}
 use Rattle.phone.proofs.Unpacking.{unpacked}
 use Rattle.operator.proofs.Unlisting.{unlisted}
 use Rattle.claims.specs.Cases.{proved-cases}

@@ -5,9 +5,9 @@ use mathlib.Core.List.{List}
 use Rattle.transaction.specs.Avm.{avm}
 use Rattle.transaction.specs.Answer.{memoMost}
 use Rattle.draft.specs.Reader.{reader}
-use Rattle.run.proofs.Calling.{methods-round-trip, blank-written}
-use Rattle.grouping.specs.Filling.{Fills}
-use Rattle.grouping.proofs.Theorems.{avm-reading-filled}
+use Rattle.writer_theorems.proofs.Calling.{methods-round-trip, blank-written}
+use Rattle.draft_theorems.specs.Filling.{Fills}
+use Rattle.draft_theorems.proofs.Theorems.{avm-reading-filled}
 use Rattle.claims.specs.RoundTrip.{RoundTrips}
 
 pub round-trips : RoundTrips
@@ -15,5 +15,6 @@ round-trips d v n b e s room =
     record {
       written = methods-round-trip memoMost .calls-done d v n b e s room;
       finished = methods-round-trip memoMost .finish-done d v n b e s room;
-      filled = subst⁻¹ (λ (x : List ℕ). Fills (reader (avm memoMost)) 0 (v .1) x d) (blank-written memoMost d v n b e s room) (avm-reading-filled .filled d v n b e);
+      filled = subst⁻¹ (λ (x : List ℕ). Fills (reader (avm memoMost)) 0 (v .1) x d) (blank-written memoMost d v n b e s room)
+          (avm-reading-filled .filled d v n b e);
     }

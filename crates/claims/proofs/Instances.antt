@@ -10,24 +10,24 @@ use lib.Dec.{ltb}
 use lib.ListN.{take, drop, getD}
 use borrow.Author.Tests.{ltb-true}
 use Rattle.wire.specs.Bytes.{Bytes, value, digits, below}
-use Rattle.wire.specs.Fields.{number, blobRun}
-use Rattle.wire.specs.Series.{items, listRun, listWrite}
+use Rattle.wire.specs.Fields.{integer, blobParse}
+use Rattle.wire.specs.Series.{items, listParse, listWrite}
 use Rattle.string.specs.Strings.{string}
 use Rattle.element.specs.Owners.{owners}
 use Rattle.element.specs.Outputs.{transferBody, transferableOutput}
 use Rattle.element.specs.Inputs.{key, spend, inputAfter}
-use Rattle.transaction.specs.Slots.{signatureWidth, blank, slotAt, put, putAll}
+use Rattle.transaction.specs.Slots.{signatureWidth, blank, slotAt, putSlot, putAll}
 use Rattle.transaction.specs.Credentials.{credentials, layout, places}
 use Rattle.transaction.specs.Form.{atLeast, form, asked, wanted}
 use Rattle.transaction.specs.Signed as Any
 use Rattle.transaction.specs.Family.{head, unsigned, wants}
-use Rattle.slot.specs.Joining.{same}
-use Rattle.slot.proofs.Comparing.{and-true}
+use Rattle.draft_slots.specs.Joining.{same}
+use Rattle.draft_slots.proofs.Comparing.{and-true}
 use Rattle.draft.specs.Reader.{Draft, body, slotCount, slot}
-use Rattle.grouping.specs.Groupings.{Drafts, Uses, result}
-use Rattle.grouping.specs.Demand.{Conflict, mergeOf}
-use Rattle.grouping.proofs.Ordering.{drafts-one, drafts-more}
-use Rattle.grouping.proofs.Theorems.{avm-demand-3}
+use Rattle.draft_theorems.specs.Groupings.{Drafts, Uses, result}
+use Rattle.draft_theorems.specs.Demand.{Conflict, mergeOf}
+use Rattle.draft_theorems.proofs.Ordering.{drafts-one, drafts-more}
+use Rattle.draft_theorems.proofs.Theorems.{avm-demand-3}
 use Rattle.claims.specs.Cases.{A, edited, empty}
 use Rattle.claims.specs.Instance.{Avm, halves, clashing, oneCall, Supposed, Instances}
 
@@ -55,8 +55,8 @@ record Computed : Type 0 where
   zeros : blank ≡ empty
 
 computed : Computed
-unfolding Any.check unsigned head wants credentials signatureWidth owners transferBody transferableOutput key spend inputAfter string number blobRun
-    items listRun listWrite value digits below form wanted asked atLeast blank slotAt put putAll layout places same body slotCount slot mergeOf result
+unfolding Any.check unsigned head wants credentials signatureWidth owners transferBody transferableOutput key spend inputAfter string integer blobParse
+    items listParse listWrite value digits below form wanted asked atLeast blank slotAt putSlot putAll layout places same body slotCount slot mergeOf result
 computed =
     record {
       accepted = (refl, refl, refl);

@@ -7,7 +7,7 @@ use lib.ListN.{length, length-append}
 use Rattle.wire.specs.Bytes.{length-digits}
 use Rattle.wire.specs.Orders.{All}
 use Rattle.element.specs.Owners.{Owners}
-use Rattle.element.specs.Layout.{u32, joined, ownersBytes, outputBytes, inputBytes}
+use Rattle.element.specs.PlainBytes.{u32, joined, ownersBytes, outputBytes, inputBytes}
 use Rattle.claims.specs.Lengths.{AddressesOf20, Lengths}
 
 length-joined : (l : List (List ℕ)) → All (λ address. length address ≡ 20) l → length (joined (λ address. address) l) ≡ 20 * length l

@@ -12,15 +12,15 @@ use Rattle.wire.specs.declared.Rule.{Rule}
 use Rattle.wire.specs.declared.Rule.the-variants as R
 use Rattle.wire.specs.Numbers.{ruleNumber, refusal, numberOf, tooLong}
 use Rattle.wire.specs.Format.{onResult, refused}
-use Rattle.wire.specs.Fields.{number, blobRun, constant}
+use Rattle.wire.specs.Fields.{integer, blobParse, constant}
 use Rattle.wire.specs.Sequence.{guard, tag}
-use Rattle.wire.specs.Series.{items, listRun, listWrite, counted}
+use Rattle.wire.specs.Series.{items, listParse, listWrite, countPrefixed}
 use Rattle.wire.specs.Orders.{OneOf}
 use Rattle.string.specs.Strings.{string, text, printable, unprintable, denomination}
 use Rattle.element.specs.Owners.{owners}
 use Rattle.element.specs.Outputs.{amount, transferBody, output, transferableOutput}
 use Rattle.element.specs.Inputs.{key, indices, spend, inputAfter}
-use Rattle.transaction.specs.Slots.{signatureWidth, blank, slotAt, put, putAll}
+use Rattle.transaction.specs.Slots.{signatureWidth, blank, slotAt, putSlot, putAll}
 use Rattle.transaction.specs.Credentials.{credentials, layout, places, size}
 use Rattle.transaction.specs.Entries.{rows, entriesFrom, credentialEntries, nth}
 use Rattle.transaction.specs.Form.{atLeast, form, asked, wanted, planEntries}
@@ -31,15 +31,15 @@ use Rattle.transaction.specs.Answer.{memoMost, checked, checkedNumber}
 use Rattle.transaction.specs.Answer as Answer
 use Rattle.transaction.specs.declared.Checked.the-variants as C
 use Rattle.transaction.proofs.FirstBroken.{first-broken}
-use Rattle.table.specs.Table.{Filled, filled, tabled, tabledNumber}
-use Rattle.table.specs.declared.Tabled.the-variants as T
+use Rattle.entry_table.specs.Table.{Filled, filled, tabled, tabledNumber}
+use Rattle.entry_table.specs.declared.Tabled.the-variants as T
 use Rattle.entry.specs.Entry.{entryOf, entryNumber}
-use Rattle.slot.specs.Joining.{same, clashes, join, firstClash}
-use Rattle.slot_table.specs.Slots as Slots
-use Rattle.slot_table.specs.Table.{tabledSlots}
+use Rattle.draft_slots.specs.Joining.{same, clashes, join, firstClash}
+use Rattle.draft_slot_table.specs.Slots as Slots
+use Rattle.draft_slot_table.specs.Table.{tabledSlots}
 use Rattle.draft.specs.Reader.{reader, body, slotCount, slot}
 use Rattle.draft.specs.Calls.{answerNumber, merged, mergeCall, fillCall}
-use Rattle.run.proofs.Occurring.{eachByte, bytes-of, zeros, word, typed, paid, one-occurs}
+use Rattle.writer_theorems.proofs.Occurring.{eachByte, bytes-of, zeros, word, typed, paid, one-occurs}
 use Rattle.claims.specs.Cases.{A, edited}
 use Rattle.claims.specs.Occurring.{NumbersOccur}
 use Rattle.claims.specs.Answers.{checkNumbers, tableNumbers, entryNumbers}
@@ -64,7 +64,7 @@ refuses s h r p e = (ruleNumber r, (s, refusal r p, bytes-of s h, e, refl))
 
 unfoldable refused-cases : List ((n : ℕ) × Refused n)
 unfolding Any.check unsigned head wants credentials owners amount transferBody output transferableOutput guard string text printable unprintable
-    denomination constant tag counted number blobRun items listRun listWrite value digits below form wanted asked atLeast layout
+    denomination constant tag countPrefixed integer blobParse items listParse listWrite value digits below form wanted asked atLeast layout
 refused-cases =
     (1, too-long 65537 (omega arith))
     ∷ refuses [] refl R.CutShort 0 refl
@@ -95,22 +95,25 @@ abbrev empty : List ℕ
 empty = zeros 58
 
 empty-checked : checkedNumber (checked memoMost empty) ≡ 0
-unfolding Any.check unsigned head wants credentials constant tag counted number blobRun items listRun listWrite value digits form wanted asked atLeast string layout
+unfolding Any.check unsigned head wants credentials constant tag countPrefixed integer blobParse items listParse listWrite value digits form wanted asked
+    atLeast string layout
 empty-checked = refl
 
 tables : (tabledNumber (tabled memoMost empty [] .answer) ≡ 0) × (tabledNumber (tabled memoMost A [] .answer) ≡ 14)
 unfolding Any.check unsigned head wants credentials owners amount transferBody output transferableOutput key indices spend inputAfter guard string constant tag
-    counted number blobRun items listRun listWrite value digits below form wanted asked atLeast layout signatureWidth entries planEntries entriesFrom credentialEntries rows
+    countPrefixed integer blobParse items listParse listWrite value digits below form wanted asked atLeast layout signatureWidth entries planEntries
+    entriesFrom credentialEntries rows
 tables = (refl, refl)
 
 slot-tables : (tabledNumber (tabledSlots memoMost empty [] .answer) ≡ 0) × (tabledNumber (tabledSlots memoMost A [] .answer) ≡ 14)
 unfolding Any.check unsigned head wants credentials owners amount transferBody output transferableOutput key indices spend inputAfter guard string constant tag
-    counted number blobRun items listRun listWrite value digits below form wanted asked atLeast layout signatureWidth places size Slots.slotsFrom
+    countPrefixed integer blobParse items listParse listWrite value digits below form wanted asked atLeast layout signatureWidth places size Slots.slotsFrom
 slot-tables = (refl, refl)
 
 read-entries : (entryNumber (entryOf memoMost A 0 .answer) ≡ 0) × (entryNumber (entryOf memoMost empty 0 .answer) ≡ 15)
 unfolding Any.check unsigned head wants credentials owners amount transferBody output transferableOutput key indices spend inputAfter guard string constant tag
-    counted number blobRun items listRun listWrite value digits below form wanted asked atLeast layout signatureWidth entries planEntries entriesFrom credentialEntries nth
+    countPrefixed integer blobParse items listParse listWrite value digits below form wanted asked atLeast layout signatureWidth entries planEntries
+    entriesFrom credentialEntries nth
 read-entries = (refl, refl)
 
 A-bytes : Bytes A
@@ -123,9 +126,11 @@ behind P k n l p on = ⊎-elim (λ e. subst P (sym e) p) on
 check-occurs : (n : ℕ) → OneOf n checkNumbers → (s : List ℕ) × Bytes s × (checkedNumber (checked memoMost s) ≡ n)
 check-occurs n =
     behind (λ n. (s : List ℕ) × Bytes s × (checkedNumber (checked memoMost s) ≡ n)) 0 n refusals (empty, zero-bytes 58, empty-checked)
-    (λ r. let (s, e, b, c, k) = refused-by n r in (s, b, ap (λ o. checkedNumber (onResult o C.Refused (λ v m. C.Accepted (Answer.layout memoMost (v .0)) m))) c ∙ k))
+    (λ r. let (s, e, b, c, k) = refused-by n r in
+    (s, b, ap (λ o. checkedNumber (onResult o C.Refused (λ v m. C.Accepted (Answer.layout memoMost (v .0)) m))) c ∙ k))
 
-module _ (call : List ℕ → List ℕ → Filled) (refuses-alike : (s t : List ℕ) (e : Refusal) → check (avm memoMost) s ≡ refused e → call s t ≡ filled (T.Refused e) t)
+module _ (call : List ℕ → List ℕ → Filled) (refuses-alike : (s t : List ℕ) (e : Refusal) → check (avm memoMost) s ≡ refused e
+    → call s t ≡ filled (T.Refused e) t)
     (done : tabledNumber (call empty [] .answer) ≡ 0) (no-room : tabledNumber (call A [] .answer) ≡ 14) where
   Listing : ℕ → Type 0
   Listing n = (s t : List ℕ) × Bytes s × (tabledNumber (call s t .answer) ≡ n)
@@ -155,7 +160,8 @@ merges d e out bd be n h = (n, (d, e, out, bytes-of d bd, bytes-of e be, h))
 
 unfoldable merge-cases : List ((n : ℕ) × MergeOf n)
 unfolding Any.check unsigned head wants credentials owners amount transferBody output transferableOutput key indices spend inputAfter guard string constant tag
-    counted number blobRun items listRun listWrite value digits below form wanted asked atLeast layout signatureWidth places blank slotAt put putAll same clashes
+    countPrefixed integer blobParse items listParse listWrite value digits below form wanted asked atLeast layout signatureWidth places blank slotAt putSlot
+    putAll same clashes
     join firstClash body merged mergeCall
 merge-cases =
     merges empty empty empty refl refl 0 refl
@@ -169,13 +175,15 @@ merge-cases =
 abbrev FillOf : ℕ → Type 0
 FillOf n = (d : List ℕ) × (k : ℕ) × (s : List ℕ) × Bytes d × Bytes s × (answerNumber (fillCall (reader (avm memoMost)) d k s .0) ≡ n)
 
-abbrev fills : (d : List ℕ) (k : ℕ) (s : List ℕ) → eachByte d ≡ true → eachByte s ≡ true → (n : ℕ) → answerNumber (fillCall (reader (avm memoMost)) d k s .0) ≡ n
+abbrev fills : (d : List ℕ) (k : ℕ) (s : List ℕ) → eachByte d ≡ true → eachByte s ≡ true → (n : ℕ)
+    → answerNumber (fillCall (reader (avm memoMost)) d k s .0) ≡ n
     → (n : ℕ) × FillOf n
 fills d k s bd bs n h = (n, (d, k, s, bytes-of d bd, bytes-of s bs, h))
 
 unfoldable fill-cases : List ((n : ℕ) × FillOf n)
 unfolding Any.check unsigned head wants credentials owners amount transferBody output transferableOutput key indices spend inputAfter guard string constant tag
-    counted number blobRun items listRun listWrite value digits below form wanted asked atLeast layout signatureWidth places blank slotAt put same clashes
+    countPrefixed integer blobParse items listParse listWrite value digits below form wanted asked atLeast layout signatureWidth places blank slotAt putSlot
+    same clashes
     join slotCount slot fillCall
 fill-cases =
     fills A 0 (zeros 65) refl refl 0 refl

@@ -9,16 +9,16 @@ use native.Mathlib.Omega.{arith}
 use lib.ListN.{length, drop, length-append}
 use lib.Seq.{drop-drop, drop-append-seam, take-at}
 use lib.Dec.{eqb}
-use Rattle.wire.specs.Bytes.{pick, part, length-digits}
+use Rattle.wire.specs.Bytes.{pick, between, length-digits}
 use Rattle.wire.specs.Format.{Format}
-use Rattle.wire.specs.Fields.{number, length-number}
+use Rattle.wire.specs.Fields.{integer, length-integer}
 use Rattle.wire.specs.Sequence.{guard, tag}
 use Rattle.wire.specs.Series.{items, left, listWrite, notBelow}
 use Rattle.wire.specs.Orders.{All}
 use Rattle.element.specs.Outputs.{output, TransferableOutput, transferableOutput}
 use Rattle.element.specs.Inputs.{Input, input}
 use Rattle.element.specs.Operations.{operation, InitialState, fxCode, fxOutputs, fxId, stateOutputs, initialStateAfter, initialState}
-use Rattle.element.specs.Layout.{u32, joined, transferableOutputBytes, inputBytes}
+use Rattle.element.specs.PlainBytes.{u32, joined, transferableOutputBytes, inputBytes}
 use Rattle.element.proofs.Writing.{output-bytes, transferableOutput-bytes, input-bytes, operation-bytes}
 use Rattle.transaction.specs.Slots.{signatureWidth}
 use Rattle.transaction.specs.Credentials.{credentialCode, Want, Piece, signatures, each, layout, pieces, credentials}
@@ -32,8 +32,8 @@ use Rattle.transaction.specs.Answer.{memoMost}
 use Rattle.transaction.specs.Codec.{Writing}
 use Rattle.transaction.specs.declared.ListName.{ListName}
 use Rattle.transaction.specs.declared.ListName.the-variants as L
-use Rattle.table.proofs.Inside.{Inside}
-use Rattle.walk.proofs.Each.{Each, each-append}
+use Rattle.entry_table.proofs.Inside.{Inside}
+use Rattle.entry_walk.proofs.Each.{Each, each-append}
 use Rattle.claims.specs.Answers.{StandsAs, anOutput, anInput, anOperation, anImportedInput, anExportedOutput, aStateOutput, aCredential}
 
 -- ---- one of the entries
@@ -64,7 +64,7 @@ module _ (s : List ℕ) (at : ℕ) where
   here-second a b (r, h) =
       (r, sym (drop-drop (length a) at s) ∙ ap (drop (length a)) (h ∙ append-assoc a b r) ∙ drop-append-seam a (b ++ r))
 
-  here-part : (w : List ℕ) → Here s at w → part at (at + length w) s ≡ w
+  here-part : (w : List ℕ) → Here s at w → between at (at + length w) s ≡ w
   here-part w (r, h) = rw h (take-at w r (at + length w - at) (omega arith))
 
 -- ---- lists, plans and credentials
@@ -88,29 +88,29 @@ module _ (s : List ℕ) where
     counted-stands : (least at : ℕ) (l : List A) → Here s at (atLeast least E .write l) → Stand (entriesFrom E entry [] (at + 4) l)
     unfolding atLeast items
     counted-stands least at l h =
-        let n : List ℕ = number 4 .write (length l) in
+        let n : List ℕ = integer 4 .write (length l) in
         let w : List ℕ = listWrite E (left E) [] l in
-        list-stands [] (at + 4) l (subst (λ (k : ℕ). Here s (at + k) w) (length-number 4 (length l)) (here-second s at n w h))
+        list-stands [] (at + 4) l (subst (λ (k : ℕ). Here s (at + k) w) (length-integer 4 (length l)) (here-second s at n w h))
 
   state-stands : (prev : List ℕ) (at : ℕ) (v : InitialState) → Here s at (initialState prev .write v)
       → Stand (stateEntries at (at + length (initialState prev .write v)) v)
   unfolding initialStateAfter guard fxId tag stateOutputs items
   state-stands prev at v h =
       let E = notBelow (output (fxOutputs (v .fx))) in
-      let f : List ℕ = number 4 .write (fxCode (v .fx)) in
-      let n : List ℕ = number 4 .write (length (v .outputs)) in
+      let f : List ℕ = integer 4 .write (fxCode (v .fx)) in
+      let n : List ℕ = integer 4 .write (length (v .outputs)) in
       let w : List ℕ = listWrite E (left E) [] (v .outputs) in
       let behind : Here s (at + length f + length n) w = here-second s (at + length f) n w (here-second s at f (n ++ w) h) in
-      let place : at + length f + length n ≡ at + 8 = omega (arith, length-number 4 (fxCode (v .fx)), length-number 4 (length (v .outputs))) in
+      let place : at + length f + length n ≡ at + 8 = omega (arith, length-integer 4 (fxCode (v .fx)), length-integer 4 (length (v .outputs))) in
       list-stands E stateOutputEntry
       (λ prev at o k. (aStateOutput o refl (here-part s at (output (fxOutputs (v .fx)) .write o) k ∙ output-bytes (fxOutputs (v .fx)) o), tt))
       [] (at + 8) (v .outputs) (subst (λ (k : ℕ). Here s k w) place behind)
 
   transferable-part : (at : ℕ) (o : TransferableOutput) → Here s at (transferableOutput .write o)
-      → part at (at + length (transferableOutput .write o)) s ≡ transferableOutputBytes o
+      → between at (at + length (transferableOutput .write o)) s ≡ transferableOutputBytes o
   transferable-part at o h = here-part s at (transferableOutput .write o) h ∙ transferableOutput-bytes o
 
-  input-part : (prev : List ℕ) (at : ℕ) (i : Input) → Here s at (input prev .write i) → part at (at + length (input prev .write i)) s ≡ inputBytes i
+  input-part : (prev : List ℕ) (at : ℕ) (i : Input) → Here s at (input prev .write i) → between at (at + length (input prev .write i)) s ≡ inputBytes i
   input-part prev at i h = here-part s at (input prev .write i) h ∙ input-bytes prev i
 
   -- an element of a list stands at its entry
@@ -171,7 +171,7 @@ module _ (s : List ℕ) where
 
   credentials-stand : (ws : List Want) (at : ℕ) (l : List (List ℕ)) → pieces (each ws) .Good l → Here s at (pieces (each ws) .write l)
       → Stand (credentialEntries ws at)
-  unfolding each pieces credentialEntries number
+  unfolding each pieces credentialEntries integer
   credentials-stand [] at l g h = tt
   credentials-stand (w ∷ ws) at l g h =
       let n : ℕ = w .signatures in
@@ -193,7 +193,7 @@ module _ (s : List ℕ) where
         length-signatures (x .these) (x .wide) ∙ ap (λ (k : ℕ). k * signatureWidth) (x .count),
       ) in (
         aCredential w (x .these) refl (x .count) (x .wide)
-            (subst (λ (k : ℕ). part at (at + k) s ≡ t ++ (u32 (length (x .these)) ++ j)) long
+            (subst (λ (k : ℕ). between at (at + k) s ≡ t ++ (u32 (length (x .these)) ++ j)) long
             (here-part s at (t ++ (c ++ j)) (here-first s at (t ++ (c ++ j)) r here) ∙ ap (λ (k : ℕ). t ++ (u32 k ++ j)) (sym (x .count)))),
         credentials-stand ws (at + (8 + n * signatureWidth)) (x .others) (x .good)
             (subst (λ (k : ℕ). Here s (at + k) r) long (here-second s at (t ++ (c ++ j)) r here)),
@@ -205,14 +205,14 @@ pub entries-stand-as : (s : List ℕ) (v : Signed (avm memoMost)) → Writing (a
 unfolding entries Any.signed unsigned credentials layout pieces
 entries-stand-as s (u, l) w =
     let h : List ℕ = head (avm memoMost) .write (u .0) in
-    let f : List ℕ = form memoMost (plan (u .0 .kind)) .write (u .1) in
+    let f : List ℕ = form memoMost (plan (u .0 .type)) .write (u .1) in
     let ws : List Want = wants (avm memoMost) u in
-    let n : List ℕ = number 4 .write (length ws) in
+    let n : List ℕ = integer 4 .write (length ws) in
     let c : List ℕ = pieces (each ws) .write l in
     let whole : Here s 0 ((h ++ f) ++ (n ++ c)) = ([], sym (w .written) ∙ sym (append-nil ((h ++ f) ++ (n ++ c)))) in
     let own : Here s (length h) f = subst (λ (k : ℕ). Here s k f) (zero-add (length h)) (here-second s 0 h f (here-first s 0 (h ++ f) (n ++ c) whole)) in
     let behind : Here s (0 + length (h ++ f) + length n) c = here-second s (0 + length (h ++ f)) n c (here-second s 0 (h ++ f) (n ++ c) whole) in
-    let place : 0 + length (h ++ f) + length n ≡ length (h ++ f) + 4 = omega (arith, length-number 4 (length ws)) in
-    each-append (StandsAs s) (planEntries memoMost (plan (u .0 .kind)) (u .1) (length h)) (credentialEntries ws (length (h ++ f) + 4))
-    (plan-stands s memoMost (plan (u .0 .kind)) (u .1) (length h) own)
+    let place : 0 + length (h ++ f) + length n ≡ length (h ++ f) + 4 = omega (arith, length-integer 4 (length ws)) in
+    each-append (StandsAs s) (planEntries memoMost (plan (u .0 .type)) (u .1) (length h)) (credentialEntries ws (length (h ++ f) + 4))
+    (plan-stands s memoMost (plan (u .0 .type)) (u .1) (length h) own)
     (credentials-stand s ws (length (h ++ f) + 4) l (w .good .1 .1) (subst (λ (k : ℕ). Here s k c) place behind))

@@ -7,7 +7,7 @@ use mathlib.Core.Logic.{_↔_}
 use mathlib.Core.List.{List, [], _∷_, _++_, map}
 use mathlib.Core.Option.{none, some}
 use lib.ListN.{length, drop}
-use Rattle.wire.specs.Bytes.{Bytes, part}
+use Rattle.wire.specs.Bytes.{Bytes, between}
 use Rattle.wire.specs.declared.Refusal.{Refusal}
 use Rattle.wire.specs.Numbers.{refusal, noRoom, noEntry}
 use Rattle.wire.specs.Format.{took, refused, verdict}
@@ -15,7 +15,7 @@ use Rattle.wire.specs.Orders.{All, OneOf}
 use Rattle.element.specs.Outputs.{Output, TransferableOutput}
 use Rattle.element.specs.Inputs.{Input}
 use Rattle.element.specs.Operations.{Operation}
-use Rattle.element.specs.Layout.{u32, listBytes, outputBytes, transferableOutputBytes, inputBytes, operationBytes}
+use Rattle.element.specs.PlainBytes.{u32, listBytes, outputBytes, transferableOutputBytes, inputBytes, operationBytes}
 use Rattle.transaction.specs.Slots.{signatureWidth, blank, slotAt}
 use Rattle.transaction.specs.Credentials.{credentialCode, Want}
 use Rattle.transaction.specs.Entries.{EntryAt}
@@ -23,11 +23,11 @@ use Rattle.transaction.specs.Entries as Entries
 use Rattle.transaction.specs.Family.{Signed, check, entries, entry}
 use Rattle.transaction.specs.Avm.{avm}
 use Rattle.transaction.specs.Answer.{memoMost, checked, checkedNumber, checkedPlace}
-use Rattle.table.specs.Table.{Filled, filled, tabled, tabledNumber, tabledRows}
-use Rattle.table.specs.declared.Tabled.the-variants as T
-use Rattle.slot_table.specs.Slots.{filledAt}
-use Rattle.slot_table.specs.Slots as Slots
-use Rattle.slot_table.specs.Table.{slots, tabledSlots}
+use Rattle.entry_table.specs.Table.{Filled, filled, tabled, tabledNumber, tabledRows}
+use Rattle.entry_table.specs.declared.Tabled.the-variants as T
+use Rattle.draft_slot_table.specs.Slots.{filledAt}
+use Rattle.draft_slot_table.specs.Slots as Slots
+use Rattle.draft_slot_table.specs.Table.{slots, tabledSlots}
 use Rattle.draft.specs.Reader.{reader}
 use Rattle.entry.specs.Entry.{entryOf, entryNumber, foundEntry}
 use Rattle.entry.specs.declared.EntryAnswer.the-variants as E
@@ -90,17 +90,17 @@ pub record SlotsAnswers : Type 0 where
 -- the element whose entry e is, and that its bytes, field after field as document 01 lays them out, stand in s from e's start to its end
 pub data StandsAs (s : List ℕ) (e : EntryAt) : Type 0 where
   anOutput : (o : TransferableOutput) → e ∷ [] ≡ Entries.outputEntry (e .start) (e .end) o
-      → part (e .start) (e .end) s ≡ transferableOutputBytes o → StandsAs s e
-  anInput : (i : Input) → e ∷ [] ≡ Entries.inputEntry (e .start) (e .end) i → part (e .start) (e .end) s ≡ inputBytes i → StandsAs s e
-  anOperation : (o : Operation) → e ∷ [] ≡ Entries.operationEntry (e .start) (e .end) o → part (e .start) (e .end) s ≡ operationBytes o → StandsAs s e
-  anImportedInput : (i : Input) → e ∷ [] ≡ Entries.importedEntry (e .start) (e .end) i → part (e .start) (e .end) s ≡ inputBytes i → StandsAs s e
+      → between (e .start) (e .end) s ≡ transferableOutputBytes o → StandsAs s e
+  anInput : (i : Input) → e ∷ [] ≡ Entries.inputEntry (e .start) (e .end) i → between (e .start) (e .end) s ≡ inputBytes i → StandsAs s e
+  anOperation : (o : Operation) → e ∷ [] ≡ Entries.operationEntry (e .start) (e .end) o → between (e .start) (e .end) s ≡ operationBytes o → StandsAs s e
+  anImportedInput : (i : Input) → e ∷ [] ≡ Entries.importedEntry (e .start) (e .end) i → between (e .start) (e .end) s ≡ inputBytes i → StandsAs s e
   anExportedOutput : (o : TransferableOutput) → e ∷ [] ≡ Entries.exportedEntry (e .start) (e .end) o
-      → part (e .start) (e .end) s ≡ transferableOutputBytes o → StandsAs s e
-  aStateOutput : (o : Output) → e ∷ [] ≡ Entries.stateOutputEntry (e .start) (e .end) o → part (e .start) (e .end) s ≡ outputBytes o → StandsAs s e
+      → between (e .start) (e .end) s ≡ transferableOutputBytes o → StandsAs s e
+  aStateOutput : (o : Output) → e ∷ [] ≡ Entries.stateOutputEntry (e .start) (e .end) o → between (e .start) (e .end) s ≡ outputBytes o → StandsAs s e
   -- its type, and a list of signatures
   aCredential : (w : Want) (l : List (List ℕ)) → e ≡ Entries.credentialEntry w (e .start)
       → length l ≡ w .signatures → All (λ signature. length signature ≡ signatureWidth) l
-      → part (e .start) (e .end) s ≡ u32 (credentialCode (w .type)) ++ listBytes (λ signature. signature) l → StandsAs s e
+      → between (e .start) (e .end) s ≡ u32 (credentialCode (w .type)) ++ listBytes (λ signature. signature) l → StandsAs s e
 
 pub record EntryAnswers : Type 0 where
   pub number : (s : List ℕ) (n : ℕ) → OneOf (entryNumber (entryOf memoMost s n .answer)) entryNumbers

@@ -5,15 +5,15 @@ use mathlib.Core.List.{List, [], _∷_, _++_}
 use lib.ListN.{length, take, drop, replicate}
 use Rattle.wire.specs.Bytes.{value, digits, below}
 use Rattle.wire.specs.Format.{read, verdict, Result, took, refused}
-use Rattle.wire.specs.Fields.{number, blobRun, constant}
+use Rattle.wire.specs.Fields.{integer, blobParse, constant}
 use Rattle.wire.specs.Sequence.{guard, tag}
-use Rattle.wire.specs.Series.{items, listRun, listWrite, counted}
+use Rattle.wire.specs.Series.{items, listParse, listWrite, countPrefixed}
 use Rattle.string.specs.Strings.{string, text, printable, unprintable, denomination}
 use Rattle.element.specs.Owners.{owners}
 use Rattle.element.specs.Outputs.{amount, transferBody, output, transferableOutput}
 use Rattle.element.specs.Inputs.{key, indices, spend, inputAfter}
 use Rattle.element.specs.Operations.{terms, action, operation, fxId, stateOutputs, initialStateAfter}
-use Rattle.transaction.specs.Slots.{signatureWidth, blank, slotAt, put, putAll}
+use Rattle.transaction.specs.Slots.{signatureWidth, blank, slotAt, putSlot, putAll}
 use Rattle.transaction.specs.Credentials.{credentials, layout, places}
 use Rattle.transaction.specs.Entries.{rows, entriesFrom, credentialEntries}
 use Rattle.transaction.specs.Form.{atLeast, form, asked, wanted, planEntries}
@@ -21,7 +21,7 @@ use Rattle.transaction.specs.Avm.{avm}
 use Rattle.transaction.specs.Answer.{memoMost}
 use Rattle.transaction.specs.Signed as Any
 use Rattle.transaction.specs.Family.{Signed, head, unsigned, wants, check, entries}
-use Rattle.slot.specs.Joining.{same, clashes, join, firstClash}
+use Rattle.draft_slots.specs.Joining.{same, clashes, join, firstClash}
 use Rattle.draft.specs.declared.Answer.{Answer}
 use Rattle.draft.specs.Reader.{reader, body, slotCount, slot}
 use Rattle.draft.specs.Calls.{answerNumber, answerPlace, merged, mergeCall, fillCall}
@@ -180,5 +180,35 @@ table =
     ∷ []
 
 pub proved-cases : AllHold table
-unfolding Any.check unsigned head wants credentials signatureWidth owners amount transferBody output transferableOutput key indices spend inputAfter terms action operation fxId stateOutputs initialStateAfter guard string text printable unprintable denomination constant tag counted number blobRun items listRun listWrite value digits below rows entriesFrom credentialEntries form wanted asked planEntries atLeast entries blank slotAt put putAll layout places same clashes join firstClash body slotCount slot merged mergeCall fillCall
-proved-cases = (refl, (refl, (refl, (refl, (refl, (refl, (refl, (refl, (refl, (refl, (refl, (refl, (refl, (refl, (refl, (refl, (refl, (refl, (refl, (refl, (refl, (refl, (refl, (refl, tt))))))))))))))))))))))))
+unfolding Any.check unsigned head wants credentials signatureWidth owners amount transferBody output transferableOutput key indices spend inputAfter terms
+    action operation fxId stateOutputs initialStateAfter guard string text printable unprintable denomination constant tag countPrefixed integer blobParse
+    items listParse listWrite value digits below rows entriesFrom credentialEntries form wanted asked planEntries atLeast entries blank slotAt putSlot
+    putAll layout places same clashes join firstClash body slotCount slot merged mergeCall fillCall
+proved-cases = (
+  refl,
+  (
+    refl,
+    (
+      refl,
+      (
+        refl,
+        (
+          refl,
+          (
+            refl,
+            (
+              refl,
+              (
+                refl,
+                (
+                  refl,
+                  (refl, (refl, (refl, (refl, (refl, (refl, (refl, (refl, (refl, (refl, (refl, (refl, (refl, (refl, (refl, tt))))))))))))))),
+                ),
+              ),
+            ),
+          ),
+        ),
+      ),
+    ),
+  ),
+)

@@ -12,15 +12,15 @@ use Rattle.transaction.specs.Codec.{Codec}
 use Rattle.transaction.specs.Accepted.{Transactions}
 use Rattle.transaction.specs.FirstBroken.{FirstBroken}
 use Rattle.draft.specs.Reader.{reader}
-use Rattle.run.specs.Runs.{Ends}
-use Rattle.run.specs.Claims.{FinishedIsAccepted, StepsRoundTrip}
-use Rattle.run.specs.Calls.{MethodsOwe, MethodsFinish, MethodsRoundTrip}
-use Rattle.run.specs.Occurring.{WriterNumbersOccur}
-use Rattle.grouping.specs.Answers.{CallsOwe, CallsDecide}
-use Rattle.grouping.specs.Slots.{SlotsOfReading}
-use Rattle.grouping.specs.Demand.{Demand3}
-use Rattle.grouping.specs.Order.{Orders}
-use Rattle.grouping.specs.Filling.{Filling}
+use Rattle.writer_theorems.specs.Runs.{Ends}
+use Rattle.writer_theorems.specs.Claims.{FinishedIsAccepted, StepsRoundTrip}
+use Rattle.writer_theorems.specs.Calls.{MethodsOwe, MethodsFinish, MethodsRoundTrip}
+use Rattle.writer_theorems.specs.Occurring.{WriterNumbersOccur}
+use Rattle.draft_theorems.specs.Answers.{CallsOwe, CallsDecide}
+use Rattle.draft_theorems.specs.Slots.{SlotsOfReading}
+use Rattle.draft_theorems.specs.Demand.{Demand3}
+use Rattle.draft_theorems.specs.Order.{Orders}
+use Rattle.draft_theorems.specs.Filling.{Filling}
 use Rattle.phone.specs.Packed.{Unpacked}
 use Rattle.operator.specs.Listing.{Unlisted}
 use Rattle.claims.specs.Answers.{CheckAnswers, TableAnswers, EntryAnswers, SlotsAnswers}
@@ -86,4 +86,4 @@ pub record Claims : Type 1 where
   pub every-call : (F : Family) → CallsOwe (reader F)
   pub every-decision : (F : Family) → CallsDecide (reader F)
   pub finished-steps : (F : Family) → FinishedIsAccepted F
-  pub written-steps : (F : Family) → ((k : F .Kind) → Ends (F .plan k)) → StepsRoundTrip F
+  pub written-steps : (F : Family) → ((k : F .TransactionType) → Ends (F .plan k)) → StepsRoundTrip F

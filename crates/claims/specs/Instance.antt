@@ -7,8 +7,8 @@ use lib.ListN.{length, replicate}
 use Rattle.transaction.specs.Avm.{avm}
 use Rattle.transaction.specs.Answer.{memoMost}
 use Rattle.draft.specs.Reader.{Reader, reader}
-use Rattle.grouping.specs.Groupings.{Drafts, Grouping, firstBefore, draft, call, Uses, Fits, result}
-use Rattle.grouping.specs.Demand.{Conflict, mergeOf}
+use Rattle.draft_theorems.specs.Groupings.{Drafts, Grouping, firstBefore, draft, call, Uses, Fits, result}
+use Rattle.draft_theorems.specs.Demand.{Conflict, mergeOf}
 use Rattle.claims.specs.Cases.{A, edited, empty}
 
 abbrev pub Avm : Reader

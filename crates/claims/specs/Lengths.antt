@@ -7,7 +7,7 @@ use Rattle.wire.specs.Orders.{All}
 use Rattle.element.specs.Owners.{Owners}
 use Rattle.element.specs.Outputs.{secpMint, secpTransfer, nftMint, nftTransfer}
 use Rattle.element.specs.Inputs.{Input}
-use Rattle.element.specs.Layout.{outputBytes, inputBytes}
+use Rattle.element.specs.PlainBytes.{outputBytes, inputBytes}
 
 -- every address has 20 bytes
 abbrev pub AddressesOf20 : Owners → Type 0

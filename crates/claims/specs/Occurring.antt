@@ -1,4 +1,4 @@
--- Each number of a call's list is answered to some bytes, so that the lists are exact; those of the writer are in run/specs/Occurring.
+-- Each number of a call's list is answered to some bytes, so that the lists are exact; those of the writer are in writer_theorems/specs/Occurring.
 -- Assumes nothing.
 use Prim.Native.Nat.{ℕ}
 use mathlib.Core.Path.{_≡_}
@@ -7,12 +7,12 @@ use Rattle.wire.specs.Bytes.{Bytes}
 use Rattle.wire.specs.Orders.{OneOf}
 use Rattle.transaction.specs.Avm.{avm}
 use Rattle.transaction.specs.Answer.{memoMost, checked, checkedNumber}
-use Rattle.table.specs.Table.{tabled, tabledNumber}
+use Rattle.entry_table.specs.Table.{tabled, tabledNumber}
 use Rattle.entry.specs.Entry.{entryOf, entryNumber}
-use Rattle.slot_table.specs.Table.{tabledSlots}
+use Rattle.draft_slot_table.specs.Table.{tabledSlots}
 use Rattle.draft.specs.Reader.{reader}
 use Rattle.draft.specs.Calls.{answerNumber, mergeCall, fillCall}
-use Rattle.grouping.specs.Answers.{mergeNumbers, fillNumbers}
+use Rattle.draft_theorems.specs.Answers.{mergeNumbers, fillNumbers}
 use Rattle.claims.specs.Answers.{checkNumbers, tableNumbers, entryNumbers}
 
 pub record NumbersOccur : Type 0 where

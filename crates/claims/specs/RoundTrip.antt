@@ -11,8 +11,8 @@ use Rattle.transaction.specs.Answer.{memoMost}
 use Rattle.draft.specs.Reader.{reader}
 use Rattle.writer.specs.Steps.{fresh}
 use Rattle.writer.specs.declared.Written.the-variants as W
-use Rattle.run.specs.Calls.{AllCallsDone, readingCalls, finishBehind}
-use Rattle.grouping.specs.Filling.{Fills}
+use Rattle.writer_theorems.specs.Calls.{AllCallsDone, readingCalls, finishBehind}
+use Rattle.draft_theorems.specs.Filling.{Fills}
 
 -- d is accepted, v is its reading, and the buffer s has room for it, whatever it holds
 pub record RoundTrip (d : List ℕ) (v : Signed (avm memoMost)) (s : List ℕ) : Type 0 where
@@ -23,4 +23,5 @@ pub record RoundTrip (d : List ℕ) (v : Signed (avm memoMost)) (s : List ℕ) :
   pub filled : Fills (reader (avm memoMost)) 0 (v .1) (take (length d) (finishBehind memoMost (readingCalls memoMost (v .0)) s .buffer)) d
 
 abbrev pub RoundTrips : Type 0
-RoundTrips = (d : List ℕ) (v : Signed (avm memoMost)) (n : ℕ) → Bytes d → check (avm memoMost) d ≡ took v n → (s : List ℕ) → length d ≤ length s → RoundTrip d v s
+RoundTrips = (d : List ℕ) (v : Signed (avm memoMost)) (n : ℕ) → Bytes d → check (avm memoMost) d ≡ took v n → (s : List ℕ) → length d ≤ length s
+    → RoundTrip d v s

@@ -1,1 +1,2 @@
-// The claims of the library are in specs/: the table of proved cases, the answers of the entries that read, the lengths of elements, and the round trip by calls.
+// The claims of the library are in specs/: the table of proved cases, the answers of the entries that read, the lengths of elements, and the round
+// trip by calls.

@@ -9,24 +9,24 @@ use lib.Dec.{leb, ltb, eqb}
 use borrow.Author.Tests.{le-leb, lt-leb, eq-eqb, ne-eqb}
 use lib.ListN.{length, take, drop, getD, drop-of-length-le}
 use lib.Seq.{take-all, length-take-le}
-use Rattle.wire.specs.Bytes.{part, pick}
+use Rattle.wire.specs.Bytes.{between, pick}
 use Rattle.wire.specs.declared.Refusal.{Refusal}
 use Rattle.wire.specs.Numbers.{noRoom, noEntry, firstNotAccepted, secondNotAccepted, draftsDiffer, conflict, notASignature}
 use Rattle.wire.proofs.Bytes.{Slice}
-use Rattle.transaction.specs.Slots.{signatureWidth, slotAt, length-slotAt, put}
+use Rattle.transaction.specs.Slots.{signatureWidth, slotAt, length-slotAt, putSlot}
 use Rattle.transaction.specs.Answer.{checked}
 use Rattle.transaction.specs.declared.Layout.{Layout}
 use Rattle.transaction.specs.declared.Checked.{Checked}
 use Rattle.transaction.specs.declared.Checked.the-variants as C
-use Rattle.slot.specs.Joining.{same, join, clashes, firstClash}
-use Rattle.slot.specs.Walk as Walk
-use Rattle.slot.specs.Walk.{walk, placed, joinedAt, joinAll, joinedWith}
-use Rattle.slot.specs.declared.Found.{Found}
-use Rattle.slot.specs.declared.Found.the-variants as F
-use Rattle.slot.proofs.Comparing.{same-eq, length-join}
-use Rattle.slot.proofs.Putting.{spaced-at, length-putAll}
-use Rattle.slot.proofs.Walking.{found-none, found-some}
-use Rattle.slot.proofs.InPlace.{joined-put, joined-all}
+use Rattle.draft_slots.specs.Joining.{same, join, clashes, firstClash}
+use Rattle.draft_slots.specs.Scan as Walk
+use Rattle.draft_slots.specs.Scan.{scan, placed, joinedAt, joinAll, joinedWith}
+use Rattle.draft_slots.specs.declared.Found.{Found}
+use Rattle.draft_slots.specs.declared.Found.the-variants as F
+use Rattle.draft_slots.proofs.Comparing.{same-eq, length-join}
+use Rattle.draft_slots.proofs.Putting.{spaced-at, length-putAll}
+use Rattle.draft_slots.proofs.Walking.{found-none, found-some}
+use Rattle.draft_slots.proofs.InPlace.{joined-put, joined-all}
 use Rattle.draft.specs.Reader.{Reader, body}
 use Rattle.draft.specs.Calls.{refuse, merged, decideMerge, mergeCall, decideFill, fillCall}
 use Rattle.draft.specs.declared.Answer.{Answer}
@@ -76,10 +76,11 @@ module _ (most : ℕ) where
       first = known most d bd x w n px qx
 
       pub merge-18 : (f : Refusal) → y ≡ C.Refused f → (r : Answer) → r ≡ refuse secondNotAccepted 0 → (r, out) ≡ mergeCall R d e out
-      merge-18 f q r h = beside r (refuse secondNotAccepted 0) out _ h (decided d e out true false _ _ _ (first .accepts) (not-accepted most e y f py q) refl refl refl)
+      merge-18 f q r h = beside r (refuse secondNotAccepted 0) out _ h
+          (decided d e out true false _ _ _ (first .accepts) (not-accepted most e y f py q) refl refl refl)
 
       module _ (v : Layout) (m : ℕ) (qy : y ≡ C.Accepted v m) (be : Slice e) (a b : List ℕ)
-          (ha : a ≡ part 0 (w .«credentials_at») d) (hb : b ≡ part 0 (v .«credentials_at») e) (t : Bool) (ht : t ≡ same a b) where
+          (ha : a ≡ between 0 (w .«credentials_at») d) (hb : b ≡ between 0 (v .«credentials_at») e) (t : Bool) (ht : t ≡ same a b) where
         second : Known most e v m
         second = known most e be y v m py qy
 
@@ -87,13 +88,14 @@ module _ (most : ℕ) where
         bodies = sym (ht ∙ ap₂ same (ha ∙ known-body most d w n first) (hb ∙ known-body most e v m second))
 
         pub merge-19 : not t ≡ true → (r : Answer) → r ≡ refuse draftsDiffer 0 → (r, out) ≡ mergeCall R d e out
-        merge-19 q r h = beside r (refuse draftsDiffer 0) out _ h (decided d e out true true false _ _ (first .accepts) (second .accepts) (bodies ∙ go t q) refl refl)
+        merge-19 q r h = beside r (refuse draftsDiffer 0) out _ h
+            (decided d e out true true false _ _ (first .accepts) (second .accepts) (bodies ∙ go t q) refl refl)
           where
             go : (t : Bool) → not t ≡ true → t ≡ false
             go false q = refl
             go true q = let z : _≡_ {A = ℕ} 0 1 = cc in absurd (omega arith)
 
-        module _ (z : Found) (hz : z ≡ Walk.found (firstClash 0 (walk d (w .«credentials_at»)) d e)) (q : not t ≡ false) where
+        module _ (z : Found) (hz : z ≡ Walk.found (firstClash 0 (scan d (w .«credentials_at»)) d e)) (q : not t ≡ false) where
           same-bodies : same (body R d) (body R e) ≡ true
           same-bodies = bodies ∙ go t q
             where
@@ -140,7 +142,7 @@ module _ (most : ℕ) where
                 let front : take (length (take n out)) d ++ drop (length d) (take n out) ≡ d =
                 ap₂ (λ (s t : List ℕ). s ++ t) (take-all (length (take n out)) d (omega arith))
                 (drop-of-length-le (take n out) {i = length d} (omega arith)) ∙ append-nil d in
-                let slots : walk e (w .«credentials_at») ≡ R .slots d = ap (walk e) (both .2) ∙ second .slots ∙ both .0 in
+                let slots : scan e (w .«credentials_at») ≡ R .slots d = ap (scan e) (both .2) ∙ second .slots ∙ both .0 in
                 h ∙ ap₂ (λ (ps s : List ℕ). joinAll ps e s) slots front ∙ joined-all e 0 (R .slots d) d (first .spaced) (both .1)
 
             pub merge-0 : (u : List ℕ) → n ≤ length out
@@ -156,7 +158,7 @@ module _ (most : ℕ) where
 
   settled : (d : List ℕ) (k : ℕ) (s : List ℕ) (a b l c : Bool) → R .accepts d ≡ a → ltb k (length (R .slots d)) ≡ b → eqb (length s) 65 ≡ l
       → clashes (slotAt d (getD (R .slots d) k 0)) s ≡ c
-      → decideFill a b l c k (put (getD (R .slots d) k 0) (join (slotAt d (getD (R .slots d) k 0)) s) d) d ≡ fillCall R d k s
+      → decideFill a b l c k (putSlot (getD (R .slots d) k 0) (join (slotAt d (getD (R .slots d) k 0)) s) d) d ≡ fillCall R d k s
   unfolding fillCall signatureWidth
   settled d k s a b l c ha hb hl hc = sym (rw (ha, hb, hl, hc))
 
@@ -164,7 +166,7 @@ module _ (most : ℕ) where
     pub fill-17 : (f : Refusal) → x ≡ C.Refused f → (r : Answer) → r ≡ refuse firstNotAccepted 0 → (r, d) ≡ fillCall R d k s
     fill-17 f q r h = beside r (refuse firstNotAccepted 0) d _ h (settled d k s false _ _ _ (not-accepted most d x f px q) refl refl refl)
 
-    module _ (w : Layout) (n : ℕ) (qx : x ≡ C.Accepted w n) (bd : Slice d) (z : Found) (hz : z ≡ placed (walk d (w .«credentials_at»)) k) where
+    module _ (w : Layout) (n : ℕ) (qx : x ≡ C.Accepted w n) (bd : Slice d) (z : Found) (hz : z ≡ placed (scan d (w .«credentials_at»)) k) where
       draft : Known most d w n
       draft = known most d bd x w n px qx
 
@@ -186,10 +188,11 @@ module _ (most : ℕ) where
           clash = sym (ht ∙ ap (λ (y : List ℕ). clashes y s) (ha ∙ ap (slotAt d) (sym (there .1))))
 
           pub fill-20 : t ≡ true → (r : Answer) → r ≡ refuse conflict k → (r, d) ≡ fillCall R d k s
-          fill-20 q r h = beside r (refuse conflict k) d _ h (settled d k s true true true true (draft .accepts) (there .0) (eq-eqb (length s) 65 l) (clash ∙ q))
+          fill-20 q r h = beside r (refuse conflict k) d _ h
+              (settled d k s true true true true (draft .accepts) (there .0) (eq-eqb (length s) 65 l) (clash ∙ q))
 
           pub fill-0 : t ≡ false → (u : List ℕ) → u ≡ joinedAt p s d → (A.Done n, u) ≡ fillCall R d k s
           fill-0 q u h =
               ap₂ (λ (i : ℕ) (y : List ℕ). (A.Done i, y)) (draft .long)
-              (h ∙ joined-put p s d (sixty-five (length s) l) ∙ ap (λ (i : ℕ). put i (join (slotAt d i) s) d) (sym (there .1)))
+              (h ∙ joined-put p s d (sixty-five (length s) l) ∙ ap (λ (i : ℕ). putSlot i (join (slotAt d i) s) d) (sym (there .1)))
               ∙ settled d k s true true true false (draft .accepts) (there .0) (eq-eqb (length s) 65 l) (clash ∙ q)

@@ -5,7 +5,7 @@ use mathlib.Core.List.{List}
 use Prim.Native.Nat.{ℕ, _-_}
 use native.Mathlib.Omega.{arith}
 use lib.ListN.{length, take}
-use Rattle.wire.specs.Bytes.{part}
+use Rattle.wire.specs.Bytes.{between}
 use Rattle.wire.specs.Format.{Format}
 use Rattle.wire.specs.declared.Refusal.{Refusal}
 use Rattle.wire.proofs.Bytes.{Slice, slice-bytes, found}
@@ -20,9 +20,9 @@ use Rattle.transaction.specs.declared.Checked.{Checked}
 use Rattle.transaction.specs.declared.Checked.the-variants as C
 use Rattle.transaction.proofs.Signed.{parts-took, check-of, read-body, slots-eq, length-eq, spaced-slots, same-unsigned}
 use Rattle.transaction.proofs.Verdicts.{refused-check, checked-accepted, layout-credentials}
-use Rattle.slot.specs.Walk.{walk}
+use Rattle.draft_slots.specs.Scan.{scan}
 use Rattle.draft.specs.Reader.{Reader, reader, body}
-use Rattle.draft.proofs.Walked.{walked}
+use Rattle.draft.proofs.Walked.{scanned}
 
 -- with memos of at most `most` bytes
 module _ (most : ℕ) where
@@ -44,7 +44,7 @@ module _ (most : ℕ) where
     pub end : w .«credentials_at» ≡ length (U .write value)
     pub place : w .«credentials_at» ≡ avmReader .credentialsAt s
     pub long : n ≡ length s
-    pub slots : walk s (w .«credentials_at») ≡ avmReader .slots s
+    pub slots : scan s (w .«credentials_at») ≡ avmReader .slots s
     pub spaced : Spaced 0 (avmReader .slots s) (length s)
 
   pub known : (s : List ℕ) → Slice s → (x : Checked) (w : Layout) (n : ℕ) → x ≡ checked most s → x ≡ C.Accepted w n → Known s w n
@@ -61,7 +61,7 @@ module _ (most : ℕ) where
         end = at;
         place = at ∙ sym (ap endOf (read-body U W s (v .0) (v .1) r));
         long = cc;
-        slots = ap (walk s) at ∙ walked U W s (v .0) (v .1) r ∙ sym (slots-eq U W s (v .0) (v .1) r);
+        slots = ap (scan s) at ∙ scanned U W s (v .0) (v .1) r ∙ sym (slots-eq U W s (v .0) (v .1) r);
         spaced = spaced-slots U W s (v .0) (v .1) r;
       }
 
@@ -69,7 +69,7 @@ module _ (most : ℕ) where
   not-accepted s x e p q = ap taken (refused-check most s e (found q p))
 
   -- the bytes before the credential count
-  pub known-body : (s : List ℕ) (w : Layout) (n : ℕ) → Known s w n → part 0 (w .«credentials_at») s ≡ body avmReader s
+  pub known-body : (s : List ℕ) (w : Layout) (n : ℕ) → Known s w n → between 0 (w .«credentials_at») s ≡ body avmReader s
   unfolding body
   known-body s w n k = let q : w .«credentials_at» - 0 ≡ avmReader .credentialsAt s = omega (arith, k .place) in ap (λ (i : ℕ). take i s) q
 

@@ -8,21 +8,21 @@ use lib.ListN.{length, drop, length-append}
 use lib.Seq.{drop-at}
 use Rattle.wire.specs.Bytes.{Bytes, bytes-append, drop-step}
 use Rattle.wire.specs.Format.{Format}
-use Rattle.wire.specs.Fields.{number, length-number, blob}
+use Rattle.wire.specs.Fields.{integer, length-integer, blob}
 use Rattle.transaction.specs.Slots.{signatureWidth}
 use Rattle.transaction.specs.Credentials.{Want, credentialCode, Piece, signatures, each, layout, pieces, credentials, places}
 use Rattle.transaction.specs.Signed.{assemble, Parts}
-use Rattle.slot.specs.Walk.{runAt, onRun, slotRun, walkFrom, walk}
-use Rattle.slot.specs.declared.Run.{Run}
-use Rattle.slot.specs.declared.Run.the-variants as R
+use Rattle.draft_slots.specs.Scan.{rangeAt, onRange, slotRange, scanFrom, scan}
+use Rattle.draft_slots.specs.declared.SlotRange.{SlotRange}
+use Rattle.draft_slots.specs.declared.SlotRange.the-variants as R
 
 -- n signatures are a run of slots, and then the others
-places-run : (n : ℕ) (ps : List Piece) (p : ℕ) → places p (signatures n ps) ≡ slotRun n p ++ places (p + 65 * n) ps
-unfolding places signatures slotRun signatureWidth
-places-run zero ps p = let e : p ≡ p + 65 * 0 = omega arith in ap (λ (i : ℕ). places i ps) e
-places-run (suc n) ps p =
+places-range : (n : ℕ) (ps : List Piece) (p : ℕ) → places p (signatures n ps) ≡ slotRange n p ++ places (p + 65 * n) ps
+unfolding places signatures slotRange signatureWidth
+places-range zero ps p = let e : p ≡ p + 65 * 0 = omega arith in ap (λ (i : ℕ). places i ps) e
+places-range (suc n) ps p =
     let e : p + 65 + 65 * n ≡ p + 65 * suc n = omega arith in
-    ap (λ (l : List ℕ). p ∷ l) (places-run n ps (p + 65) ∙ ap (λ (i : ℕ). slotRun n (p + 65) ++ places i ps) e)
+    ap (λ (l : List ℕ). p ∷ l) (places-range n ps (p + 65) ∙ ap (λ (i : ℕ). slotRange n (p + 65) ++ places i ps) e)
 
 -- .. and so many bytes
 pub record Split (n : ℕ) (ps : List Piece) (l : List (List ℕ)) : Type 0 where
@@ -49,67 +49,68 @@ split (suc n) ps (b ∷ l) g =
     }
 
 -- what stands behind a number
-pub behind-number : (s : List ℕ) (q v : ℕ) (t : List ℕ) → drop q s ≡ number 4 .write v ++ t → drop (q + 4) s ≡ t
-behind-number s q v t h = subst (λ (n : ℕ). drop (q + n) s ≡ t) (length-number 4 v) (drop-step s q (number 4 .write v) t h)
+pub behind-integer : (s : List ℕ) (q v : ℕ) (t : List ℕ) → drop q s ≡ integer 4 .write v ++ t → drop (q + 4) s ≡ t
+behind-integer s q v t h = subst (λ (n : ℕ). drop (q + n) s ≡ t) (length-integer 4 v) (drop-step s q (integer 4 .write v) t h)
 
 -- the slots of a credential that stands at q, and what follows them
-module _ (s : List ℕ) (q t n : ℕ) (x rest : List ℕ) (gt : number 4 .Good t) (gn : number 4 .Good n) (lx : length x ≡ 65 * n) (bx : Bytes x)
-    (h : drop q s ≡ number 4 .write t ++ (number 4 .write n ++ (x ++ rest))) where
-  at-count : drop (q + 4) s ≡ number 4 .write n ++ (x ++ rest)
-  at-count = behind-number s q t (number 4 .write n ++ (x ++ rest)) h
+module _ (s : List ℕ) (q t n : ℕ) (x rest : List ℕ) (gt : integer 4 .Good t) (gn : integer 4 .Good n) (lx : length x ≡ 65 * n) (bx : Bytes x)
+    (h : drop q s ≡ integer 4 .write t ++ (integer 4 .write n ++ (x ++ rest))) where
+  at-count : drop (q + 4) s ≡ integer 4 .write n ++ (x ++ rest)
+  at-count = behind-integer s q t (integer 4 .write n ++ (x ++ rest)) h
 
   at-signatures : drop (q + 4 + 4) s ≡ x ++ rest
-  at-signatures = behind-number s (q + 4) n (x ++ rest) at-count
+  at-signatures = behind-integer s (q + 4) n (x ++ rest) at-count
 
   pub behind-signatures : drop (q + 4 + 4 + 65 * n) s ≡ rest
   behind-signatures = subst (λ (i : ℕ). drop (q + 4 + 4 + i) s ≡ rest) lx (drop-step s (q + 4 + 4) x rest at-signatures)
 
-  pub run-there : runAt s q ≡ R.Slots (q + 4 + 4) n (q + 4 + 4 + 65 * n)
+  pub range-there : rangeAt s q ≡ R.Slots (q + 4 + 4) n (q + 4 + 4 + 65 * n)
   unfolding blob
-  run-there =
-      blob 4 .complete s q (number 4 .write t) (number 4 .write n ++ (x ++ rest)) (λ e. R.End) (λ b i. counted i) (length-number 4 t, number 4 .bytes t gt) h
-      ∙ ap (λ (i : ℕ). counted (q + i)) (length-number 4 t)
-      ∙ number 4 .complete s (q + 4) n (x ++ rest) (λ e. R.End) signed gn at-count
-      ∙ ap (λ (i : ℕ). signed n (q + 4 + i)) (length-number 4 n)
-      ∙ blob (65 * n) .complete s (q + 4 + 4) x rest (λ e. R.End) (λ b next. R.Slots (q + 4 + 4) n next) (lx, bx) at-signatures
+  range-there =
+      blob 4 .complete s q (integer 4 .write t) (integer 4 .write n ++ (x ++ rest)) (λ e. R.Nothing) (λ b i. counted i)
+      (length-integer 4 t, integer 4 .bytes t gt) h
+      ∙ ap (λ (i : ℕ). counted (q + i)) (length-integer 4 t)
+      ∙ integer 4 .complete s (q + 4) n (x ++ rest) (λ e. R.Nothing) signed gn at-count
+      ∙ ap (λ (i : ℕ). signed n (q + 4 + i)) (length-integer 4 n)
+      ∙ blob (65 * n) .complete s (q + 4 + 4) x rest (λ e. R.Nothing) (λ b next. R.Slots (q + 4 + 4) n next) (lx, bx) at-signatures
       ∙ ap (λ (i : ℕ). R.Slots (q + 4 + 4) n (q + 4 + 4 + i)) lx
     where
-      signed : ℕ → ℕ → Run
-      signed c first = blob (65 * c) .run s first (λ e. R.End) (λ b next. R.Slots first c next)
+      signed : ℕ → ℕ → SlotRange
+      signed c first = blob (65 * c) .parse s first (λ e. R.Nothing) (λ b next. R.Slots first c next)
 
-      counted : ℕ → Run
-      counted i = number 4 .run s i (λ e. R.End) signed
+      counted : ℕ → SlotRange
+      counted i = integer 4 .parse s i (λ e. R.Nothing) signed
 
 -- three parts, one behind the other, and what is left of the third
 pub regroup : (a b c x y rest : List ℕ) → c ≡ x ++ y → (a ++ (b ++ c)) ++ rest ≡ a ++ (b ++ (x ++ (y ++ rest)))
 regroup a b c x y rest e = rw e (simp append-assoc)
 
-walk-each : (ws : List Want) (l : List (List ℕ)) (s : List ℕ) (q : ℕ) (rest : List ℕ) → pieces (each ws) .Good l → drop q s ≡ pieces (each ws) .write l ++ rest
-    → walkFrom (length ws) s q ≡ places q (each ws)
-unfolding each pieces walkFrom places number
-walk-each [] l s q rest g h = refl
-walk-each (w ∷ ws) l s q rest g h =
+scan-each : (ws : List Want) (l : List (List ℕ)) (s : List ℕ) (q : ℕ) (rest : List ℕ) → pieces (each ws) .Good l → drop q s ≡ pieces (each ws) .write l ++ rest
+    → scanFrom (length ws) s q ≡ places q (each ws)
+unfolding each pieces scanFrom places integer
+scan-each [] l s q rest g h = refl
+scan-each (w ∷ ws) l s q rest g h =
     let n : ℕ = w .signatures in
     let t : ℕ = credentialCode (w .type) in
     let r : Split n (each ws) l = split n (each ws) l (g .1 .1) in
     let y : List ℕ = pieces (each ws) .write (r .others) ++ rest in
-    let k : drop q s ≡ number 4 .write t ++ (number 4 .write n ++ (r .front ++ y)) =
-    h ∙ regroup (number 4 .write t) (number 4 .write n) (pieces (signatures n (each ws)) .write l) (r .front) (pieces (each ws) .write (r .others)) rest
+    let k : drop q s ≡ integer 4 .write t ++ (integer 4 .write n ++ (r .front ++ y)) =
+    h ∙ regroup (integer 4 .write t) (integer 4 .write n) (pieces (signatures n (each ws)) .write l) (r .front) (pieces (each ws) .write (r .others)) rest
     (r .written) in
-    ap (λ (u : Run). onRun u [] (λ first c next. slotRun c first ++ walkFrom (length ws) s next))
-    (run-there s q t n (r .front) y (g .0 .0) (g .1 .0 .0) (r .long) (r .bytes) k)
-    ∙ ap (λ (ps : List ℕ). slotRun n (q + 4 + 4) ++ ps)
-    (walk-each ws (r .others) s (q + 4 + 4 + 65 * n) rest (r .good) (behind-signatures s q t n (r .front) y (g .0 .0) (g .1 .0 .0) (r .long) (r .bytes) k))
-    ∙ sym (places-run n (each ws) (q + 4 + 4))
+    ap (λ (u : SlotRange). onRange u [] (λ first c next. slotRange c first ++ scanFrom (length ws) s next))
+    (range-there s q t n (r .front) y (g .0 .0) (g .1 .0 .0) (r .long) (r .bytes) k)
+    ∙ ap (λ (ps : List ℕ). slotRange n (q + 4 + 4) ++ ps)
+    (scan-each ws (r .others) s (q + 4 + 4 + 65 * n) rest (r .good) (behind-signatures s q t n (r .front) y (g .0 .0) (g .1 .0 .0) (r .long) (r .bytes) k))
+    ∙ sym (places-range n (each ws) (q + 4 + 4))
 
 module _ {U : Type 0} (body : Format U) (wants : U → List Want) (d : List ℕ) (u : U) (l : List (List ℕ)) (p : Parts body wants d u l) where
-  pub walked : walk d (length (body .write u)) ≡ places (length (body .write u)) (layout (wants u))
-  unfolding assemble credentials layout pieces places number
-  walked =
+  pub scanned : scan d (length (body .write u)) ≡ places (length (body .write u)) (layout (wants u))
+  unfolding assemble credentials layout pieces places integer
+  scanned =
       let ws : List Want = wants u in
       let at : ℕ = length (body .write u) in
       let w : List ℕ = pieces (each ws) .write l in
-      let k : drop at d ≡ number 4 .write (length ws) ++ w = ap (drop at) (p .same) ∙ drop-at (body .write u) (number 4 .write (length ws) ++ w) at refl in
-      number 4 .complete d at (length ws) w (λ e. []) (λ n q. walkFrom n d q) (p .signatures-good .0 .0) k
-      ∙ ap (λ (i : ℕ). walkFrom (length ws) d (at + i)) (length-number 4 (length ws))
-      ∙ walk-each ws l d (at + 4) [] (p .signatures-good .1) (behind-number d at (length ws) w k ∙ sym (append-nil w))
+      let k : drop at d ≡ integer 4 .write (length ws) ++ w = ap (drop at) (p .same) ∙ drop-at (body .write u) (integer 4 .write (length ws) ++ w) at refl in
+      integer 4 .complete d at (length ws) w (λ e. []) (λ n q. scanFrom n d q) (p .signatures-good .0 .0) k
+      ∙ ap (λ (i : ℕ). scanFrom (length ws) d (at + i)) (length-integer 4 (length ws))
+      ∙ scan-each ws l d (at + 4) [] (p .signatures-good .1) (behind-integer d at (length ws) w k ∙ sym (append-nil w))

@@ -8,8 +8,8 @@ use lib.Dec.{leb, ltb, eqb}
 use lib.ListN.{length, drop, getD}
 use Rattle.wire.specs.declared.Rule.{Rule}
 use Rattle.wire.specs.Numbers.{refusal, numberOf, noRoom, noEntry, firstNotAccepted, secondNotAccepted, draftsDiffer, conflict, notASignature}
-use Rattle.transaction.specs.Slots.{signatureWidth, slotAt, put, putAll}
-use Rattle.slot.specs.Joining.{same, clashes, join, firstClash}
+use Rattle.transaction.specs.Slots.{signatureWidth, slotAt, putSlot, putAll}
+use Rattle.draft_slots.specs.Joining.{same, clashes, join, firstClash}
 use Rattle.draft.specs.Reader.{Reader, body, slotCount, slot}
 use Rattle.draft.specs.declared.Answer.{Answer}
 use Rattle.draft.specs.declared.Answer.the-variants as A
@@ -59,7 +59,7 @@ decideFill true true true true k m d = (refuse conflict k, d)
 decideFill true true true false k m d = (A.Done (length d), m)
 
 unfoldable pub fillCall : Reader → List ℕ → ℕ → List ℕ → Answer × List ℕ
-unfolding slot slotCount clashes join put
+unfolding slot slotCount clashes join putSlot
 fillCall R d k s =
     decideFill (R .accepts d) (ltb k (slotCount R d)) (eqb (length s) signatureWidth) (clashes (slot R d k) s) k
-    (put (getD (R .slots d) k 0) (join (slot R d k) s) d) d
+    (putSlot (getD (R .slots d) k 0) (join (slot R d k) s) d) d

@@ -2,12 +2,12 @@
 ghost use mathlib.Core.Path.{_≡_};
 ghost use mathlib.Core.List.{_++_};
 ghost use lib.ListN.{length, take, drop};
-ghost use Rattle.slot.specs.Walk.{joinedWith};
+ghost use Rattle.draft_slots.specs.Scan.{joinedWith};
 ghost use Rattle.transaction.specs.Avm.{avm};
 ghost use Rattle.transaction.specs.Answer.{memoMost};
 ghost use Rattle.draft.specs.Reader.{reader};
 ghost use Rattle.draft.specs.Calls.{refuse, mergeCall, fillCall};
-use slot::Found;
+use draft_slots::Found;
 use transaction::Checked;
 use wire::Refusal;
 use wire::Rule;
@@ -31,16 +31,16 @@ fn fill_within(draft: &mut [u8], k: usize, signature: &[u8], most: u64) -> Answe
     let Checked::Accepted(layout, end) = checker::check::check_within(draft, most) else {
         return refused(Rule::FirstNotAccepted, 0);
     };
-    let Found::At(at) = slot::walk::place_of(draft, layout.credentials_at, k) else {
+    let Found::At(at) = draft_slots::ranges::place_of(draft, layout.credentials_at, k) else {
         return refused(Rule::NoEntry, 0);
     };
     if signature.len() != transaction::SIGNATURE_WIDTH {
         return refused(Rule::NotASignature, 0);
     }
-    if slot::compare::clash(slot::compare::slot_of(draft, at), signature) {
+    if draft_slots::compare::clash(draft_slots::compare::slot_of(draft, at), signature) {
         return refused(Rule::Conflict, k);
     }
-    slot::join::join_at(draft, at, signature);
+    draft_slots::join::join_at(draft, at, signature);
     Answer::Done(end)
 }
 
@@ -52,10 +52,11 @@ pub fn fill(draft: &mut [u8], k: usize, signature: &[u8]) -> Answer
 
 // The first draft's bytes, and what its empty slots take from the second.
 fn put_merge(room: &mut [u8], first: &[u8], second: &[u8], at: usize)
-    ensures { λ _. ⌜ now (room .exit) ≡ joinedWith (now (second .entry)) at (take (length (now (room .entry))) (now (first .entry)) ++ drop (length (now (first .entry))) (now (room .entry))) ⌝ }
+    ensures { λ _. ⌜ now (room .exit) ≡ joinedWith (now (second .entry)) at
+        (take (length (now (room .entry))) (now (first .entry)) ++ drop (length (now (first .entry))) (now (room .entry))) ⌝ }
 {
     wire::put_bytes(room, first);
-    slot::join::join_slots(room, second, at);
+    draft_slots::join::join_slots(room, second, at);
 }
 
 // Joins the second draft's signatures to the first's, at the front of out. A memo has at most so many bytes.
@@ -69,13 +70,13 @@ fn merge_within(first: &[u8], second: &[u8], out: &mut [u8], most: u64) -> Answe
         return refused(Rule::SecondNotAccepted, 0);
     };
     let at = layout.credentials_at;
-    if !slot::compare::same_bytes(
+    if !draft_slots::compare::same_bytes(
         wire::between(first, 0, at),
         wire::between(second, 0, other.credentials_at),
     ) {
         return refused(Rule::DraftsDiffer, 0);
     }
-    if let Found::At(k) = slot::walk::first_clash(first, second, at) {
+    if let Found::At(k) = draft_slots::ranges::first_clash(first, second, at) {
         return refused(Rule::Conflict, k);
     }
     if out.len() < end {

@@ -10,25 +10,31 @@ use lib.Dec.{leb}
 use borrow.Author.Tests.{ltb-true, lt-ltb, leb-true, le-leb, eqb-true, eq-eqb}
 use Rattle.wire.specs.Bytes.{Bytes, digits, length-digits, below, pick}
 use Rattle.wire.specs.Numbers.{unknownType}
-use Rattle.wire.specs.Fields.{Sized, number, blob}
+use Rattle.wire.specs.Fields.{Sized, integer, blob}
 use Rattle.wire.specs.Sequence.{guard, andThen, tag}
-use Rattle.wire.specs.Series.{left, Chain, above, notBelow, series, counted}
+use Rattle.wire.specs.Series.{left, Chain, above, notBelow, series, countPrefixed}
 use Rattle.wire.specs.Orders.{All, OneOf, Increasing, Nondecreasing, Ascending}
 use Rattle.wire.proofs.Bytes.{key-below}
-use Rattle.wire.proofs.Orders.{constant-good, tag-good, keyBelow-order, above-good, notBelow-good, unordered-good, ascending-good, series-good, counted-good, adjacent-map}
+use Rattle.wire.proofs.Orders.{constant-good, tag-good, keyBelow-order, above-good, notBelow-good, unordered-good, ascending-good, series-good}
+use Rattle.wire.proofs.Orders.{counted-good, adjacent-map}
 use Rattle.string.specs.Strings.{string, payload, isPrintable, unprintable, text, denomination}
 use Rattle.element.specs.Owners.{Owners, owners}
-use Rattle.element.specs.Outputs.{amount, transferBody, OutputType, secpMint, secpTransfer, nftMint, nftTransfer, outputCode, OutputBody, outputBody, outputType, outputType-code, Output, output, TransferableOutput, transferableOutput}
+use Rattle.element.specs.Outputs.{amount, transferBody, OutputType, secpMint, secpTransfer, nftMint, nftTransfer, outputCode, OutputBody}
+use Rattle.element.specs.Outputs.{outputBody, outputType, outputType-code, Output, output, TransferableOutput, transferableOutput}
 use Rattle.element.specs.Inputs.{key, indices, Input, spend, inputAfter, input}
-use Rattle.element.specs.Operations.{OperationType, mintNft, transferNft, operationCode, operationType, operationType-code, OperationOwners, operationOwners, terms, action, Operation, operation, Fx, secpFx, nftFx, fxCode, fxOf, fxOf-code, fxOutputs, fxId, stateOutputs, InitialState, initialStateAfter, initialState}
-use Rattle.element.specs.Good.{GoodString, Printable, GoodText, GoodOwners, GoodAmount, GoodOutputBody, GoodOutput, GoodTransferableOutput, GoodIndices, GoodKey, GoodInput, inputKey, GoodRecipients, GoodOperationOwners, GoodTerms, GoodOperation, outputsUnder, GoodInitialState}
-use Rattle.element.specs.Layout.{outputBytes, keyBytes}
+use Rattle.element.specs.Operations.{OperationType, mintNft, transferNft, operationCode, operationType, operationType-code, OperationOwners}
+use Rattle.element.specs.Operations.{operationOwners, terms, action, Operation, operation, Fx, secpFx, nftFx, fxCode, fxOf, fxOf-code}
+use Rattle.element.specs.Operations.{fxOutputs, fxId, stateOutputs, InitialState, initialStateAfter, initialState}
+use Rattle.element.specs.Good.{GoodString, Printable, GoodText, GoodOwners, GoodAmount, GoodOutputBody, GoodOutput, GoodTransferableOutput}
+use Rattle.element.specs.Good.{GoodIndices, GoodKey, GoodInput, inputKey, GoodRecipients, GoodOperationOwners, GoodTerms, GoodOperation}
+use Rattle.element.specs.Good.{outputsUnder, GoodInitialState}
+use Rattle.element.specs.PlainBytes.{outputBytes, keyBytes}
 use Rattle.element.proofs.Writing.{output-bytes}
 
 -- ---- strings
 
 pub string-good : (w most : ℕ) (b : List ℕ) → string w most .Good b ↔ (GoodString most b × (length b < 256 ^ w))
-unfolding string blob number
+unfolding string blob integer
 string-good w most b = (
   λ h. (record { short = leb-true (length b) most (h .0 .1); bytes = h .1 .1 }, h .0 .0),
   λ g. ((g .1, le-leb (length b) most (g .0 .short)), (refl, g .0 .bytes)),
@@ -64,7 +70,7 @@ characters-bytes [] g = tt
 characters-bytes (x ∷ b) g = (omega arith, characters-bytes b (g .1))
 
 pub text-good : (most : ℕ) → most < 256 ^ 2 → (b : List ℕ) → text most .Good b ↔ GoodText most b
-unfolding text blob number
+unfolding text blob integer
 text-good most fits b = (
   λ h.
       record {
@@ -79,17 +85,24 @@ text-good most fits b = (
 )
 
 pub denomination-good : (n : ℕ) → denomination .Good n ↔ (n ≤ 32)
-unfolding denomination number
+unfolding denomination integer
 denomination-good n = (λ h. leb-true n 32 (h .1), λ g. (omega arith, le-leb n 32 g))
 
 -- ---- owners
 
 pub owners-good : (o : Owners) → owners .Good o ↔ GoodOwners o
-unfolding owners blob number
+unfolding owners blob integer
 owners-good o = (
   λ h.
       let (each, sorted) = list .0 (h .1 .1) .1 in
-      record { locktime = h .0; threshold = leb-true (o .threshold) (length (o .addresses)) (h .1 .0 .1); count = h .1 .0 .0 .1; addresses = each; order = sorted },
+      record {
+        locktime = h .0;
+        threshold = leb-true (o .threshold) (length (o .addresses))
+            (h .1 .0 .1);
+        count = h .1 .0 .0 .1;
+        addresses = each;
+        order = sorted;
+      },
   λ g. (
     g .locktime,
     (((omega arith, g .count), le-leb (o .threshold) (length (o .addresses)) (g .threshold)), list .1 (refl, (g .addresses, g .order))),
@@ -105,11 +118,11 @@ owners-good o = (
 -- ---- outputs
 
 pub amount-good : (n : ℕ) → amount .Good n ↔ GoodAmount n
-unfolding amount number
+unfolding amount integer
 amount-good n = (λ h. record { positive = ltb-true 0 n (h .1); width = h .0 }, λ g. (g .width, lt-ltb 0 n (g .positive)))
 
 pub outputBody-good : (k : OutputType) (b : OutputBody k) → outputBody k .Good b ↔ GoodOutputBody k b
-unfolding andThen number transferBody
+unfolding andThen integer transferBody
 outputBody-good secpMint o = owners-good o
 outputBody-good secpTransfer (n, o) = (
   λ h. record { amount-good = amount-good n .0 (h .0); owners-good = owners-good o .0 (h .1) },
@@ -131,14 +144,14 @@ outputCode-fits nftMint = omega arith
 outputCode-fits nftTransfer = omega arith
 
 pub output-good : (types : List OutputType) (o : Output) → output types .Good o ↔ GoodOutput types o
-unfolding output number
+unfolding output integer
 output-good types (k, b) = (
-  λ h. record { type = kind .0 (h .0); body = outputBody-good k b .0 (h .1) },
-  λ g. (kind .1 (g .type), outputBody-good k b .1 (g .body)),
+  λ h. record { type = «type_id» .0 (h .0); body = outputBody-good k b .0 (h .1) },
+  λ g. («type_id» .1 (g .type), outputBody-good k b .1 (g .body)),
 )
   where
-    kind : tag outputCode outputType outputType-code (number 4) types unknownType .Good k ↔ OneOf k types
-    kind = tag-good outputCode outputType outputType-code (number 4) types unknownType k (outputCode-fits k)
+    «type_id» : tag outputCode outputType outputType-code (integer 4) types unknownType .Good k ↔ OneOf k types
+    «type_id» = tag-good outputCode outputType outputType-code (integer 4) types unknownType k (outputCode-fits k)
 
 pub transferableOutput-good : (o : TransferableOutput) → transferableOutput .Good o ↔ GoodTransferableOutput o
 unfolding transferableOutput blob
@@ -150,7 +163,7 @@ transferableOutput-good o = (
 -- ---- inputs
 
 pub indices-good : (l : List ℕ) → indices .Good l ↔ GoodIndices l
-unfolding indices number
+unfolding indices integer
 indices-good l = (
   λ h.
       let (count, (each, sorted)) = list .0 h in
@@ -159,10 +172,10 @@ indices-good l = (
 )
   where
     list : indices .Good l ↔ ((length l < 256 ^ 4) × (All (λ n. n < 256 ^ 4) l × Ascending l))
-    list = counted-good (above (number 4)) (λ l. All (λ n. n < 256 ^ 4) l × Ascending l) (ascending-good 4 (omega arith)) (number 4) l
+    list = counted-good (above (integer 4)) (λ l. All (λ n. n < 256 ^ 4) l × Ascending l) (ascending-good 4 (omega arith)) (integer 4) l
 
 pub key-good : (k : List ℕ × ℕ) → key .Good k ↔ GoodKey (k .0) (k .1)
-unfolding key blob number
+unfolding key blob integer
 key-good k = (λ h. record { id-good = h .0; index-width = h .1 }, λ g. (g .id-good, g .index-width))
 
 pub key-width : (k : List ℕ × ℕ) → GoodKey (k .0) (k .1) → length (keyBytes (k .0) (k .1)) ≡ 36
@@ -175,7 +188,7 @@ key-order a b i j g h = rw (key-below a b i j (omega arith) (g .index-width) (h 
 
 -- an input is read in view of the bytes of the one before
 pub input-good : (prev : List ℕ) (i : Input) → input prev .Good i ↔ (GoodInput i × (below (take 36 prev) (inputKey i) ≡ true))
-unfolding inputAfter key blob number guard spend
+unfolding inputAfter key blob integer guard spend
 input-good prev i = (
   λ h. (
     record {
@@ -194,7 +207,7 @@ input-good prev i = (
 
 -- what an input begins with
 pub input-front : (prev : List ℕ) (i : Input) → (t : List ℕ) × (input prev .write i ≡ inputKey i ++ t)
-unfolding inputAfter key blob number guard spend
+unfolding inputAfter key blob integer guard spend
 input-front prev i = (spend .write (i .asset, (tt, (i .amount, i .indices))), refl)
 
 -- ---- operations
@@ -208,7 +221,7 @@ operationCode-listed mintNft = inl refl
 operationCode-listed transferNft = inr (inl refl)
 
 pub recipients-good : (l : List Owners) → operationOwners mintNft .Good l ↔ GoodRecipients l
-unfolding number
+unfolding integer
 recipients-good l = (
   λ h.
       let (count, each) = list .0 h in
@@ -216,15 +229,15 @@ recipients-good l = (
   λ g. list .1 (g .count, g .each),
 )
   where
-    list : operationOwners mintNft .Good l ↔ (number 4 .Good (length l) × All GoodOwners l)
-    list = counted-good (λ prev. owners) (All GoodOwners) (unordered-good owners GoodOwners owners-good []) (number 4) l
+    list : operationOwners mintNft .Good l ↔ (integer 4 .Good (length l) × All GoodOwners l)
+    list = counted-good (λ prev. owners) (All GoodOwners) (unordered-good owners GoodOwners owners-good []) (integer 4) l
 
 pub operationOwners-good : (k : OperationType) (o : OperationOwners k) → operationOwners k .Good o ↔ GoodOperationOwners k o
 operationOwners-good mintNft l = recipients-good l
 operationOwners-good transferNft o = owners-good o
 
 pub terms-good : (t : List ℕ × (ℕ × List ℕ)) → terms .Good t ↔ GoodTerms (t .0) (t .1 .0) (t .1 .1)
-unfolding terms number
+unfolding terms integer
 terms-good (list, (group, p)) = (
   λ h. record { indices-good = indices-good list .0 (h .0); group-width = h .1 .0; payload-good = payload-good p .0 (h .1 .1) },
   λ g. (indices-good list .1 (g .indices-good), (g .group-width, payload-good p .1 (g .payload-good))),
@@ -233,9 +246,9 @@ terms-good (list, (group, p)) = (
 abbrev GoodPairs : List (List ℕ × ℕ) → Type 0
 GoodPairs l = All (λ (id, index). GoodKey id index) l × Increasing (map (λ (id, index). keyBytes id index) l)
 
-pairs-good : (l : List (List ℕ × ℕ)) → counted (number 4) (above key) .Good l ↔ ((length l < 256 ^ 4) × GoodPairs l)
-unfolding key blob number
-pairs-good l = counted-good (above key) GoodPairs chain (number 4) l
+pairs-good : (l : List (List ℕ × ℕ)) → countPrefixed (integer 4) (above key) .Good l ↔ ((length l < 256 ^ 4) × GoodPairs l)
+unfolding key blob integer
+pairs-good l = counted-good (above key) GoodPairs chain (integer 4) l
   where
     chain : (l : List (List ℕ × ℕ)) → Chain (above key) (left (above key)) [] l ↔ GoodPairs l
     chain l =
@@ -244,7 +257,7 @@ pairs-good l = counted-good (above key) GoodPairs chain (number 4) l
         (Iff·and Iff·rfl (adjacent-map (λ (id, index). keyBytes id index) (λ a b. below a b ≡ true) l))
 
 pub operation-good : (v : Operation) → operation .Good v ↔ GoodOperation v
-unfolding operation action blob number
+unfolding operation action blob integer
 operation-good v = (
   λ h.
       let (count, (each, sorted)) = pairs-good (v .outputs) .0 (h .1 .0) in
@@ -261,7 +274,8 @@ operation-good v = (
     (
       pairs-good (v .outputs) .1 (g .count, (g .outputs, g .order)),
       (
-        tag-good operationCode operationType operationType-code (number 4) (mintNft ∷ transferNft ∷ []) unknownType (v .owners .0) (operationCode-fits (v .owners .0)) .1
+        tag-good operationCode operationType operationType-code (integer 4) (mintNft ∷ transferNft ∷ []) unknownType (v .owners .0)
+            (operationCode-fits (v .owners .0)) .1
             (operationCode-listed (v .owners .0)),
         (terms-good (v .terms) .1 (g .terms), operationOwners-good (v .owners .0) (v .owners .1) .1 (g .owners)),
       ),
@@ -286,13 +300,15 @@ outputs-under nftFx = refl
 -- an initial state is read in view of the bytes of the one before
 pub initialState-good : (prev : List ℕ) (v : InitialState)
     → initialState prev .Good v ↔ (GoodInitialState v × (below (take 4 prev) (digits 4 (fxCode (v .fx))) ≡ true))
-unfolding initialStateAfter fxId number stateOutputs guard
+unfolding initialStateAfter fxId integer stateOutputs guard
 initialState-good prev v = (
   λ h.
-      let (count, (each, sorted)) = list .0 (h .1) in
-      (record { count = count; outputs = subst (λ (l : List OutputType). All (GoodOutput l) (v .outputs)) (outputs-under (v .fx)) each; order = sorted }, h .0 .1),
+      let (count, (each, sorted)) = list .0 (h .1) in (
+        record { count = count; outputs = subst (λ (l : List OutputType). All (GoodOutput l) (v .outputs)) (outputs-under (v .fx)) each; order = sorted },
+        h .0 .1,
+      ),
   λ g. (
-    (tag-good fxCode fxOf fxOf-code (number 4) (secpFx ∷ nftFx ∷ []) unknownType (v .fx) (fxCode-fits (v .fx)) .1 (fxCode-listed (v .fx)), g .1),
+    (tag-good fxCode fxOf fxOf-code (integer 4) (secpFx ∷ nftFx ∷ []) unknownType (v .fx) (fxCode-fits (v .fx)) .1 (fxCode-listed (v .fx)), g .1),
     list .1 (g .0 .count, (subst⁻¹ (λ (l : List OutputType). All (GoodOutput l) (v .outputs)) (outputs-under (v .fx)) (g .0 .outputs), g .0 .order)),
   ),
 )
@@ -310,10 +326,10 @@ initialState-good prev v = (
         (Iff·and Iff·rfl (rw (map-congr-left {f = output types .write} {g = outputBytes} {l = l} (λ o m. output-bytes types o)) at
         (adjacent-map (output types .write) (λ a b. below b a ≡ false) l)))
 
-    list : counted (number 4) (notBelow (output types)) .Good (v .outputs) ↔ ((length (v .outputs) < 256 ^ 4) × Sorted (v .outputs))
-    list = counted-good (notBelow (output types)) Sorted chain (number 4) (v .outputs)
+    list : countPrefixed (integer 4) (notBelow (output types)) .Good (v .outputs) ↔ ((length (v .outputs) < 256 ^ 4) × Sorted (v .outputs))
+    list = counted-good (notBelow (output types)) Sorted chain (integer 4) (v .outputs)
 
 -- what an initial state begins with
 pub initialState-front : (prev : List ℕ) (v : InitialState) → (t : List ℕ) × (initialState prev .write v ≡ digits 4 (fxCode (v .fx)) ++ t)
-unfolding initialStateAfter fxId number stateOutputs guard
-initialState-front prev v = (counted (number 4) (notBelow (output (fxOutputs (v .fx)))) .write (v .outputs), refl)
+unfolding initialStateAfter fxId integer stateOutputs guard
+initialState-front prev v = (countPrefixed (integer 4) (notBelow (output (fxOutputs (v .fx)))) .write (v .outputs), refl)

@@ -11,22 +11,22 @@ use lib.ListN.{length, length-append}
 use lib.Dec.{eqb}
 use borrow.Author.Tests.{ne-eqb}
 use Rattle.wire.specs.declared.Refusal.{Refusal}
-use Rattle.wire.specs.declared.Part.{Part}
-use Rattle.wire.specs.declared.Part.the-variants as P
-use Rattle.wire.specs.declared.Number.{Number}
-use Rattle.wire.specs.declared.Number.the-variants as N
+use Rattle.wire.specs.declared.End.{End}
+use Rattle.wire.specs.declared.End.the-variants as P
+use Rattle.wire.specs.declared.Integer.{Integer}
+use Rattle.wire.specs.declared.Integer.the-variants as N
 use Rattle.wire.specs.Bytes.{pick}
 use Rattle.wire.specs.Numbers.{unknownType}
 use Rattle.wire.specs.Format.{Format, Result, took, refused}
-use Rattle.wire.specs.Fields.{blob, number, constant, length-number}
+use Rattle.wire.specs.Fields.{blob, integer, constant, length-integer}
 use Rattle.wire.specs.Sequence.{andThen, guard, tag}
-use Rattle.wire.specs.Series.{items, listWrite, list-bytes, left, above, notBelow, counted, unordered, nondecreasing}
+use Rattle.wire.specs.Series.{items, listWrite, list-bytes, left, above, notBelow, countPrefixed, unordered, nondecreasing}
 use Rattle.wire.specs.Answer.{ended, valued, Passes, Tells}
 use Rattle.wire.proofs.Bytes.{Slice}
 use Rattle.wire.proofs.Reading.{wide-chain, blob-wide, blob-ends, part-ends, value-ends}
 use Rattle.wire.proofs.Passing as W
 use Rattle.wire.proofs.Passing.{Yields, Leads, next, told, passes, leads, tells, Covers, reread, leads-covered, Wide, wide-covers, passes-wide}
-use Rattle.wire.proofs.Passing.{yields-run, yields-end, run-whole, run-next, run-refused, told-whole, told-next, told-refused}
+use Rattle.wire.proofs.Passing.{yields-parse, yields-end, parse-whole, parse-next, parse-refused, told-whole, told-next, told-refused}
 use Rattle.wire.proofs.Passing.{value-next, value-short, tag-next, tag-short, Each}
 use Rattle.string.specs.Strings.{payload}
 use Rattle.string.proofs.Passing as S
@@ -47,16 +47,16 @@ use Rattle.element.proofs.Reading.{key-wide}
 pub product-fits : (w c : ℕ) → w ≤ 64 → c < 256 ^ 4 → w * c < 2 ^ 64
 product-fits w c h i = omega (arith, mul-le-mul h (le-of-lt i))
 
-number-wide : (w : ℕ) → Wide (number w) w
-number-wide w v g = length-number w v
+integer-wide : (w : ℕ) → Wide (integer w) w
+integer-wide w v g = length-integer w v
 
 amount-wide : Wide amount 8
 unfolding amount
-amount-wide v g = length-number 8 v
+amount-wide v g = length-integer 8 v
 
 fx-wide : Wide fxId 4
 unfolding fxId
-fx-wide k g = length-number 4 (fxCode k)
+fx-wide k g = length-integer 4 (fxCode k)
 
 -- fields behind one another
 then-wide : {A B : Type 0} (F : Format A) (G : Format B) (j k : ℕ) → Wide F j → Wide G k → Wide (andThen F (λ a. G)) (j + k)
@@ -65,7 +65,7 @@ then-wide F G j k f h v g = omega (arith, length-append (F .write (v .0)) (G .wr
 
 -- ---- the same bytes in other fields
 
-covered : {A B : Type 0} (F : Format A) (G : Format B) (f : A → B) → Covers F G f → (s : List ℕ) (at : ℕ) → Slice s → (z : Part)
+covered : {A B : Type 0} (F : Format A) (G : Format B) (f : A → B) → Covers F G f → (s : List ℕ) (at : ℕ) → Slice s → (z : End)
     → Passes G s at z → Passes F s at z
 covered F G f c s at b z p v n e = p (f v) n (reread F G f c s at b v n e)
 
@@ -84,54 +84,55 @@ module _ {A : Type 0} (F : Format A) (k : ℕ) (wide : Wide F k) where
   abbrev passed : List A → ℕ × List ℕ
   passed l = (length l, listWrite (above F) (left (above F)) [] l)
 
-  list-covers : Covers (counted (number 4) (above F)) (byCount k) passed
-  unfolding counted items blob byCount
+  list-covers : Covers (countPrefixed (integer 4) (above F)) (byCount k) passed
+  unfolding countPrefixed items blob byCount
   list-covers l g = ((g .0, (wide-chain F k wide [] l (g .1 .1), list-bytes (above F) (left (above F)) [] l (g .1 .1))), refl)
 
 module _ (w : ℕ) (s : List ℕ) (at : ℕ) where
-  pub list-told : (z : Number) → Leads (byCount w) s at (told (λ v. v .0)) z → Tells (byCount w) (λ v. v .0) s at z
+  pub list-told : (z : Integer) → Leads (byCount w) s at (told (λ v. v .0)) z → Tells (byCount w) (λ v. v .0) s at z
   list-told = tells (byCount w) s at (λ v. v .0)
 
   -- what a call of `list_past` has passed
-  module _ {B R : Type 0} (k : ℕ × List ℕ → ℕ → Result B) (go : B → ℕ → R) (z : R) (x : Number) where
+  module _ {B R : Type 0} (k : ℕ × List ℕ → ℕ → Result B) (go : B → ℕ → R) (z : R) (x : Integer) where
     pub list-next : (c m : ℕ) → x ≡ N.Value c m → Tells (byCount w) (λ v. v .0) s at x → ((v : ℕ × List ℕ) → c ≡ v .0 → Yields (k v m) go z)
-        → Yields (byCount w .run s at refused k) go z
+        → Yields (byCount w .parse s at refused k) go z
     list-next c m q p = told-next (byCount w) s at k go z (λ v. v .0) x p c m q
 
-    pub list-refused : (e : Refusal) → x ≡ N.Refused e → Tells (byCount w) (λ v. v .0) s at x → Yields (byCount w .run s at refused k) go z
+    pub list-refused : (e : Refusal) → x ≡ N.Refused e → Tells (byCount w) (λ v. v .0) s at x → Yields (byCount w .parse s at refused k) go z
     list-refused e q p = told-refused (byCount w) s at k go z (λ v. v .0) x p e q
 
 -- ---- owners
 
 abbrev beforeAddresses : Format (ℕ × ℕ)
-beforeAddresses = andThen (number 8) (λ locktime. number 4)
+beforeAddresses = andThen (integer 8) (λ locktime. integer 4)
 
 abbrev ownersPassed : Format (List ℕ × (ℕ × List ℕ))
 ownersPassed = andThen (blob 12) (λ front. byCount 20)
 
 owners-covers : Covers owners ownersPassed (λ o. (beforeAddresses .write (o .locktime, o .threshold), passed (blob 20) 20 (blob-wide 20) (o .addresses)))
-unfolding owners items blob counted byCount
+unfolding owners items blob countPrefixed byCount
 owners-covers o g = (
   (
-    wide-covers beforeAddresses 12 (then-wide (number 8) (number 4) 8 4 (number-wide 8) (number-wide 4)) (o .locktime, o .threshold) (g .0, g .1 .0 .0 .0) .0,
+    wide-covers beforeAddresses 12 (then-wide (integer 8) (integer 4) 8 4 (integer-wide 8) (integer-wide 4)) (o .locktime, o .threshold)
+        (g .0, g .1 .0 .0 .0) .0,
     list-covers (blob 20) 20 (blob-wide 20) (o .addresses) (g .1 .0 .0 .1, g .1 .1) .0,
   ),
   simp append-assoc,
 )
 
-pub owners-passed : (s : List ℕ) (at : ℕ) → Slice s → (z : Part) → Leads ownersPassed s at next z → Passes owners s at z
+pub owners-passed : (s : List ℕ) (at : ℕ) → Slice s → (z : End) → Leads ownersPassed s at next z → Passes owners s at z
 owners-passed s at b z h = covered owners ownersPassed _ owners-covers s at b z (passes ownersPassed s at z h)
 
 -- what a call of `owners_past` has passed
-pub owners-whole : {B : Type 0} (s : List ℕ) (at : ℕ) (k : Owners → ℕ → Result B) (go : B → ℕ → Part) (z : Part) → Passes owners s at z
-    → ((v : Owners) (n : ℕ) → z ≡ P.Next n → Yields (k v n) go z) → Yields (owners .run s at refused k) go z
-owners-whole s at k go z p = run-whole owners s at k go z z p
+pub owners-whole : {B : Type 0} (s : List ℕ) (at : ℕ) (k : Owners → ℕ → Result B) (go : B → ℕ → End) (z : End) → Passes owners s at z
+    → ((v : Owners) (n : ℕ) → z ≡ P.At n → Yields (k v n) go z) → Yields (owners .parse s at refused k) go z
+owners-whole s at k go z p = parse-whole owners s at k go z z p
 
 -- behind a field of w bytes
 abbrev behindPassed : ℕ → Format (List ℕ × Owners)
 behindPassed w = andThen (blob w) (λ field. owners)
 
-pub behind-passed : (w : ℕ) (s : List ℕ) (at : ℕ) (z : Part) → Leads (behindPassed w) s at next z → Passes (behindPassed w) s at z
+pub behind-passed : (w : ℕ) (s : List ℕ) (at : ℕ) (z : End) → Leads (behindPassed w) s at next z → Passes (behindPassed w) s at z
 behind-passed w s at z = passes (behindPassed w) s at z
 
 -- ---- outputs
@@ -143,47 +144,49 @@ transfer-covers = front-covers amount 8 owners amount-wide
 abbrev payloadPassed : Format (List ℕ × (List ℕ × Owners))
 payloadPassed = andThen (blob 4) (λ group. andThen payload (λ p. owners))
 
-pub payload-passed : (s : List ℕ) (at : ℕ) (z : Part) → Leads payloadPassed s at next z → Passes payloadPassed s at z
+pub payload-passed : (s : List ℕ) (at : ℕ) (z : End) → Leads payloadPassed s at next z → Passes payloadPassed s at z
 payload-passed s at z = passes payloadPassed s at z
 
 -- the body, where the code has compared the type
-module _ (s : List ℕ) (at : ℕ) (b : Slice s) (z : Part) (kind : ℕ) where
-  body-transfer : kind ≡ 7 → Passes (behindPassed 8) s at z → Passes (outputBody (outputType kind)) s at z
+module _ (s : List ℕ) (at : ℕ) (b : Slice s) (z : End) («type_id» : ℕ) where
+  body-transfer : «type_id» ≡ 7 → Passes (behindPassed 8) s at z → Passes (outputBody (outputType «type_id»)) s at z
   body-transfer h p = rw h (covered transferBody (behindPassed 8) _ transfer-covers s at b z p)
 
-  body-nft-mint : kind ≡ 10 → Passes (behindPassed 4) s at z → Passes (outputBody (outputType kind)) s at z
-  body-nft-mint h p = rw h (covered (andThen (number 4) (λ group. owners)) (behindPassed 4) _ (front-covers (number 4) 4 owners (number-wide 4)) s at b z p)
+  body-nft-mint : «type_id» ≡ 10 → Passes (behindPassed 4) s at z → Passes (outputBody (outputType «type_id»)) s at z
+  body-nft-mint h p = rw h (covered (andThen (integer 4) (λ group. owners)) (behindPassed 4) _ (front-covers (integer 4) 4 owners (integer-wide 4)) s at b z p)
 
-  body-nft-transfer : (kind ≡ 6 → ⊥) → (kind ≡ 7 → ⊥) → (kind ≡ 10 → ⊥) → Passes payloadPassed s at z → Passes (outputBody (outputType kind)) s at z
+  body-nft-transfer : («type_id» ≡ 6 → ⊥) → («type_id» ≡ 7 → ⊥) → («type_id» ≡ 10 → ⊥) → Passes payloadPassed s at z
+      → Passes (outputBody (outputType «type_id»)) s at z
   body-nft-transfer h i j p =
-      rw (ne-eqb kind 6 h, ne-eqb kind 7 i, ne-eqb kind 10 j)
-      (covered (andThen (number 4) (λ group. andThen payload (λ p. owners))) payloadPassed _
-      (front-covers (number 4) 4 (andThen payload (λ p. owners)) (number-wide 4)) s at b z p)
+      rw (ne-eqb «type_id» 6 h, ne-eqb «type_id» 7 i, ne-eqb «type_id» 10 j)
+      (covered (andThen (integer 4) (λ group. andThen payload (λ p. owners))) payloadPassed _
+      (front-covers (integer 4) 4 (andThen payload (λ p. owners)) (integer-wide 4)) s at b z p)
 
 -- an output behind its type
 abbrev typeThen : List ℕ → OutputType → ℕ → Result Output
-typeThen s k m = outputBody k .run s m refused (λ o n. took (k, o) n)
+typeThen s k m = outputBody k .parse s m refused (λ o n. took (k, o) n)
 
-module _ (s : List ℕ) (at : ℕ) (b : Slice s) (z : Part) (x : Number) (p : x ≡ valued (number 4) s at) where
-  module _ (kind m : ℕ) (q : x ≡ N.Value kind m) where
-    output-typed : Passes (outputBody (outputType kind)) s m z → (fx : Fx) → Passes (output (fxOutputs fx)) s at z
+module _ (s : List ℕ) (at : ℕ) (b : Slice s) (z : End) (x : Integer) (p : x ≡ valued (integer 4) s at) where
+  module _ («type_id» m : ℕ) (q : x ≡ N.Value «type_id» m) where
+    output-typed : Passes (outputBody (outputType «type_id»)) s m z → (fx : Fx) → Passes (output (fxOutputs fx)) s at z
     unfolding output
     output-typed h fx =
         passes (output (fxOutputs fx)) s at z
-        (tag-next outputCode outputType outputType-code 4 (fxOutputs fx) unknownType s at (typeThen s) next z x p kind m q
-        (run-whole (outputBody (outputType kind)) s m _ next z z h (λ v n e. yields-end _ n next z e)))
+        (tag-next outputCode outputType outputType-code 4 (fxOutputs fx) unknownType s at (typeThen s) next z x p «type_id» m q
+        (parse-whole (outputBody (outputType «type_id»)) s m _ next z z h (λ v n e. yields-end _ n next z e)))
 
-    pub output-mint : kind ≡ 6 → Passes owners s m z → (fx : Fx) → Passes (output (fxOutputs fx)) s at z
+    pub output-mint : «type_id» ≡ 6 → Passes owners s m z → (fx : Fx) → Passes (output (fxOutputs fx)) s at z
     output-mint h r = output-typed (rw h r)
 
-    pub output-transfer : kind ≡ 7 → Passes (behindPassed 8) s m z → (fx : Fx) → Passes (output (fxOutputs fx)) s at z
-    output-transfer h r = output-typed (body-transfer s m b z kind h r)
+    pub output-transfer : «type_id» ≡ 7 → Passes (behindPassed 8) s m z → (fx : Fx) → Passes (output (fxOutputs fx)) s at z
+    output-transfer h r = output-typed (body-transfer s m b z «type_id» h r)
 
-    pub output-nft-mint : kind ≡ 10 → Passes (behindPassed 4) s m z → (fx : Fx) → Passes (output (fxOutputs fx)) s at z
-    output-nft-mint h r = output-typed (body-nft-mint s m b z kind h r)
+    pub output-nft-mint : «type_id» ≡ 10 → Passes (behindPassed 4) s m z → (fx : Fx) → Passes (output (fxOutputs fx)) s at z
+    output-nft-mint h r = output-typed (body-nft-mint s m b z «type_id» h r)
 
-    pub output-nft-transfer : (kind ≡ 6 → ⊥) → (kind ≡ 7 → ⊥) → (kind ≡ 10 → ⊥) → Passes payloadPassed s m z → (fx : Fx) → Passes (output (fxOutputs fx)) s at z
-    output-nft-transfer h i j r = output-typed (body-nft-transfer s m b z kind h i j r)
+    pub output-nft-transfer : («type_id» ≡ 6 → ⊥) → («type_id» ≡ 7 → ⊥) → («type_id» ≡ 10 → ⊥) → Passes payloadPassed s m z → (fx : Fx)
+        → Passes (output (fxOutputs fx)) s at z
+    output-nft-transfer h i j r = output-typed (body-nft-transfer s m b z «type_id» h i j r)
 
   pub output-short : (e : Refusal) → x ≡ N.Refused e → (fx : Fx) → Passes (output (fxOutputs fx)) s at z
   unfolding output
@@ -192,10 +195,10 @@ module _ (s : List ℕ) (at : ℕ) (b : Slice s) (z : Part) (x : Number) (p : x 
       (tag-short outputCode outputType outputType-code 4 (fxOutputs fx) unknownType s at (typeThen s) next z x p e q)
 
 -- what a call of `output_past` has passed, where type 7 is wanted
-pub output-whole : {B : Type 0} (s : List ℕ) (at : ℕ) (k : Output → ℕ → Result B) (go : B → ℕ → Part) (z : Part)
-    → ((fx : Fx) → Passes (output (fxOutputs fx)) s at z) → ((v : Output) (n : ℕ) → z ≡ P.Next n → Yields (k v n) go z)
-    → Yields (output (fxOutputs secpFx) .run s at refused k) go z
-output-whole s at k go z p = run-whole (output (fxOutputs secpFx)) s at k go z z (p secpFx)
+pub output-whole : {B : Type 0} (s : List ℕ) (at : ℕ) (k : Output → ℕ → Result B) (go : B → ℕ → End) (z : End)
+    → ((fx : Fx) → Passes (output (fxOutputs fx)) s at z) → ((v : Output) (n : ℕ) → z ≡ P.At n → Yields (k v n) go z)
+    → Yields (output (fxOutputs secpFx) .parse s at refused k) go z
+output-whole s at k go z p = parse-whole (output (fxOutputs secpFx)) s at k go z z (p secpFx)
 
 abbrev transferablePassed : Format (List ℕ × Output)
 transferablePassed = andThen (blob 32) (λ asset. output (fxOutputs secpFx))
@@ -209,7 +212,7 @@ transferable-covers prev o g = ((g .0 .0, ((g .0 .1 .0 .0, more (eqb (outputCode
     more true h = refl
     more false h = h
 
-pub transferable-passed : (s : List ℕ) (at : ℕ) → Slice s → (z : Part) → Leads transferablePassed s at next z
+pub transferable-passed : (s : List ℕ) (at : ℕ) → Slice s → (z : End) → Leads transferablePassed s at next z
     → (prev : List ℕ) → Passes (notBelow transferableOutput prev) s at z
 transferable-passed s at b z h prev =
     covered (notBelow transferableOutput prev) transferablePassed _ (transferable-covers prev) s at b z (passes transferablePassed s at z h)
@@ -217,31 +220,32 @@ transferable-passed s at b z h prev =
 -- ---- inputs
 
 abbrev beforeIndices : Format ((List ℕ × ℕ) × (List ℕ × (ℕ × ℕ)))
-beforeIndices = andThen key (λ k. andThen (blob 32) (λ asset. andThen (number 4) (λ type. number 8)))
+beforeIndices = andThen key (λ k. andThen (blob 32) (λ asset. andThen (integer 4) (λ type. integer 8)))
 
 before-indices-wide : Wide beforeIndices 80
 before-indices-wide =
-    then-wide key (andThen (blob 32) (λ asset. andThen (number 4) (λ type. number 8))) 36 44 key-wide
-    (then-wide (blob 32) (andThen (number 4) (λ type. number 8)) 32 12 (blob-wide 32)
-    (then-wide (number 4) (number 8) 4 8 (number-wide 4) (number-wide 8)))
+    then-wide key (andThen (blob 32) (λ asset. andThen (integer 4) (λ type. integer 8))) 36 44 key-wide
+    (then-wide (blob 32) (andThen (integer 4) (λ type. integer 8)) 32 12 (blob-wide 32)
+    (then-wide (integer 4) (integer 8) 4 8 (integer-wide 4) (integer-wide 8)))
 
 -- all that stands before the indices, with their count
 unfoldable pub inputFront : Format (List ℕ × ℕ)
 unfolding andThen
-inputFront = andThen (blob 80) (λ front. number 4)
+inputFront = andThen (blob 80) (λ front. integer 4)
 
 input-front-wide : Wide inputFront 84
 unfolding inputFront
-input-front-wide = then-wide (blob 80) (number 4) 80 4 (blob-wide 80) (number-wide 4)
+input-front-wide = then-wide (blob 80) (integer 4) 80 4 (blob-wide 80) (integer-wide 4)
 
 abbrev inputPassed : Format ((List ℕ × ℕ) × List ℕ)
 inputPassed = andThen inputFront (λ v. blob (4 * v .1))
 
 input-covers : (prev : List ℕ) → Covers (input prev) inputPassed (λ v.
-    ((beforeIndices .write ((v .txid, v .index), (v .asset, (5, v .amount))), length (v .indices)), passed (number 4) 4 (number-wide 4) (v .indices) .1))
-unfolding inputFront inputAfter guard key spend indices constant amount items blob counted byCount
+    ((beforeIndices .write ((v .txid, v .index), (v .asset, (5, v .amount))), length (v .indices)), passed (integer 4) 4 (integer-wide 4) (v .indices) .1))
+unfolding inputFront inputAfter guard key spend indices constant amount items blob countPrefixed byCount
 input-covers prev v g =
-    let h : byCount 4 .Good (passed (number 4) 4 (number-wide 4) (v .indices)) = list-covers (number 4) 4 (number-wide 4) (v .indices) (g .1 .1 .1 .1) .0 in (
+    let h : byCount 4 .Good (passed (integer 4) 4 (integer-wide 4) (v .indices)) = list-covers (integer 4) 4 (integer-wide 4) (v .indices)
+    (g .1 .1 .1 .1) .0 in (
       (
         (
           wide-covers beforeIndices 80 before-indices-wide
@@ -250,14 +254,14 @@ input-covers prev v g =
         ),
         h .1,
       ),
-      regrouped (v .txid) (number 4 .write (v .index)) (v .asset) (number 4 .write 5) (number 8 .write (v .amount))
-          (number 4 .write (length (v .indices))) (passed (number 4) 4 (number-wide 4) (v .indices) .1),
+      regrouped (v .txid) (integer 4 .write (v .index)) (v .asset) (integer 4 .write 5) (integer 8 .write (v .amount))
+          (integer 4 .write (length (v .indices))) (passed (integer 4) 4 (integer-wide 4) (v .indices) .1),
     )
   where
     regrouped : (a b c d e f h : List ℕ) → (a ++ b) ++ (c ++ (d ++ (e ++ (f ++ h)))) ≡ (((a ++ b) ++ (c ++ (d ++ e))) ++ f) ++ h
     regrouped a b c d e f h = simp append-assoc
 
-pub input-told : (s : List ℕ) (at : ℕ) → Slice s → (z : Number) → Leads inputPassed s at (told (λ v. v .0 .1)) z
+pub input-told : (s : List ℕ) (at : ℕ) → Slice s → (z : Integer) → Leads inputPassed s at (told (λ v. v .0 .1)) z
     → (prev : List ℕ) → Tells (input prev) (λ v. length (v .indices)) s at z
 input-told s at b z h prev =
     tells (input prev) s at (λ v. length (v .indices)) z (leads-covered (input prev) inputPassed _ (input-covers prev) s at b (told (λ v. v .0 .1)) z h)
@@ -266,42 +270,43 @@ pub indices-fit : (c : ℕ) → c < 256 ^ 4 → 4 * c < 2 ^ 64
 indices-fit c = product-fits 4 c (omega arith)
 
 -- the front was found to be there by one test, x; y is the count
-pub front-fits : (s : List ℕ) (at : ℕ) (x : Part) (m : ℕ) → x ≡ ended (blob 84) s at → x ≡ P.Next m → m < 2 ^ 64 → at + 80 < 2 ^ 64
+pub front-fits : (s : List ℕ) (at : ℕ) (x : End) (m : ℕ) → x ≡ ended (blob 84) s at → x ≡ P.At m → m < 2 ^ 64 → at + 80 < 2 ^ 64
 front-fits s at x m p q h = omega (arith, part-ends 84 s at x m p q)
 
 module _ {B R : Type 0} (s : List ℕ) (at : ℕ) (k : List ℕ × ℕ → ℕ → Result B) (go : B → ℕ → R) (z : R) where
-  front-count : ((f : List ℕ) → Yields (number 4 .run s (at + 80) refused (λ c n. k (f, c) n)) go z) → Yields (inputFront .run s at refused k) go z
+  front-count : ((f : List ℕ) → Yields (integer 4 .parse s (at + 80) refused (λ c n. k (f, c) n)) go z) → Yields (inputFront .parse s at refused k) go z
   unfolding inputFront
   front-count h =
-      yields-run (blob 80) s at _ go z (λ f j e.
-      subst (λ (i : ℕ). Yields (number 4 .run s i refused (λ c n. k (f, c) n)) go z) (sym (blob-ends 80 s at f j e)) (h f))
+      yields-parse (blob 80) s at _ go z (λ f j e.
+      subst (λ (i : ℕ). Yields (integer 4 .parse s i refused (λ c n. k (f, c) n)) go z) (sym (blob-ends 80 s at f j e)) (h f))
 
-  module _ (b : Slice s) (x : Part) (p : x ≡ ended (blob 84) s at) where
-    pub front-refused : (e : Refusal) → x ≡ P.Refused e → Yields (inputFront .run s at refused k) go z
-    front-refused = run-refused inputFront s at k go z x (passes-wide inputFront 84 input-front-wide s at b x p)
+  module _ (b : Slice s) (x : End) (p : x ≡ ended (blob 84) s at) where
+    pub front-refused : (e : Refusal) → x ≡ P.Refused e → Yields (inputFront .parse s at refused k) go z
+    front-refused = parse-refused inputFront s at k go z x (passes-wide inputFront 84 input-front-wide s at b x p)
 
-    pub front-next : (m : ℕ) → x ≡ P.Next m → (y : Number) (c n : ℕ) → y ≡ valued (number 4) s (at + 80) → y ≡ N.Value c n
-        → ((f : List ℕ) → Yields (k (f, c) m) go z) → Yields (inputFront .run s at refused k) go z
+    pub front-next : (m : ℕ) → x ≡ P.At m → (y : Integer) (c n : ℕ) → y ≡ valued (integer 4) s (at + 80) → y ≡ N.Value c n
+        → ((f : List ℕ) → Yields (k (f, c) m) go z) → Yields (inputFront .parse s at refused k) go z
     front-next m q y c n r i h =
         let e : m ≡ n = omega (arith, part-ends 84 s at x m p q, value-ends 4 s (at + 80) y c n r i b) in
         front-count (λ f. value-next s (at + 80) go z 4 (λ c n. k (f, c) n) y r c n i (subst (λ (j : ℕ). Yields (k (f, c) j) go z) e (h f)))
 
-  pub front-short : (y : Number) (e : Refusal) → y ≡ valued (number 4) s (at + 80) → y ≡ N.Refused e → Yields (inputFront .run s at refused k) go z
+  pub front-short : (y : Integer) (e : Refusal) → y ≡ valued (integer 4) s (at + 80) → y ≡ N.Refused e → Yields (inputFront .parse s at refused k) go z
   front-short y e r i = front-count (λ f. value-short s (at + 80) go z 4 (λ c n. k (f, c) n) y r e i)
 
 -- ---- operations
 
 abbrev termsPassed : Format ((ℕ × List ℕ) × (ℕ × List ℕ))
-termsPassed = andThen (byCount 4) (λ list. andThen (number 4) (λ group. payload))
+termsPassed = andThen (byCount 4) (λ list. andThen (integer 4) (λ group. payload))
 
-terms-covers : Covers terms termsPassed (λ v. (passed (number 4) 4 (number-wide 4) (v .0), v .1))
+terms-covers : Covers terms termsPassed (λ v. (passed (integer 4) 4 (integer-wide 4) (v .0), v .1))
 unfolding terms
 terms-covers =
-    then-covers (counted (number 4) (above (number 4))) (byCount 4) _ (andThen (number 4) (λ group. payload)) (list-covers (number 4) 4 (number-wide 4))
+    then-covers (countPrefixed (integer 4) (above (integer 4))) (byCount 4) _ (andThen (integer 4) (λ group. payload))
+    (list-covers (integer 4) 4 (integer-wide 4))
 
 abbrev actionPassed : Format Action
 actionPassed =
-    andThen (tag operationCode operationType operationType-code (number 4) (mintNft ∷ transferNft ∷ []) unknownType) (λ k.
+    andThen (tag operationCode operationType operationType-code (integer 4) (mintNft ∷ transferNft ∷ []) unknownType) (λ k.
     andThen terms (λ v. operationOwners k))
 
 abbrev operationPassed : Format (List ℕ × ((ℕ × List ℕ) × Action))
@@ -311,7 +316,7 @@ operation-covers : Covers operation operationPassed (λ v. (v .asset, (passed ke
 unfolding operation blob items byCount
 operation-covers v g = ((g .0, (list-covers key 36 key-wide (v .outputs) (g .1 .0) .0, g .1 .1)), refl)
 
-module _ (s : List ℕ) (at : ℕ) (b : Slice s) (z : Number) where
+module _ (s : List ℕ) (at : ℕ) (b : Slice s) (z : Integer) where
   pub terms-told : Leads termsPassed s at (told (λ v. v .0 .0)) z → Tells terms (λ v. length (v .0)) s at z
   terms-told h = tells terms s at (λ v. length (v .0)) z (leads-covered terms termsPassed _ terms-covers s at b (told (λ v. v .0 .0)) z h)
 
@@ -325,88 +330,88 @@ module _ (s : List ℕ) (at : ℕ) (b : Slice s) (z : Number) where
       (leads-covered operation operationPassed _ operation-covers s at b (told (λ v. length (v .1 .1 .1 .0 .0))) z h)
 
 -- the type
-module _ {B : Type 0} (s : List ℕ) (at : ℕ) (k : OperationType → ℕ → Result B) (go : B → ℕ → Number) (z : Number) (x : Number)
-    (p : x ≡ valued (number 4) s at) where
+module _ {B : Type 0} (s : List ℕ) (at : ℕ) (k : OperationType → ℕ → Result B) (go : B → ℕ → Integer) (z : Integer) (x : Integer)
+    (p : x ≡ valued (integer 4) s at) where
   pub type-next : (c m : ℕ) → x ≡ N.Value c m → Yields (k (operationType c) m) go z
-      → Yields (tag operationCode operationType operationType-code (number 4) (mintNft ∷ transferNft ∷ []) unknownType .run s at refused k) go z
+      → Yields (tag operationCode operationType operationType-code (integer 4) (mintNft ∷ transferNft ∷ []) unknownType .parse s at refused k) go z
   type-next = tag-next operationCode operationType operationType-code 4 (mintNft ∷ transferNft ∷ []) unknownType s at k go z x p
 
   pub type-short : (e : Refusal) → x ≡ N.Refused e
-      → Yields (tag operationCode operationType operationType-code (number 4) (mintNft ∷ transferNft ∷ []) unknownType .run s at refused k) go z
+      → Yields (tag operationCode operationType operationType-code (integer 4) (mintNft ∷ transferNft ∷ []) unknownType .parse s at refused k) go z
   type-short = tag-short operationCode operationType operationType-code 4 (mintNft ∷ transferNft ∷ []) unknownType s at k go z x p
 
 -- what calls of `terms_past`, `recipients_past` and `action_past` have passed
 module _ {B R : Type 0} (s : List ℕ) (at : ℕ) (go : B → ℕ → R) (z : R) where
-  module _ (k : Terms → ℕ → Result B) (x : Number) where
+  module _ (k : Terms → ℕ → Result B) (x : Integer) where
     pub terms-next : (c m : ℕ) → x ≡ N.Value c m → Tells terms (λ v. length (v .0)) s at x → ((v : Terms) → c ≡ length (v .0) → Yields (k v m) go z)
-        → Yields (terms .run s at refused k) go z
+        → Yields (terms .parse s at refused k) go z
     terms-next c m q p = told-next terms s at k go z (λ v. length (v .0)) x p c m q
 
-    pub terms-refused : (e : Refusal) → x ≡ N.Refused e → Tells terms (λ v. length (v .0)) s at x → Yields (terms .run s at refused k) go z
+    pub terms-refused : (e : Refusal) → x ≡ N.Refused e → Tells terms (λ v. length (v .0)) s at x → Yields (terms .parse s at refused k) go z
     terms-refused e q p = told-refused terms s at k go z (λ v. length (v .0)) x p e q
 
-  module _ (type : OperationType) (k : OperationOwners type → ℕ → Result B) (x : Part) where
-    pub recipients-next : (m : ℕ) → x ≡ P.Next m → Passes (operationOwners type) s at x → ((v : OperationOwners type) → Yields (k v m) go z)
-        → Yields (operationOwners type .run s at refused k) go z
-    recipients-next m q p = run-next (operationOwners type) s at k go z x p m q
+  module _ (type : OperationType) (k : OperationOwners type → ℕ → Result B) (x : End) where
+    pub recipients-next : (m : ℕ) → x ≡ P.At m → Passes (operationOwners type) s at x → ((v : OperationOwners type) → Yields (k v m) go z)
+        → Yields (operationOwners type .parse s at refused k) go z
+    recipients-next m q p = parse-next (operationOwners type) s at k go z x p m q
 
-    pub recipients-refused : (e : Refusal) → x ≡ P.Refused e → Passes (operationOwners type) s at x → Yields (operationOwners type .run s at refused k) go z
-    recipients-refused e q p = run-refused (operationOwners type) s at k go z x p e q
+    pub recipients-refused : (e : Refusal) → x ≡ P.Refused e → Passes (operationOwners type) s at x → Yields (operationOwners type .parse s at refused k) go z
+    recipients-refused e q p = parse-refused (operationOwners type) s at k go z x p e q
 
-pub action-whole : {B : Type 0} (s : List ℕ) (at : ℕ) (k : Action → ℕ → Result B) (go : B → ℕ → Number) (z : Number)
+pub action-whole : {B : Type 0} (s : List ℕ) (at : ℕ) (k : Action → ℕ → Result B) (go : B → ℕ → Integer) (z : Integer)
     → Tells action (λ v. length (v .1 .0 .0)) s at z → ((v : Action) (n : ℕ) → z ≡ N.Value (length (v .1 .0 .0)) n → Yields (k v n) go z)
-    → Yields (action .run s at refused k) go z
+    → Yields (action .parse s at refused k) go z
 action-whole s at k go z p = told-whole action s at k go z (λ v. length (v .1 .0 .0)) z p
 
 -- behind the terms: what the type has
-module _ (s : List ℕ) (at : ℕ) (b : Slice s) (z : Part) (kind : ℕ) where
-  pub transfer-passed : (kind ≡ 12 → ⊥) → Passes owners s at z → Passes (operationOwners (operationType kind)) s at z
-  transfer-passed h p = rw (ne-eqb kind 12 h) p
+module _ (s : List ℕ) (at : ℕ) (b : Slice s) (z : End) («type_id» : ℕ) where
+  pub transfer-passed : («type_id» ≡ 12 → ⊥) → Passes owners s at z → Passes (operationOwners (operationType «type_id»)) s at z
+  transfer-passed h p = rw (ne-eqb «type_id» 12 h) p
 
-  module _ (h : kind ≡ 12) (x : Number) (p : x ≡ valued (number 4) s at) where
-    mint-passed : Leads (andThen (number 4) (unordered owners)) s at next z → Passes (operationOwners (operationType kind)) s at z
-    unfolding counted
+  module _ (h : «type_id» ≡ 12) (x : Integer) (p : x ≡ valued (integer 4) s at) where
+    mint-passed : Leads (andThen (integer 4) (unordered owners)) s at next z → Passes (operationOwners (operationType «type_id»)) s at z
+    unfolding countPrefixed
     mint-passed q =
         rw h
-        (covered (operationOwners mintNft) (andThen (number 4) (unordered owners)) (λ l. (length l, l)) (λ l g. (g, refl)) s at b z
-        (passes (andThen (number 4) (unordered owners)) s at z q))
+        (covered (operationOwners mintNft) (andThen (integer 4) (unordered owners)) (λ l. (length l, l)) (λ l g. (g, refl)) s at b z
+        (passes (andThen (integer 4) (unordered owners)) s at z q))
 
-    pub mint-list : (c m : ℕ) → x ≡ N.Value c m → Passes (unordered owners c) s m z → Passes (operationOwners (operationType kind)) s at z
+    pub mint-list : (c m : ℕ) → x ≡ N.Value c m → Passes (unordered owners c) s m z → Passes (operationOwners (operationType «type_id»)) s at z
     unfolding andThen
     mint-list c m q r =
         mint-passed
         (value-next s at next z 4 _ x p c m q
-        (run-whole (unordered owners c) s m (λ l n. took (c, l) n) next z z r (λ v n e. yields-end _ n next z e)))
+        (parse-whole (unordered owners c) s m (λ l n. took (c, l) n) next z z r (λ v n e. yields-end _ n next z e)))
 
-    pub mint-short : (e : Refusal) → x ≡ N.Refused e → Passes (operationOwners (operationType kind)) s at z
+    pub mint-short : (e : Refusal) → x ≡ N.Refused e → Passes (operationOwners (operationType «type_id»)) s at z
     unfolding andThen
     mint-short e q = mint-passed (value-short s at next z 4 _ x p e q)
 
 -- ---- initial states
 
 abbrev statePassed : Format ((k : Fx) × (ℕ × List Output))
-statePassed = andThen fxId (λ k. andThen (number 4) (nondecreasing (output (fxOutputs k))))
+statePassed = andThen fxId (λ k. andThen (integer 4) (nondecreasing (output (fxOutputs k))))
 
 state-covers : (prev : List ℕ) → Covers (initialState prev) statePassed (λ v. (v .fx, (length (v .outputs), v .outputs)))
 unfolding initialStateAfter guard stateOutputs
 state-covers prev v g = ((g .0 .0, g .1), refl)
 
-pub state-passed : (s : List ℕ) (at : ℕ) → Slice s → (z : Part) → Leads statePassed s at next z → (prev : List ℕ) → Passes (initialState prev) s at z
+pub state-passed : (s : List ℕ) (at : ℕ) → Slice s → (z : End) → Leads statePassed s at next z → (prev : List ℕ) → Passes (initialState prev) s at z
 state-passed s at b z h prev = covered (initialState prev) statePassed _ (state-covers prev) s at b z (passes statePassed s at z h)
 
 -- the FxID, passed as a part
-module _ {B R : Type 0} (s : List ℕ) (at : ℕ) (k : Fx → ℕ → Result B) (go : B → ℕ → R) (z : R) (b : Slice s) (x : Part) (p : x ≡ ended (blob 4) s at) where
-  pub fx-next : (m : ℕ) → x ≡ P.Next m → ((v : Fx) → Yields (k v m) go z) → Yields (fxId .run s at refused k) go z
-  fx-next = run-next fxId s at k go z x (passes-wide fxId 4 fx-wide s at b x p)
+module _ {B R : Type 0} (s : List ℕ) (at : ℕ) (k : Fx → ℕ → Result B) (go : B → ℕ → R) (z : R) (b : Slice s) (x : End) (p : x ≡ ended (blob 4) s at) where
+  pub fx-next : (m : ℕ) → x ≡ P.At m → ((v : Fx) → Yields (k v m) go z) → Yields (fxId .parse s at refused k) go z
+  fx-next = parse-next fxId s at k go z x (passes-wide fxId 4 fx-wide s at b x p)
 
-  pub fx-refused : (e : Refusal) → x ≡ P.Refused e → Yields (fxId .run s at refused k) go z
-  fx-refused = run-refused fxId s at k go z x (passes-wide fxId 4 fx-wide s at b x p)
+  pub fx-refused : (e : Refusal) → x ≡ P.Refused e → Yields (fxId .parse s at refused k) go z
+  fx-refused = parse-refused fxId s at k go z x (passes-wide fxId 4 fx-wide s at b x p)
 
 -- what a call of `outputs_past` has passed
-pub outputs-whole : {B : Type 0} (fx : Fx) (c : ℕ) (s : List ℕ) (at : ℕ) (k : List Output → ℕ → Result B) (go : B → ℕ → Part) (z : Part)
-    → ((fx : Fx) → Passes (nondecreasing (output (fxOutputs fx)) c) s at z) → ((v : List Output) (n : ℕ) → z ≡ P.Next n → Yields (k v n) go z)
-    → Yields (nondecreasing (output (fxOutputs fx)) c .run s at refused k) go z
-outputs-whole fx c s at k go z p = run-whole (nondecreasing (output (fxOutputs fx)) c) s at k go z z (p fx)
+pub outputs-whole : {B : Type 0} (fx : Fx) (c : ℕ) (s : List ℕ) (at : ℕ) (k : List Output → ℕ → Result B) (go : B → ℕ → End) (z : End)
+    → ((fx : Fx) → Passes (nondecreasing (output (fxOutputs fx)) c) s at z) → ((v : List Output) (n : ℕ) → z ≡ P.At n → Yields (k v n) go z)
+    → Yields (nondecreasing (output (fxOutputs fx)) c .parse s at refused k) go z
+outputs-whole fx c s at k go z p = parse-whole (nondecreasing (output (fxOutputs fx)) c) s at k go z z (p fx)
 
 -- ---- what was told
 
@@ -415,7 +420,7 @@ value-made c d n e = rw e
 
 -- ---- the elements of lists
 
-module _ (s : List ℕ) (at : ℕ) (x : Part) where
+module _ (s : List ℕ) (at : ℕ) (x : End) where
   pub each-owners : (step : List ℕ → Owners → List ℕ) → Passes owners s at x → Each (λ prev. owners) step s at x
   unfolding Each
   each-owners step p prev = leads owners s at x p

@@ -17,16 +17,16 @@ use lib.Seq.{take-at}
 use lib.Dec.{ltb, leb, eqb}
 use borrow.Author.Tests.{ltb-true, ltb-false, lt-leb, le-leb, eq-eqb, ne-eqb, not-true, not-false}
 use Rattle.wire.specs.declared.Refusal.{Refusal}
-use Rattle.wire.specs.declared.Part.{Part}
-use Rattle.wire.specs.declared.Part.the-variants as P
-use Rattle.wire.specs.declared.Number.{Number}
-use Rattle.wire.specs.declared.Number.the-variants as N
-use Rattle.wire.specs.Bytes.{Bytes, digits, length-digits, below, pick, part}
-use Rattle.wire.specs.Format.{Format, Result, took, refused, onResult, read, Stands, stands-part, run-alike, run-alike-read}
+use Rattle.wire.specs.declared.End.{End}
+use Rattle.wire.specs.declared.End.the-variants as P
+use Rattle.wire.specs.declared.Integer.{Integer}
+use Rattle.wire.specs.declared.Integer.the-variants as N
+use Rattle.wire.specs.Bytes.{Bytes, digits, length-digits, below, pick, between}
+use Rattle.wire.specs.Format.{Format, Result, took, refused, onResult, read, Stands, stands-part, parse-alike, parse-alike-read}
 use Rattle.wire.specs.Numbers.{by, cutAt, unknownType, outOfOrder}
-use Rattle.wire.specs.Fields.{blob, number, length-number}
+use Rattle.wire.specs.Fields.{blob, integer, length-integer}
 use Rattle.wire.specs.Sequence.{guard, tag}
-use Rattle.wire.specs.Series.{items, listRun, left, above, notBelow, increasing, nondecreasing, seriesFrom, series}
+use Rattle.wire.specs.Series.{items, listParse, left, above, notBelow, increasing, nondecreasing, seriesFrom, series}
 use Rattle.wire.specs.Order.{keyBelow}
 use Rattle.wire.specs.Answer.{ended, valued, wholeAt}
 use Rattle.wire.proofs.Bytes.{Slice, slice-bytes, found, below-digits, key-below}
@@ -36,7 +36,9 @@ use Rattle.string.proofs.Reading as S
 use Rattle.element.specs.Owners.{Owners, owners, thresholdFits}
 use Rattle.element.specs.Outputs.{amount, Output, output}
 use Rattle.element.specs.Inputs.{key, Input, spend, inputAfter, input}
-use Rattle.element.specs.Operations.{OperationType, mintNft, transferNft, operationCode, operationType, operationType-code, operationOwners, terms, Operation, operation, Fx, secpFx, nftFx, fxCode, fxOf, fxOutputs, fxId, stateOutputs, InitialState, initialStateAfter, initialState}
+use Rattle.element.specs.Operations.{OperationType, mintNft, transferNft, operationCode, operationType, operationType-code, operationOwners}
+use Rattle.element.specs.Operations.{terms, Operation, operation, Fx, secpFx, nftFx, fxCode, fxOf, fxOutputs, fxId, stateOutputs, InitialState}
+use Rattle.element.specs.Operations.{initialStateAfter, initialState}
 use Rattle.element.specs.Answer.{Terms, inOrder}
 
 -- ---- answers: what an answer with a case for what is wholly read and one for a refusal says of the reading
@@ -46,12 +48,14 @@ pub took-of : {A T : Type 0} (o : Result A) (stop : Refusal → T) (whole : A �
 took-of (took v m) stop whole y q n = (v, m, refl, q)
 took-of (refused e) stop whole y q n = absurd (n e q)
 
-pub refused-of : {A T : Type 0} (o : Result A) (stop : Refusal → T) (whole : A → ℕ → T) (y : T) → onResult o stop whole ≡ y → ((v : A) (m : ℕ) → whole v m ≡ y → ⊥)
+pub refused-of : {A T : Type 0} (o : Result A) (stop : Refusal → T) (whole : A → ℕ → T) (y : T) → onResult o stop whole ≡ y
+    → ((v : A) (m : ℕ) → whole v m ≡ y → ⊥)
     → (e : Refusal) × (o ≡ refused e) × (stop e ≡ y)
 refused-of (took v m) stop whole y q n = absurd (n v m q)
 refused-of (refused e) stop whole y q n = (e, refl, q)
 
-module _ {A T : Type 0} (F : Format A) (s : List ℕ) (at : ℕ) (stop : Refusal → T) (whole : A → ℕ → T) (x : T) (p : x ≡ F .run s at stop whole) (y : T) (q : x ≡ y) where
+module _ {A T : Type 0} (F : Format A) (s : List ℕ) (at : ℕ) (stop : Refusal → T) (whole : A → ℕ → T) (x : T) (p : x ≡ F .parse s at stop whole) (y : T)
+    (q : x ≡ y) where
   pub answer-took : ((e : Refusal) → stop e ≡ y → ⊥) → (v : A) × (m : ℕ) × (read F s at ≡ took v m) × (whole v m ≡ y)
   answer-took = took-of (read F s at) stop whole y (sym (F .same s at stop whole) ∙ found p q)
 
@@ -61,22 +65,22 @@ module _ {A T : Type 0} (F : Format A) (s : List ℕ) (at : ℕ) (stop : Refusal
 -- The reading of F goes on, stop and go, from the answer x of a reader of F, whose two cases are `no` and `whole`: the laws `on-..` and
 -- `on-..-refused` below are these two, each for a format by name. That the cases are told apart, and what each shows, is by `cc` there
 module _ {A T R : Type 0} (F : Format A) (no : Refusal → T) (whole : A → ℕ → T) (s : List ℕ) (at : ℕ) (z : R) (stop : Refusal → R) (go : A → ℕ → R)
-    (x : T) (p : x ≡ F .run s at no whole) where
+    (x : T) (p : x ≡ F .parse s at no whole) where
   -- x is y, which is no refusal, and shows that the reading ended at n
   pub on-whole : (y : T) (n : ℕ) → x ≡ y → ((e : Refusal) → no e ≡ y → _≡_ {A = ℕ} 0 1) → ((v : A) (m : ℕ) → whole v m ≡ y → m ≡ n)
-      → ((v : A) → whole v n ≡ y → read F s at ≡ took v n → z ≡ go v n) → z ≡ F .run s at stop go
+      → ((v : A) → whole v n ≡ y → read F s at ≡ took v n → z ≡ go v n) → z ≡ F .parse s at stop go
   on-whole y n q never ends e =
       let (v, m, t, i) = answer-took F s at no whole x p y q (λ d j. let k : _≡_ {A = ℕ} 0 1 = never d j in omega arith) in
       let em : m ≡ n = ends v m i in
       let u : read F s at ≡ took v n = t ∙ ap (took v) em in
-      e v (ap (whole v) (sym em) ∙ i) u ∙ sym (W.run-took F s at stop go v n u)
+      e v (ap (whole v) (sym em) ∙ i) u ∙ sym (W.parse-took F s at stop go v n u)
 
   -- its refusal is handed up
   pub on-refused : (e : Refusal) → x ≡ no e → ((v : A) (m : ℕ) → whole v m ≡ no e → _≡_ {A = ℕ} 0 1) → ((d : Refusal) → no d ≡ no e → d ≡ e) → z ≡ stop e
-      → z ≡ F .run s at stop go
+      → z ≡ F .parse s at stop go
   on-refused e q never same r =
       let (d, t, i) = answer-refused F s at no whole x p (no e) q (λ v m j. let k : _≡_ {A = ℕ} 0 1 = never v m j in omega arith) in
-      r ∙ ap stop (sym (same d i)) ∙ sym (W.run-refused F s at stop go d t)
+      r ∙ ap stop (sym (same d i)) ∙ sym (W.parse-refused F s at stop go d t)
 
 -- ---- order: code keeps the element before, and whether there is any; the format, its bytes, [] before the first
 
@@ -94,7 +98,7 @@ first-below true p a t e h = sym e
 first-below false p a t e h = empty-below a h ∙ sym e
 
 -- bytes handed over whole are what stands there
-whole-is : (k : ℕ) (s : List ℕ) (at n : ℕ) (a w : List ℕ) (x : Part) → Stands s at w n → a ≡ wholeAt k s at → x ≡ ended (blob k) s at → x ≡ P.Next n → a ≡ w
+whole-is : (k : ℕ) (s : List ℕ) (at n : ℕ) (a w : List ℕ) (x : End) → Stands s at w n → a ≡ wholeAt k s at → x ≡ ended (blob k) s at → x ≡ P.At n → a ≡ w
 whole-is k s at n a w x h ha p q = W.whole-next k s at a x n ha p q ∙ sym (stands-part s at w n h)
 
 pub id-length : (k : ℕ) (s : List ℕ) (at : ℕ) (a : List ℕ) → a ≡ wholeAt k s at → length a ≡ k
@@ -102,89 +106,98 @@ id-length k s at a h = ap length h ∙ W.whole-length k s at
 
 -- numbers, as indices are
 module _ {R : Type 0} (any : Bool) (prev v : ℕ) (t : Bool) (z X Y : R) (e : t ≡ pick any (ltb prev v) true) (small : prev < 256 ^ 4) where
-  number-test : v < 256 ^ 4 → below (pick any (digits 4 prev) []) (digits 4 v) ≡ t
-  number-test h = first-below any (digits 4 prev) (digits 4 v) t (rw (below-digits 4 prev v small h) e) (omega (arith, length-digits 4 v))
+  integer-test : v < 256 ^ 4 → below (pick any (digits 4 prev) []) (digits 4 v) ≡ t
+  integer-test h = first-below any (digits 4 prev) (digits 4 v) t (rw (below-digits 4 prev v small h) e) (omega (arith, length-digits 4 v))
 
-  pub if-number-follows : t ≡ true → v < 256 ^ 4 → z ≡ X → z ≡ pick (below (pick any (digits 4 prev) []) (digits 4 v)) X Y
-  if-number-follows h i j = rw (number-test i, h) j
+  pub if-integer-follows : t ≡ true → v < 256 ^ 4 → z ≡ X → z ≡ pick (below (pick any (digits 4 prev) []) (digits 4 v)) X Y
+  if-integer-follows h i j = rw (integer-test i, h) j
 
-  pub if-number-not : t ≡ false → v < 256 ^ 4 → z ≡ Y → z ≡ pick (below (pick any (digits 4 prev) []) (digits 4 v)) X Y
-  if-number-not h i j = rw (number-test i, h) j
+  pub if-integer-not : t ≡ false → v < 256 ^ 4 → z ≡ Y → z ≡ pick (below (pick any (digits 4 prev) []) (digits 4 v)) X Y
+  if-integer-not h i j = rw (integer-test i, h) j
 
 -- keys, an identifier and an index: w is the writing of the identifier
-module _ (s : List ℕ) (at n : ℕ) (id w : List ℕ) (x : Part) (h : Stands s at w n) (ha : id ≡ wholeAt 32 s at) (p : x ≡ ended (blob 32) s at) (q : x ≡ P.Next n) where
-  module _ {R : Type 0} (any : Bool) (prev : List ℕ) (last index : ℕ) (t : Bool) (z X Y : R) (e : t ≡ pick any (keyBelow prev last id index) true) (hp : length prev ≡ 32) (hl : last < 256 ^ 4) where
-    key-test : index < 256 ^ 4 → below (pick any (prev ++ number 4 .write last) []) (w ++ number 4 .write index) ≡ t
-    unfolding number
+module _ (s : List ℕ) (at n : ℕ) (id w : List ℕ) (x : End) (h : Stands s at w n) (ha : id ≡ wholeAt 32 s at) (p : x ≡ ended (blob 32) s at)
+    (q : x ≡ P.At n) where
+  module _ {R : Type 0} (any : Bool) (prev : List ℕ) (last index : ℕ) (t : Bool) (z X Y : R) (e : t ≡ pick any (keyBelow prev last id index) true)
+      (hp : length prev ≡ 32) (hl : last < 256 ^ 4) where
+    key-test : index < 256 ^ 4 → below (pick any (prev ++ integer 4 .write last) []) (w ++ integer 4 .write index) ≡ t
+    unfolding integer
     key-test hx =
         let hi : length id ≡ 32 = id-length 32 s at id ha in
         rw (← (whole-is 32 s at n id w x h ha p q))
         (first-below any (prev ++ digits 4 last) (id ++ digits 4 index) t (rw (key-below prev id last index (hp ∙ sym hi) hl hx) e)
         (omega (arith, length-append id (digits 4 index))))
 
-    pub if-key-follows : index < 256 ^ 4 → t ≡ true → z ≡ X → z ≡ pick (below (pick any (prev ++ number 4 .write last) []) (w ++ number 4 .write index)) X Y
+    pub if-key-follows : index < 256 ^ 4 → t ≡ true → z ≡ X → z ≡ pick (below (pick any (prev ++ integer 4 .write last) []) (w ++ integer 4 .write index)) X Y
     if-key-follows hx i j = rw (key-test hx, i) j
 
-    pub if-key-not : index < 256 ^ 4 → t ≡ false → z ≡ Y → z ≡ pick (below (pick any (prev ++ number 4 .write last) []) (w ++ number 4 .write index)) X Y
+    pub if-key-not : index < 256 ^ 4 → t ≡ false → z ≡ Y → z ≡ pick (below (pick any (prev ++ integer 4 .write last) []) (w ++ integer 4 .write index)) X Y
     if-key-not hx i j = rw (key-test hx, i) j
 
   pub key-again : {A R : Type 0} (E : List ℕ → Format A) (step : List ℕ → A → List ℕ) (u : List ℕ) (m k : ℕ) (stop : Refusal → R) (go : List A → ℕ → R)
-      → items E step (id ++ u) m .run s k stop go ≡ items E step (w ++ u) m .run s k stop go
+      → items E step (id ++ u) m .parse s k stop go ≡ items E step (w ++ u) m .parse s k stop go
   key-again E step u m k stop go = rw (whole-is 32 s at n id w x h ha p q)
 
 -- ---- lists: what is left of one, by what code keeps of the element before
 
 -- of no order: it does not hang on the element before
-pub unordered-again : {A : Type 0} (F : Format A) (s : List ℕ) (n at : ℕ) (stop : Refusal → Part) (go : List A → ℕ → Part) (p q : List ℕ)
-    → items (λ prev. F) (left (λ prev. F)) p n .run s at stop go ≡ items (λ prev. F) (left (λ prev. F)) q n .run s at stop go
-unfolding items listRun
+pub unordered-again : {A : Type 0} (F : Format A) (s : List ℕ) (n at : ℕ) (stop : Refusal → End) (go : List A → ℕ → End) (p q : List ℕ)
+    → items (λ prev. F) (left (λ prev. F)) p n .parse s at stop go ≡ items (λ prev. F) (left (λ prev. F)) q n .parse s at stop go
+unfolding items listParse
 unordered-again F s zero at stop go p q = refl
 unordered-again F s (suc n) at stop go p q = refl
 
 -- of elements that look at the first k bytes of the one before: code keeps just these
-module _ {A : Type 0} (G : List ℕ → Format A) (k : ℕ) (viewed : A → List ℕ) (front : (b : List ℕ) (a : A) → G b .Good a → take k (G b .write a) ≡ viewed a) where
+module _ {A : Type 0} (G : List ℕ → Format A) (k : ℕ) (viewed : A → List ℕ) (front : (b : List ℕ) (a : A) → G b .Good a
+    → take k (G b .write a) ≡ viewed a) where
   items-viewed : {R : Type 0} (s : List ℕ) → Bytes s → (n : ℕ) (prev : List ℕ) (at : ℕ) (stop : Refusal → R) (go : List A → ℕ → R)
-      → items G (λ b a. viewed a) (take k prev) n .run s at stop go ≡ items (λ p. G (take k p)) (left (λ p. G (take k p))) prev n .run s at stop go
-  unfolding items listRun
+      → items G (λ b a. viewed a) (take k prev) n .parse s at stop go ≡ items (λ p. G (take k p)) (left (λ p. G (take k p))) prev n .parse s at stop go
+  unfolding items listParse
   items-viewed s bs zero prev at stop go = refl
   items-viewed s bs (suc n) prev at stop go =
-      run-alike-read (G (take k prev)) s at stop _ _ (λ a m q.
-      ap (λ (b : List ℕ). listRun G (λ b a. viewed a) n b s m stop (λ l j. go (a ∷ l) j)) (sym (front (take k prev) a (G (take k prev) .sound s at a m bs q .0)))
+      parse-alike-read (G (take k prev)) s at stop _ _ (λ a m q.
+      ap (λ (b : List ℕ). listParse G (λ b a. viewed a) n b s m stop (λ l j. go (a ∷ l) j))
+      (sym (front (take k prev) a (G (take k prev) .sound s at a m bs q .0)))
       ∙ items-viewed s bs n (G (take k prev) .write a) m stop (λ l j. go (a ∷ l) j))
 
 -- ---- addresses: one that stands at a place, and n more behind it in view of it. It is shut, so that `search` reads s, at and n off it
 
-unfoldable pub addressThen : ℕ → List ℕ → ℕ → Part
-addressThen n s at = blob 20 .run s at P.Refused (λ a q. ended (seriesFrom (above (blob 20)) a n) s q)
+unfoldable pub addressThen : ℕ → List ℕ → ℕ → End
+addressThen n s at = blob 20 .parse s at P.Refused (λ a q. ended (seriesFrom (above (blob 20)) a n) s q)
 
 module _ (s : List ℕ) (b : Slice s) where
   -- none stands before the first
   pub address-first : (c at : ℕ) → (c ≡ 0 → ⊥) → addressThen (c - 1) s at ≡ ended (increasing (blob 20) c) s at
   unfolding addressThen guard blob
   address-first c at h =
-      W.list-on (above (blob 20)) (left (above (blob 20))) s at P.Refused (λ l k. P.Next k) [] c (addressThen (c - 1) s at) (ended (increasing (blob 20) c) s at) refl (some c h)
-      (run-alike-read (blob 20) s at P.Refused _ _ (λ a m t. rw (empty-below a (omega (arith, blob 20 .sound s at a m (slice-bytes s b) t .0 .0)))))
+      W.list-on (above (blob 20)) (left (above (blob 20))) s at P.Refused (λ l k. P.At k) [] c (addressThen (c - 1) s at)
+      (ended (increasing (blob 20) c) s at) refl (some c h)
+      (parse-alike-read (blob 20) s at P.Refused _ _ (λ a m t. rw (empty-below a (omega (arith, blob 20 .sound s at a m (slice-bytes s b) t .0 .0)))))
     where
       some : (c : ℕ) → (c ≡ 0 → ⊥) → 0 < c
       some zero h = absurd (h refl)
       some (suc c) h = omega arith
 
-  pub no-address : (c at : ℕ) → c ≡ 0 → P.Next at ≡ ended (increasing (blob 20) c) s at
-  no-address c at h = W.list-end (above (blob 20)) (left (above (blob 20))) s at P.Refused (λ l k. P.Next k) [] c (P.Next at) (ended (increasing (blob 20) c) s at) refl (omega arith) refl
+  pub no-address : (c at : ℕ) → c ≡ 0 → P.At at ≡ ended (increasing (blob 20) c) s at
+  no-address c at h = W.list-end (above (blob 20)) (left (above (blob 20))) s at P.Refused (λ l k. P.At k) [] c (P.At at)
+      (ended (increasing (blob 20) c) s at) refl (omega arith) refl
 
-  module _ (n prev at : ℕ) (x : Part) (p : x ≡ ended (blob 20) s prev) (q : x ≡ P.Next at) (h : 0 < n) (y : Part) (w : addressThen n s prev ≡ y) where
+  module _ (n prev at : ℕ) (x : End) (p : x ≡ ended (blob 20) s prev) (q : x ≡ P.At at) (h : 0 < n) (y : End) (w : addressThen n s prev ≡ y) where
     -- the next one, in view of that at prev
-    address-next : blob 20 .run s at P.Refused (λ a m. pick (below (wholeAt 20 s prev) a) (ended (seriesFrom (above (blob 20)) a (n - 1)) s m) (P.Refused (by outOfOrder at))) ≡ y
+    address-next : blob 20 .parse s at P.Refused
+        (λ a m. pick (below (wholeAt 20 s prev) a) (ended (seriesFrom (above (blob 20)) a (n - 1)) s m) (P.Refused (by outOfOrder at))) ≡ y
     unfolding addressThen guard blob
     address-next =
-        W.list-on (above (blob 20)) (left (above (blob 20))) s at P.Refused (λ l k. P.Next k) (wholeAt 20 s prev) n _ y
-        (ap (λ (a : List ℕ). ended (seriesFrom (above (blob 20)) a n) s at) (W.whole-next 20 s prev (wholeAt 20 s prev) x at refl p q) ∙ W.on-part 20 s prev _ P.Refused (λ a q. ended (seriesFrom (above (blob 20)) a n) s q) x at p q refl ∙ w) h refl
+        W.list-on (above (blob 20)) (left (above (blob 20))) s at P.Refused (λ l k. P.At k) (wholeAt 20 s prev) n _ y
+        (ap (λ (a : List ℕ). ended (seriesFrom (above (blob 20)) a n) s at) (W.whole-next 20 s prev (wholeAt 20 s prev) x at refl p q)
+        ∙ W.on-part 20 s prev _ P.Refused (λ a q. ended (seriesFrom (above (blob 20)) a n) s q) x at p q refl ∙ w) h refl
 
-    pub address-cut : (e f : Refusal) (u : Part) → u ≡ ended (blob 20) s at → u ≡ P.Refused e → f ≡ cutAt 20 s at → P.Refused f ≡ y
+    pub address-cut : (e f : Refusal) (u : End) → u ≡ ended (blob 20) s at → u ≡ P.Refused e → f ≡ cutAt 20 s at → P.Refused f ≡ y
     address-cut e f u i j g = W.on-cut 20 s at (P.Refused f) P.Refused _ u e i j f g refl ∙ address-next
 
-    module _ (m : ℕ) (u : Part) (i : u ≡ ended (blob 20) s at) (j : u ≡ P.Next m) (a c : List ℕ) (ea : a ≡ wholeAt 20 s prev) (ec : c ≡ wholeAt 20 s at) (t : Bool) (k : t ≡ below a c) where
-      compared : pick t (ended (seriesFrom (above (blob 20)) (part at m s) (n - 1)) s m) (P.Refused (by outOfOrder at)) ≡ y
+    module _ (m : ℕ) (u : End) (i : u ≡ ended (blob 20) s at) (j : u ≡ P.At m) (a c : List ℕ) (ea : a ≡ wholeAt 20 s prev) (ec : c ≡ wholeAt 20 s at)
+        (t : Bool) (k : t ≡ below a c) where
+      compared : pick t (ended (seriesFrom (above (blob 20)) (between at m s) (n - 1)) s m) (P.Refused (by outOfOrder at)) ≡ y
       compared =
           rw (k, ea, ec, W.whole-next 20 s at (wholeAt 20 s at) u m refl i j) (W.on-part 20 s at _ P.Refused _ u m i j refl ∙ address-next)
 
@@ -196,15 +209,17 @@ module _ (s : List ℕ) (b : Slice s) where
       address-not g f h = ap P.Refused h ∙ rw g at compared
 
   -- the address before is not there, or was the last
-  pub address-gone : (n prev : ℕ) (x : Part) (e f : Refusal) → x ≡ ended (blob 20) s prev → x ≡ P.Refused e → f ≡ cutAt 20 s prev → (y : Part) → addressThen n s prev ≡ y → P.Refused f ≡ y
+  pub address-gone : (n prev : ℕ) (x : End) (e f : Refusal) → x ≡ ended (blob 20) s prev → x ≡ P.Refused e → f ≡ cutAt 20 s prev → (y : End)
+      → addressThen n s prev ≡ y → P.Refused f ≡ y
   unfolding addressThen
   address-gone n prev x e f p q g y w = W.on-cut 20 s prev (P.Refused f) P.Refused _ x e p q f g refl ∙ w
 
-  pub first-gone : (c at : ℕ) (x : Part) (e f : Refusal) → (c ≡ 0 → ⊥) → x ≡ ended (blob 20) s at → x ≡ P.Refused e → f ≡ cutAt 20 s at → P.Refused f ≡ ended (increasing (blob 20) c) s at
+  pub first-gone : (c at : ℕ) (x : End) (e f : Refusal) → (c ≡ 0 → ⊥) → x ≡ ended (blob 20) s at → x ≡ P.Refused e → f ≡ cutAt 20 s at
+      → P.Refused f ≡ ended (increasing (blob 20) c) s at
   first-gone c at x e f h p q g = address-gone (c - 1) at x e f p q g (ended (increasing (blob 20) c) s at) (address-first c at h)
 
-  pub address-last : (n prev : ℕ) (x : Part) → x ≡ ended (blob 20) s prev → n ≤ 0 → (y : Part) → addressThen n s prev ≡ y → x ≡ y
-  unfolding addressThen items listRun
+  pub address-last : (n prev : ℕ) (x : End) → x ≡ ended (blob 20) s prev → n ≤ 0 → (y : End) → addressThen n s prev ≡ y → x ≡ y
+  unfolding addressThen items listParse
   address-last zero prev x p h y w = p ∙ w
   address-last (suc n) prev x p h y w = absurd (omega arith)
 
@@ -218,67 +233,67 @@ module _ {R : Type 0} (threshold addresses : ℕ) (t : Bool) (z x y : R) (e : t 
   pub if-unfit : not t ≡ true → z ≡ y → z ≡ pick (thresholdFits threshold addresses) x y
   if-unfit h i = rw (found e (not-true t h)) i
 
-module _ {R : Type 0} (s : List ℕ) (at : ℕ) (z : R) (stop : Refusal → R) (go : Owners → ℕ → R) (x : Part) where
-  pub on-owners : (n : ℕ) → x ≡ ended owners s at → x ≡ P.Next n → ((v : Owners) → z ≡ go v n) → z ≡ owners .run s at stop go
+module _ {R : Type 0} (s : List ℕ) (at : ℕ) (z : R) (stop : Refusal → R) (go : Owners → ℕ → R) (x : End) where
+  pub on-owners : (n : ℕ) → x ≡ ended owners s at → x ≡ P.At n → ((v : Owners) → z ≡ go v n) → z ≡ owners .parse s at stop go
   on-owners = W.ends owners R s at z stop go x
 
-  pub on-owners-refused : (e : Refusal) → x ≡ ended owners s at → x ≡ P.Refused e → z ≡ stop e → z ≡ owners .run s at stop go
+  pub on-owners-refused : (e : Refusal) → x ≡ ended owners s at → x ≡ P.Refused e → z ≡ stop e → z ≡ owners .parse s at stop go
   on-owners-refused = W.stops owners R s at z stop go x
 
 -- ---- outputs
 
-module _ {R : Type 0} (s : List ℕ) (at : ℕ) (z : R) (stop : Refusal → R) (go : ℕ → ℕ → R) (x : Part) where
-  pub on-amount : (n : ℕ) → x ≡ ended amount s at → x ≡ P.Next n → ((v : ℕ) → z ≡ go v n) → z ≡ amount .run s at stop go
+module _ {R : Type 0} (s : List ℕ) (at : ℕ) (z : R) (stop : Refusal → R) (go : ℕ → ℕ → R) (x : End) where
+  pub on-amount : (n : ℕ) → x ≡ ended amount s at → x ≡ P.At n → ((v : ℕ) → z ≡ go v n) → z ≡ amount .parse s at stop go
   on-amount = W.ends amount R s at z stop go x
 
-  pub on-amount-refused : (e : Refusal) → x ≡ ended amount s at → x ≡ P.Refused e → z ≡ stop e → z ≡ amount .run s at stop go
+  pub on-amount-refused : (e : Refusal) → x ≡ ended amount s at → x ≡ P.Refused e → z ≡ stop e → z ≡ amount .parse s at stop go
   on-amount-refused = W.stops amount R s at z stop go x
 
 -- what code answers for an element that is to be not below the one before is what the format of such an element does
-ordered-is : {A : Type 0} (F : Format A) (s : List ℕ) (prev at : ℕ) → Slice s → inOrder s prev at (ended F s at) ≡ ended (notBelow F (part prev at s)) s at
+ordered-is : {A : Type 0} (F : Format A) (s : List ℕ) (prev at : ℕ) → Slice s → inOrder s prev at (ended F s at) ≡ ended (notBelow F (between prev at s)) s at
 unfolding guard
 ordered-is {A = A} F s prev at b =
-    ap (inOrder s prev at) (F .same s at P.Refused (λ v n. P.Next n))
+    ap (inOrder s prev at) (F .same s at P.Refused (λ v n. P.At n))
     ∙ cases (read F s at) refl
-    ∙ sym (F .same s at P.Refused (λ v n. pick (not (below (F .write v) (part prev at s))) (P.Next n) (P.Refused (by outOfOrder at))))
+    ∙ sym (F .same s at P.Refused (λ v n. pick (not (below (F .write v) (between prev at s))) (P.At n) (P.Refused (by outOfOrder at))))
   where
-    turned : (t : Bool) (x y : Part) → pick t x y ≡ pick (not t) y x
+    turned : (t : Bool) (x y : End) → pick t x y ≡ pick (not t) y x
     turned true x y = refl
     turned false x y = refl
 
     cases : (o : Result A) → read F s at ≡ o
-        → inOrder s prev at (onResult o P.Refused (λ v n. P.Next n))
-        ≡ onResult o P.Refused (λ v n. pick (not (below (F .write v) (part prev at s))) (P.Next n) (P.Refused (by outOfOrder at)))
+        → inOrder s prev at (onResult o P.Refused (λ v n. P.At n))
+        ≡ onResult o P.Refused (λ v n. pick (not (below (F .write v) (between prev at s))) (P.At n) (P.Refused (by outOfOrder at)))
     cases (took v n) e =
         rw (stands-part s at (F .write v) n (F .sound s at v n (slice-bytes s b) e .1))
-        (turned (below (part at n s) (part prev at s)) (P.Refused (by outOfOrder at)) (P.Next n))
+        (turned (below (between at n s) (between prev at s)) (P.Refused (by outOfOrder at)) (P.At n))
     cases (refused e) q = refl
 
 -- of a list of elements none of which is below the one before: x is what was read of F, y what is left of that by the order
-module _ {A R : Type 0} (F : Format A) (s : List ℕ) (prev at : ℕ) (z : R) (stop : Refusal → R) (go : A → ℕ → R) (x y : Part)
+module _ {A R : Type 0} (F : Format A) (s : List ℕ) (prev at : ℕ) (z : R) (stop : Refusal → R) (go : A → ℕ → R) (x y : End)
     (p : x ≡ ended F s at) (q : y ≡ inOrder s prev at x) (b : Slice s) where
-  ordered-ended : y ≡ ended (notBelow F (part prev at s)) s at
+  ordered-ended : y ≡ ended (notBelow F (between prev at s)) s at
   ordered-ended = q ∙ ap (inOrder s prev at) p ∙ ordered-is F s prev at b
 
-  pub on-ordered : (n : ℕ) → y ≡ P.Next n → ((v : A) → Stands s at (notBelow F (part prev at s) .write v) n → z ≡ go v n)
-      → z ≡ notBelow F (part prev at s) .run s at stop go
+  pub on-ordered : (n : ℕ) → y ≡ P.At n → ((v : A) → Stands s at (notBelow F (between prev at s) .write v) n → z ≡ go v n)
+      → z ≡ notBelow F (between prev at s) .parse s at stop go
   on-ordered n h e =
-      let (v, t) = W.next-took (notBelow F (part prev at s)) s at y n ordered-ended h in
-      e v (notBelow F (part prev at s) .sound s at v n (slice-bytes s b) t .1) ∙ sym (W.run-took (notBelow F (part prev at s)) s at stop go v n t)
+      let (v, t) = W.next-took (notBelow F (between prev at s)) s at y n ordered-ended h in
+      e v (notBelow F (between prev at s) .sound s at v n (slice-bytes s b) t .1) ∙ sym (W.parse-took (notBelow F (between prev at s)) s at stop go v n t)
 
-  pub on-disordered : (e : Refusal) → y ≡ P.Refused e → z ≡ stop e → z ≡ notBelow F (part prev at s) .run s at stop go
-  on-disordered e h r = W.stops (notBelow F (part prev at s)) R s at z stop go y e ordered-ended h r
+  pub on-disordered : (e : Refusal) → y ≡ P.Refused e → z ≡ stop e → z ≡ notBelow F (between prev at s) .parse s at stop go
+  on-disordered e h r = W.stops (notBelow F (between prev at s)) R s at z stop go y e ordered-ended h r
 
 -- what was read, r, and what the code found of it
-module _ (s : List ℕ) (prev at : ℕ) (r : Part) (z : Part) where
+module _ (s : List ℕ) (prev at : ℕ) (r : End) (z : End) where
   pub not-read : (e : Refusal) → r ≡ P.Refused e → z ≡ P.Refused e → z ≡ inOrder s prev at r
   not-read e h k = k ∙ sym (ap (inOrder s prev at) h)
 
-  module _ (n : ℕ) (h : r ≡ P.Next n) (t : Bool) (p : t ≡ below (part at n s) (part prev at s)) where
+  module _ (n : ℕ) (h : r ≡ P.At n) (t : Bool) (p : t ≡ below (between at n s) (between prev at s)) where
     pub read-below : t ≡ true → z ≡ P.Refused (by outOfOrder at) → z ≡ inOrder s prev at r
     read-below q k = rw (h, found p q) k
 
-    pub read-not-below : t ≡ false → z ≡ P.Next n → z ≡ inOrder s prev at r
+    pub read-not-below : t ≡ false → z ≡ P.At n → z ≡ inOrder s prev at r
     read-not-below q k = rw (h, found p q) k
 
 pub ruleset comparing = (not-read, read-below, read-not-below)
@@ -288,15 +303,15 @@ pub ruleset ordering = (W.list-on, W.list-again, on-ordered, on-disordered)
 -- ---- inputs
 
 -- an input behind its key
-module _ {R : Type 0} (s : List ℕ) (at : ℕ) (z : R) (stop : Refusal → R) (go : List ℕ × (Unit {0} × (ℕ × List ℕ)) → ℕ → R) (x : Part) where
-  pub on-spend : (n : ℕ) → x ≡ ended spend s at → x ≡ P.Next n → ((v : List ℕ × (Unit {0} × (ℕ × List ℕ))) → z ≡ go v n) → z ≡ spend .run s at stop go
+module _ {R : Type 0} (s : List ℕ) (at : ℕ) (z : R) (stop : Refusal → R) (go : List ℕ × (Unit {0} × (ℕ × List ℕ)) → ℕ → R) (x : End) where
+  pub on-spend : (n : ℕ) → x ≡ ended spend s at → x ≡ P.At n → ((v : List ℕ × (Unit {0} × (ℕ × List ℕ))) → z ≡ go v n) → z ≡ spend .parse s at stop go
   on-spend = W.ends spend R s at z stop go x
 
-  pub on-spend-refused : (e : Refusal) → x ≡ ended spend s at → x ≡ P.Refused e → z ≡ stop e → z ≡ spend .run s at stop go
+  pub on-spend-refused : (e : Refusal) → x ≡ ended spend s at → x ≡ P.Refused e → z ≡ stop e → z ≡ spend .parse s at stop go
   on-spend-refused = W.stops spend R s at z stop go x
 
 pub key-wide : (v : List ℕ × ℕ) → key .Good v → length (key .write v) ≡ 36
-unfolding key number blob
+unfolding key integer blob
 key-wide v h = omega (arith, h .0 .0, length-append (v .0) (digits 4 (v .1)), length-digits 4 (v .1))
 
 abbrev pub inputKey : Input → List ℕ
@@ -311,33 +326,34 @@ abbrev pub inputsAfter : List ℕ → ℕ → Format (List Input)
 inputsAfter before n = items inputAfter (λ b i. inputKey i) before n
 
 pub inputs-are : (s : List ℕ) → Slice s → (n at : ℕ) → ended (inputsAfter [] n) s at ≡ ended (series input n) s at
-inputs-are s b n at = items-viewed inputAfter 36 inputKey input-front s (slice-bytes s b) n [] at P.Refused (λ l k. P.Next k)
+inputs-are s b n at = items-viewed inputAfter 36 inputKey input-front s (slice-bytes s b) n [] at P.Refused (λ l k. P.At k)
 
 -- ---- operations
 
-module _ {R : Type 0} (s : List ℕ) (at : ℕ) (z : R) (stop : Refusal → R) (go : Terms → ℕ → R) (x : Part) where
-  pub on-terms : (n : ℕ) → x ≡ ended terms s at → x ≡ P.Next n → ((v : Terms) → z ≡ go v n) → z ≡ terms .run s at stop go
+module _ {R : Type 0} (s : List ℕ) (at : ℕ) (z : R) (stop : Refusal → R) (go : Terms → ℕ → R) (x : End) where
+  pub on-terms : (n : ℕ) → x ≡ ended terms s at → x ≡ P.At n → ((v : Terms) → z ≡ go v n) → z ≡ terms .parse s at stop go
   on-terms = W.ends terms R s at z stop go x
 
-  pub on-terms-refused : (e : Refusal) → x ≡ ended terms s at → x ≡ P.Refused e → z ≡ stop e → z ≡ terms .run s at stop go
+  pub on-terms-refused : (e : Refusal) → x ≡ ended terms s at → x ≡ P.Refused e → z ≡ stop e → z ≡ terms .parse s at stop go
   on-terms-refused = W.stops terms R s at z stop go x
 
 -- behind the terms: what the type has
-module _ (kind : ℕ) (s : List ℕ) (at : ℕ) (z : Part) where
-  pub if-mint : kind ≡ 12 → z ≡ ended (operationOwners mintNft) s at → z ≡ ended (operationOwners (operationType kind)) s at
+module _ («type_id» : ℕ) (s : List ℕ) (at : ℕ) (z : End) where
+  pub if-mint : «type_id» ≡ 12 → z ≡ ended (operationOwners mintNft) s at → z ≡ ended (operationOwners (operationType «type_id»)) s at
   if-mint h e = rw h e
 
-  pub if-transfer : (kind ≡ 12 → ⊥) → z ≡ ended owners s at → z ≡ ended (operationOwners (operationType kind)) s at
-  if-transfer h e = rw (ne-eqb kind 12 h) e
+  pub if-transfer : («type_id» ≡ 12 → ⊥) → z ≡ ended owners s at → z ≡ ended (operationOwners (operationType «type_id»)) s at
+  if-transfer h e = rw (ne-eqb «type_id» 12 h) e
 
 -- the type of an operation, where the code has compared it with 12 and 13
 abbrev operationTag : Format OperationType
-operationTag = tag operationCode operationType operationType-code (number 4) (mintNft ∷ transferNft ∷ []) unknownType
+operationTag = tag operationCode operationType operationType-code (integer 4) (mintNft ∷ transferNft ∷ []) unknownType
 
-operation-type-run : {R : Type 0} (s : List ℕ) (at : ℕ) (stop : Refusal → R) (go : OperationType → ℕ → R)
-    → operationTag .run s at stop go ≡ number 4 .run s at stop (λ n m. pick (eqb n 12) (go mintNft m) (pick (eqb n 13) (go transferNft m) (stop (by unknownType at))))
+operation-type-parse : {R : Type 0} (s : List ℕ) (at : ℕ) (stop : Refusal → R) (go : OperationType → ℕ → R)
+    → operationTag .parse s at stop go ≡ integer 4 .parse s at stop
+    (λ n m. pick (eqb n 12) (go mintNft m) (pick (eqb n 13) (go transferNft m) (stop (by unknownType at))))
 unfolding tag
-operation-type-run s at stop go = refl
+operation-type-parse s at stop go = refl
 
 operation-known : {R : Type 0} (v : ℕ) (go : OperationType → R) (y : R) → 12 ≤ v → v ≤ 13
     → pick (eqb v 12) (go mintNft) (pick (eqb v 13) (go transferNft) y) ≡ go (operationType v)
@@ -347,79 +363,80 @@ operation-known v go y h i = cases (ltb v 13) refl
     cases true e = rw (eq-eqb v 12 (omega (arith, ltb-true v 13 e)))
     cases false e = rw (ne-eqb v 12 (λ j. omega (arith, ltb-false v 13 e)), eq-eqb v 13 (omega (arith, ltb-false v 13 e)))
 
-module _ {R : Type 0} (s : List ℕ) (at : ℕ) (z : R) (stop : Refusal → R) (go : OperationType → ℕ → R) (x : Number) (p : x ≡ valued (number 4) s at) where
-  pub on-operation-type : (v n : ℕ) → x ≡ N.Value v n → 12 ≤ v → v ≤ 13 → z ≡ go (operationType v) n → z ≡ operationTag .run s at stop go
+module _ {R : Type 0} (s : List ℕ) (at : ℕ) (z : R) (stop : Refusal → R) (go : OperationType → ℕ → R) (x : Integer) (p : x ≡ valued (integer 4) s at) where
+  pub on-operation-type : (v n : ℕ) → x ≡ N.Value v n → 12 ≤ v → v ≤ 13 → z ≡ go (operationType v) n → z ≡ operationTag .parse s at stop go
   on-operation-type v n q h i e =
-      W.on-value 4 s at z stop _ x v n p q (e ∙ sym (operation-known v (λ k. go k n) (stop (by unknownType at)) h i)) ∙ sym (operation-type-run s at stop go)
+      W.on-value 4 s at z stop _ x v n p q (e ∙ sym (operation-known v (λ k. go k n) (stop (by unknownType at)) h i)) ∙ sym (operation-type-parse s at stop go)
 
-  pub on-operation-type-below : (v n : ℕ) → x ≡ N.Value v n → v < 12 → z ≡ stop (by unknownType at) → z ≡ operationTag .run s at stop go
+  pub on-operation-type-below : (v n : ℕ) → x ≡ N.Value v n → v < 12 → z ≡ stop (by unknownType at) → z ≡ operationTag .parse s at stop go
   on-operation-type-below v n q h e =
-      W.on-value 4 s at z stop _ x v n p q (rw (ne-eqb v 12 (λ i. omega arith), ne-eqb v 13 (λ i. omega arith)) e) ∙ sym (operation-type-run s at stop go)
+      W.on-value 4 s at z stop _ x v n p q (rw (ne-eqb v 12 (λ i. omega arith), ne-eqb v 13 (λ i. omega arith)) e) ∙ sym (operation-type-parse s at stop go)
 
-  pub on-operation-type-above : (v n : ℕ) → x ≡ N.Value v n → 13 < v → z ≡ stop (by unknownType at) → z ≡ operationTag .run s at stop go
+  pub on-operation-type-above : (v n : ℕ) → x ≡ N.Value v n → 13 < v → z ≡ stop (by unknownType at) → z ≡ operationTag .parse s at stop go
   on-operation-type-above v n q h e =
-      W.on-value 4 s at z stop _ x v n p q (rw (ne-eqb v 12 (λ i. omega arith), ne-eqb v 13 (λ i. omega arith)) e) ∙ sym (operation-type-run s at stop go)
+      W.on-value 4 s at z stop _ x v n p q (rw (ne-eqb v 12 (λ i. omega arith), ne-eqb v 13 (λ i. omega arith)) e) ∙ sym (operation-type-parse s at stop go)
 
-  pub on-operation-type-short : (e : Refusal) → x ≡ N.Refused e → (f : Refusal) → f ≡ cutAt 4 s at → z ≡ stop f → z ≡ operationTag .run s at stop go
-  on-operation-type-short e q f g r = W.on-short 4 s at z stop _ x e p q f g r ∙ sym (operation-type-run s at stop go)
+  pub on-operation-type-short : (e : Refusal) → x ≡ N.Refused e → (f : Refusal) → f ≡ cutAt 4 s at → z ≡ stop f → z ≡ operationTag .parse s at stop go
+  on-operation-type-short e q f g r = W.on-short 4 s at z stop _ x e p q f g r ∙ sym (operation-type-parse s at stop go)
 
-module _ {R : Type 0} (s : List ℕ) (at : ℕ) (z : R) (stop : Refusal → R) (go : Operation → ℕ → R) (x : Part) where
-  pub on-operation : (n : ℕ) → x ≡ ended operation s at → x ≡ P.Next n → ((v : Operation) → z ≡ go v n) → z ≡ operation .run s at stop go
+module _ {R : Type 0} (s : List ℕ) (at : ℕ) (z : R) (stop : Refusal → R) (go : Operation → ℕ → R) (x : End) where
+  pub on-operation : (n : ℕ) → x ≡ ended operation s at → x ≡ P.At n → ((v : Operation) → z ≡ go v n) → z ≡ operation .parse s at stop go
   on-operation = W.ends operation R s at z stop go x
 
-  pub on-operation-refused : (e : Refusal) → x ≡ ended operation s at → x ≡ P.Refused e → z ≡ stop e → z ≡ operation .run s at stop go
+  pub on-operation-refused : (e : Refusal) → x ≡ ended operation s at → x ≡ P.Refused e → z ≡ stop e → z ≡ operation .parse s at stop go
   on-operation-refused = W.stops operation R s at z stop go x
 
 -- ---- initial states
 
 -- which outputs an FxID allows, where the code has compared it with 0
-module _ (fx c : ℕ) (s : List ℕ) (at : ℕ) (z : Part) where
+module _ (fx c : ℕ) (s : List ℕ) (at : ℕ) (z : End) where
   pub on-secp : fx ≡ 0 → z ≡ ended (nondecreasing (output (fxOutputs secpFx)) c) s at → z ≡ ended (nondecreasing (output (fxOutputs (fxOf fx))) c) s at
   on-secp h e = rw h e
 
   pub on-nft : (fx ≡ 0 → ⊥) → z ≡ ended (nondecreasing (output (fxOutputs nftFx)) c) s at → z ≡ ended (nondecreasing (output (fxOutputs (fxOf fx))) c) s at
   on-nft h e = rw (ne-eqb fx 0 h) e
 
-pub fxOf-write : (n : ℕ) → n ≤ 1 → fxId .write (fxOf n) ≡ number 4 .write n
+pub fxOf-write : (n : ℕ) → n ≤ 1 → fxId .write (fxOf n) ≡ integer 4 .write n
 unfolding fxId
 fxOf-write zero h = refl
 fxOf-write (suc zero) h = refl
 fxOf-write (suc (suc n)) h = absurd (omega arith)
 
-fx-run : {R : Type 0} (s : List ℕ) (at : ℕ) (stop : Refusal → R) (go : Fx → ℕ → R)
-    → fxId .run s at stop go ≡ number 4 .run s at stop (λ n m. pick (leb n 1) (go (fxOf n) m) (stop (by unknownType at)))
+fx-parse : {R : Type 0} (s : List ℕ) (at : ℕ) (stop : Refusal → R) (go : Fx → ℕ → R)
+    → fxId .parse s at stop go ≡ integer 4 .parse s at stop (λ n m. pick (leb n 1) (go (fxOf n) m) (stop (by unknownType at)))
 unfolding fxId
-fx-run s at stop go = run-alike (number 4) s at stop _ _ each
+fx-parse s at stop go = parse-alike (integer 4) s at stop _ _ each
   where
-    each : (n m : ℕ) → pick (eqb n 0) (go secpFx m) (pick (eqb n 1) (go nftFx m) (stop (by unknownType at))) ≡ pick (leb n 1) (go (fxOf n) m) (stop (by unknownType at))
+    each : (n m : ℕ) → pick (eqb n 0) (go secpFx m) (pick (eqb n 1) (go nftFx m) (stop (by unknownType at))) ≡ pick (leb n 1) (go (fxOf n) m)
+        (stop (by unknownType at))
     each zero m = refl
     each (suc zero) m = refl
     each (suc (suc n)) m = rw (ne-eqb (suc (suc n)) 0 (λ e. omega arith), ne-eqb (suc (suc n)) 1 (λ e. omega arith), lt-leb (suc (suc n)) 1 (omega arith))
 
-module _ {R : Type 0} (s : List ℕ) (at : ℕ) (z : R) (stop : Refusal → R) (go : Fx → ℕ → R) (x : Number) (p : x ≡ valued (number 4) s at) where
-  pub on-fx : (v n : ℕ) → x ≡ N.Value v n → v ≤ 1 → z ≡ go (fxOf v) n → z ≡ fxId .run s at stop go
-  on-fx v n q h e = W.on-value 4 s at z stop _ x v n p q (rw (le-leb v 1 h) e) ∙ sym (fx-run s at stop go)
+module _ {R : Type 0} (s : List ℕ) (at : ℕ) (z : R) (stop : Refusal → R) (go : Fx → ℕ → R) (x : Integer) (p : x ≡ valued (integer 4) s at) where
+  pub on-fx : (v n : ℕ) → x ≡ N.Value v n → v ≤ 1 → z ≡ go (fxOf v) n → z ≡ fxId .parse s at stop go
+  on-fx v n q h e = W.on-value 4 s at z stop _ x v n p q (rw (le-leb v 1 h) e) ∙ sym (fx-parse s at stop go)
 
-  pub on-fx-unknown : (v n : ℕ) → x ≡ N.Value v n → 1 < v → z ≡ stop (by unknownType at) → z ≡ fxId .run s at stop go
-  on-fx-unknown v n q h e = W.on-value 4 s at z stop _ x v n p q (rw (lt-leb v 1 h) e) ∙ sym (fx-run s at stop go)
+  pub on-fx-unknown : (v n : ℕ) → x ≡ N.Value v n → 1 < v → z ≡ stop (by unknownType at) → z ≡ fxId .parse s at stop go
+  on-fx-unknown v n q h e = W.on-value 4 s at z stop _ x v n p q (rw (lt-leb v 1 h) e) ∙ sym (fx-parse s at stop go)
 
-  pub on-fx-short : (e : Refusal) → x ≡ N.Refused e → (f : Refusal) → f ≡ cutAt 4 s at → z ≡ stop f → z ≡ fxId .run s at stop go
-  on-fx-short e q f g r = W.on-short 4 s at z stop _ x e p q f g r ∙ sym (fx-run s at stop go)
+  pub on-fx-short : (e : Refusal) → x ≡ N.Refused e → (f : Refusal) → f ≡ cutAt 4 s at → z ≡ stop f → z ≡ fxId .parse s at stop go
+  on-fx-short e q f g r = W.on-short 4 s at z stop _ x e p q f g r ∙ sym (fx-parse s at stop go)
 
 module _ (fx : ℕ) (small : fx ≤ 1) where
   module _ {R : Type 0} (any : Bool) (last : ℕ) (t : Bool) (z X Y : R) (e : t ≡ pick any (ltb last fx) true) (hl : last ≤ 1) where
-    fx-test : below (pick any (number 4 .write last) []) (fxId .write (fxOf fx)) ≡ t
-    unfolding number
-    fx-test = rw (fxOf-write fx small) (number-test any last fx t t t t e (omega arith) (omega arith))
+    fx-test : below (pick any (integer 4 .write last) []) (fxId .write (fxOf fx)) ≡ t
+    unfolding integer
+    fx-test = rw (fxOf-write fx small) (integer-test any last fx t t t t e (omega arith) (omega arith))
 
-    pub if-fx-follows : t ≡ true → z ≡ X → z ≡ pick (below (pick any (number 4 .write last) []) (fxId .write (fxOf fx))) X Y
+    pub if-fx-follows : t ≡ true → z ≡ X → z ≡ pick (below (pick any (integer 4 .write last) []) (fxId .write (fxOf fx))) X Y
     if-fx-follows i j = rw (fx-test, i) j
 
-    pub if-fx-not : t ≡ false → z ≡ Y → z ≡ pick (below (pick any (number 4 .write last) []) (fxId .write (fxOf fx))) X Y
+    pub if-fx-not : t ≡ false → z ≡ Y → z ≡ pick (below (pick any (integer 4 .write last) []) (fxId .write (fxOf fx))) X Y
     if-fx-not i j = rw (fx-test, i) j
 
   pub fx-again : {A R : Type 0} (E : List ℕ → Format A) (step : List ℕ → A → List ℕ) (s : List ℕ) (m k : ℕ) (stop : Refusal → R) (go : List A → ℕ → R)
-      → items E step (number 4 .write fx) m .run s k stop go ≡ items E step (fxId .write (fxOf fx)) m .run s k stop go
+      → items E step (integer 4 .write fx) m .parse s k stop go ≡ items E step (fxId .write (fxOf fx)) m .parse s k stop go
   fx-again E step s m k stop go = rw (fxOf-write fx small)
 
 abbrev pub stateKey : InitialState → List ℕ
@@ -427,20 +444,20 @@ stateKey v = fxId .write (v .fx)
 
 state-front : (b : List ℕ) (v : InitialState) → initialStateAfter b .Good v → take 4 (initialStateAfter b .write v) ≡ stateKey v
 unfolding initialStateAfter guard fxId
-state-front b v g = take-at (stateKey v) (stateOutputs (v .fx) .write (v .outputs)) 4 (length-number 4 (fxCode (v .fx)))
+state-front b v g = take-at (stateKey v) (stateOutputs (v .fx) .write (v .outputs)) 4 (length-integer 4 (fxCode (v .fx)))
 
 -- the initial states that are left, by the FxID of the one before
 abbrev pub statesAfter : List ℕ → ℕ → Format (List InitialState)
 statesAfter before n = items initialStateAfter (λ b v. stateKey v) before n
 
 pub states-are : (s : List ℕ) → Slice s → (n at : ℕ) → ended (statesAfter [] n) s at ≡ ended (series initialState n) s at
-states-are s b n at = items-viewed initialStateAfter 4 stateKey state-front s (slice-bytes s b) n [] at P.Refused (λ l k. P.Next k)
+states-are s b n at = items-viewed initialStateAfter 4 stateKey state-front s (slice-bytes s b) n [] at P.Refused (λ l k. P.At k)
 
-module _ {R : Type 0} (k : Fx) (s : List ℕ) (at : ℕ) (z : R) (stop : Refusal → R) (go : List Output → ℕ → R) (x : Part) where
-  pub on-state-outputs : (n : ℕ) → x ≡ ended (stateOutputs k) s at → x ≡ P.Next n → ((v : List Output) → z ≡ go v n) → z ≡ stateOutputs k .run s at stop go
+module _ {R : Type 0} (k : Fx) (s : List ℕ) (at : ℕ) (z : R) (stop : Refusal → R) (go : List Output → ℕ → R) (x : End) where
+  pub on-state-outputs : (n : ℕ) → x ≡ ended (stateOutputs k) s at → x ≡ P.At n → ((v : List Output) → z ≡ go v n) → z ≡ stateOutputs k .parse s at stop go
   on-state-outputs n p q e = W.ends (stateOutputs k) R s at z stop go x n p q e
 
-  pub on-state-outputs-refused : (e : Refusal) → x ≡ ended (stateOutputs k) s at → x ≡ P.Refused e → z ≡ stop e → z ≡ stateOutputs k .run s at stop go
+  pub on-state-outputs-refused : (e : Refusal) → x ≡ ended (stateOutputs k) s at → x ≡ P.Refused e → z ≡ stop e → z ≡ stateOutputs k .parse s at stop go
   on-state-outputs-refused e p q r = W.stops (stateOutputs k) R s at z stop go x e p q r
 
 -- ---- rulesets: a chain up to a refusal or to an answer that is handed up

@@ -10,7 +10,7 @@ use Rattle.element.specs.Owners.{Owners}
 use Rattle.element.specs.Outputs.{OutputType, secpMint, secpTransfer, nftMint, nftTransfer, OutputBody, Output, TransferableOutput}
 use Rattle.element.specs.Inputs.{Input}
 use Rattle.element.specs.Operations.{OperationType, mintNft, transferNft, OperationOwners, Operation, Fx, secpFx, nftFx, InitialState}
-use Rattle.element.specs.Layout.{outputBytes, keyBytes}
+use Rattle.element.specs.PlainBytes.{outputBytes, keyBytes}
 
 -- ---- strings
 

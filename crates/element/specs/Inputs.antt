@@ -5,24 +5,24 @@ use mathlib.Core.List.{List}
 use lib.ListN.{length, take}
 use Rattle.wire.specs.Numbers.{unknownType}
 use Rattle.wire.specs.Format.{Format}
-use Rattle.wire.specs.Fields.{number, blob, constant}
+use Rattle.wire.specs.Fields.{integer, blob, constant}
 use Rattle.wire.specs.Sequence.{andThen, named}
-use Rattle.wire.specs.Series.{above, counted}
+use Rattle.wire.specs.Series.{above, countPrefixed}
 use Rattle.element.specs.Outputs.{amount}
 use Rattle.element.specs.declared.InputFields.{InputFields}
 
 -- a transaction id and an output index
 unfoldable pub key : Format (List ℕ × ℕ)
 unfolding andThen
-key = andThen (blob 32) (λ id. number 4)
+key = andThen (blob 32) (λ id. integer 4)
 
 abbrev pub keyWidth : ℕ
 keyWidth = 36
 
 -- address indices, each above the one before
 unfoldable pub indices : Format (List ℕ)
-unfolding counted
-indices = counted (number 4) (above (number 4))
+unfolding countPrefixed
+indices = countPrefixed (integer 4) (above (integer 4))
 
 pub record Input : Type 0 where
   pub txid : List ℕ

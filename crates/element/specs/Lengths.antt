@@ -2,10 +2,10 @@
 use Prim.Native.Nat.{ℕ, _*_}
 use mathlib.Core.List.{List}
 use Rattle.wire.specs.Format.{Format}
-use Rattle.wire.specs.Fields.{number, blob}
+use Rattle.wire.specs.Fields.{integer, blob}
 use Rattle.wire.specs.Sequence.{andThen}
 
 -- a count, and as many times `width` bytes
 unfoldable pub byCount : ℕ → Format (ℕ × List ℕ)
 unfolding andThen
-byCount width = andThen (number 4) (λ count. blob (width * count))
+byCount width = andThen (integer 4) (λ count. blob (width * count))

@@ -3,7 +3,7 @@ pub mod Owners
 pub mod Outputs
 pub mod Inputs
 pub mod Operations
-pub mod Layout
+pub mod PlainBytes
 pub mod Good
 pub mod Answer
 pub mod Lengths

@@ -7,9 +7,9 @@ use lib.Dec.{eqb}
 use Rattle.wire.specs.Bytes.{pick}
 use Rattle.wire.specs.Numbers.{unknownType}
 use Rattle.wire.specs.Format.{Format}
-use Rattle.wire.specs.Fields.{number, blob}
+use Rattle.wire.specs.Fields.{integer, blob}
 use Rattle.wire.specs.Sequence.{andThen, named, tag}
-use Rattle.wire.specs.Series.{above, notBelow, counted}
+use Rattle.wire.specs.Series.{above, notBelow, countPrefixed}
 use Rattle.string.specs.Strings.{payload}
 use Rattle.element.specs.Owners.{Owners, owners, ownersFields}
 use Rattle.element.specs.Outputs.{OutputType, secpMint, secpTransfer, nftMint, nftTransfer, Output, output}
@@ -41,19 +41,19 @@ OperationOwners mintNft = List Owners
 OperationOwners transferNft = Owners
 
 abbrev pub operationOwners : (k : OperationType) → Format (OperationOwners k)
-operationOwners mintNft = counted (number 4) (λ prev. owners)
+operationOwners mintNft = countPrefixed (integer 4) (λ prev. owners)
 operationOwners transferNft = owners
 
 -- address indices, group, payload
 unfoldable pub terms : Format (List ℕ × (ℕ × List ℕ))
 unfolding andThen indices
-terms = andThen indices (λ list. andThen (number 4) (λ group. payload))
+terms = andThen indices (λ list. andThen (integer 4) (λ group. payload))
 
 -- type, terms, and what the type has
 unfoldable pub action : Format ((k : OperationType) × ((List ℕ × (ℕ × List ℕ)) × OperationOwners k))
-unfolding andThen counted
+unfolding andThen countPrefixed
 action =
-    andThen (tag operationCode operationType operationType-code (number 4) (mintNft ∷ transferNft ∷ []) unknownType) (λ k.
+    andThen (tag operationCode operationType operationType-code (integer 4) (mintNft ∷ transferNft ∷ []) unknownType) (λ k.
     andThen terms (λ v. operationOwners k))
 
 pub record Operation : Type 0 where
@@ -64,11 +64,11 @@ pub record Operation : Type 0 where
 
 -- asset id, the outputs consumed as (id, index) pairs, and the action
 unfoldable pub operation : Format Operation
-unfolding named andThen counted
+unfolding named andThen countPrefixed
 operation =
     named
     (andThen (blob 32) (λ asset.
-    andThen (counted (number 4) (above key)) (λ pairs. action)))
+    andThen (countPrefixed (integer 4) (above key)) (λ pairs. action)))
     (λ (asset, (pairs, (k, (v, o)))). record { asset = asset; outputs = pairs; terms = v; owners = (k, o) })
     (λ v. (v .asset, (v .outputs, (v .owners .0, (v .terms, v .owners .1)))))
     (λ v h. refl)
@@ -96,7 +96,7 @@ fxOutputs nftFx = nftMint ∷ nftTransfer ∷ []
 
 unfoldable pub fxId : Format Fx
 unfolding tag
-fxId = tag fxCode fxOf fxOf-code (number 4) (secpFx ∷ nftFx ∷ []) unknownType
+fxId = tag fxCode fxOf fxOf-code (integer 4) (secpFx ∷ nftFx ∷ []) unknownType
 
 pub record InitialState : Type 0 where
   pub fx : Fx
@@ -104,8 +104,8 @@ pub record InitialState : Type 0 where
 
 -- the outputs that an FxID allows, none below the one before
 unfoldable pub stateOutputs : Fx → Format (List Output)
-unfolding counted
-stateOutputs k = counted (number 4) (notBelow (output (fxOutputs k)))
+unfolding countPrefixed
+stateOutputs k = countPrefixed (integer 4) (notBelow (output (fxOutputs k)))
 
 -- an initial state whose FxID is above the bytes `before`
 unfoldable pub initialStateAfter : List ℕ → Format InitialState

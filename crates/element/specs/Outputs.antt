@@ -7,7 +7,7 @@ use lib.Dec.{ltb, eqb}
 use Rattle.wire.specs.Bytes.{pick}
 use Rattle.wire.specs.Numbers.{zeroAmount, unknownType}
 use Rattle.wire.specs.Format.{Format}
-use Rattle.wire.specs.Fields.{number, blob}
+use Rattle.wire.specs.Fields.{integer, blob}
 use Rattle.wire.specs.Sequence.{andThen, guard, named, tag}
 use Rattle.string.specs.Strings.{payload}
 use Rattle.element.specs.Owners.{Owners, owners, ownersFields}
@@ -16,7 +16,7 @@ use Rattle.element.specs.declared.OutputFields.the-variants as O
 
 unfoldable pub amount : Format ℕ
 unfolding guard
-amount = guard (number 8) (λ n. ltb 0 n) zeroAmount
+amount = guard (integer 8) (λ n. ltb 0 n) zeroAmount
 
 pub data OutputType : Type 0 where
   secpMint secpTransfer nftMint nftTransfer : OutputType
@@ -50,8 +50,8 @@ transferBody = andThen amount (λ n. owners)
 abbrev pub outputBody : (k : OutputType) → Format (OutputBody k)
 outputBody secpMint = owners
 outputBody secpTransfer = transferBody
-outputBody nftMint = andThen (number 4) (λ group. owners)
-outputBody nftTransfer = andThen (number 4) (λ group. andThen payload (λ p. owners))
+outputBody nftMint = andThen (integer 4) (λ group. owners)
+outputBody nftTransfer = andThen (integer 4) (λ group. andThen payload (λ p. owners))
 
 abbrev pub Output : Type 0
 Output = (k : OutputType) × OutputBody k
@@ -59,7 +59,7 @@ Output = (k : OutputType) × OutputBody k
 -- an output of one of the types listed
 unfoldable pub output : List OutputType → Format Output
 unfolding andThen tag
-output types = andThen (tag outputCode outputType outputType-code (number 4) types unknownType) outputBody
+output types = andThen (tag outputCode outputType outputType-code (integer 4) types unknownType) outputBody
 
 -- ---- an output with its asset id; base and exported outputs take type 7 only
 

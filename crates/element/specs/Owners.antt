@@ -7,7 +7,7 @@ use lib.ListN.{length}
 use lib.Dec.{leb}
 use Rattle.wire.specs.Numbers.{badThreshold}
 use Rattle.wire.specs.Format.{Format}
-use Rattle.wire.specs.Fields.{number, blob}
+use Rattle.wire.specs.Fields.{integer, blob}
 use Rattle.wire.specs.Sequence.{andThen, guard, named}
 use Rattle.wire.specs.Series.{above, left, increasing, items-sized}
 use Rattle.element.specs.declared.OwnersFields.{OwnersFields}
@@ -29,12 +29,13 @@ unfoldable pub owners : Format Owners
 unfolding named andThen guard
 owners =
     named
-    (andThen (number 8) (λ locktime.
-    andThen (guard (andThen (number 4) (λ threshold. number 4)) (λ v. thresholdFits (v .0) (v .1)) badThreshold) (λ v.
+    (andThen (integer 8) (λ locktime.
+    andThen (guard (andThen (integer 4) (λ threshold. integer 4)) (λ v. thresholdFits (v .0) (v .1)) badThreshold) (λ v.
     increasing (blob addressWidth) (v .1))))
     (λ (locktime, ((threshold, count), list)). record { locktime = locktime; threshold = threshold; addresses = list })
     (λ o. (o .locktime, ((o .threshold, length (o .addresses)), o .addresses)))
-    (λ v h. ap (λ (n : ℕ). (v .0, ((v .1 .0 .0, n), v .1 .1))) (items-sized (above (blob addressWidth)) (left (above (blob addressWidth))) [] (v .1 .0 .1) (v .1 .1) (h .1 .1)))
+    (λ v h. ap (λ (n : ℕ). (v .0, ((v .1 .0 .0, n), v .1 .1)))
+    (items-sized (above (blob addressWidth)) (left (above (blob addressWidth))) [] (v .1 .0 .1) (v .1 .1) (h .1 .1)))
     (λ o. refl)
 
 -- the numbers of owners that end at `end`: their addresses are the last of their bytes

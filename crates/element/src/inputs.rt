@@ -1,21 +1,21 @@
 // Inputs: they strictly increase by transaction id and output index.
 ghost use mathlib.Core.Path.{_≡_};
-ghost use Rattle.wire.specs.Fields.{number};
+ghost use Rattle.wire.specs.Fields.{integer};
 ghost use Rattle.wire.specs.Series.{increasing, series};
 ghost use Rattle.wire.specs.Answer.{ended};
 ghost use Rattle.element.specs.Inputs.{input, spend};
-ghost use Rattle.element.specs.Answer.{numberFollows, keyFollows};
+ghost use Rattle.element.specs.Answer.{integerFollows, keyFollows};
 use crate::outputs;
-use wire::Number;
-use wire::Part;
+use wire::End;
+use wire::Integer;
 use wire::Rule;
 
 // May this number stand behind the one before, if there is any?
-pub(crate) fn number_follows(any: bool, prev: u64, number: u64) -> bool
-    ensures { λ r. ⌜ r ≡ numberFollows any prev number ⌝ }
+pub(crate) fn integer_follows(any: bool, prev: u64, integer: u64) -> bool
+    ensures { λ r. ⌜ r ≡ integerFollows any prev integer ⌝ }
 {
     if any {
-        return prev < number;
+        return prev < integer;
     }
     true
 }
@@ -31,47 +31,47 @@ pub(crate) fn key_follows(any: bool, prev: [u8; 32], last: u64, id: [u8; 32], in
 }
 
 // So many address indices from start, each above the one before.
-pub(crate) fn indices_from(s: &[u8], start: usize, count: u64) -> Part
-    ensures { λ r. ⌜ r ≡ ended (increasing (number 4) count) (now (s .entry)) start ⌝ }
+pub(crate) fn indices_from(s: &[u8], start: usize, count: u64) -> End
+    ensures { λ r. ⌜ r ≡ ended (increasing (integer 4) count) (now (s .entry)) start ⌝ }
 {
     let mut left = count;
     let mut any = false;
     let mut prev: u64 = 0;
     let mut at = start;
     while 0 < left {
-        let Number::Value(index, next) = wire::u32_at(s, at) else {
-            return Part::Refused(wire::cut(s, at, 4));
+        let Integer::Value(index, next) = wire::u32_at(s, at) else {
+            return End::Refused(wire::cut(s, at, 4));
         };
-        if number_follows(any, prev, index) {
+        if integer_follows(any, prev, index) {
             any = true;
             prev = index;
             at = next;
             left -= 1;
         } else {
-            return Part::Refused(wire::refuse(Rule::OutOfOrder, at));
+            return End::Refused(wire::refuse(Rule::OutOfOrder, at));
         }
     }
-    Part::Next(at)
+    End::At(at)
 }
 
 // What follows an input's key: asset id, type 5, amount, address indices.
-fn spend_at(s: &[u8], at: usize) -> Part
+fn spend_at(s: &[u8], at: usize) -> End
     ensures { λ r. ⌜ r ≡ ended spend (now (s .entry)) at ⌝ }
 {
-    let Part::Next(k) = wire::part_at(s, at, 32) else {
-        return Part::Refused(wire::cut(s, at, 32));
+    let End::At(k) = wire::field_at(s, at, 32) else {
+        return End::Refused(wire::cut(s, at, 32));
     };
-    let Number::Value(kind, a) = wire::u32_at(s, k) else {
-        return Part::Refused(wire::cut(s, k, 4));
+    let Integer::Value(type_id, a) = wire::u32_at(s, k) else {
+        return End::Refused(wire::cut(s, k, 4));
     };
-    if kind != 5 {
-        return Part::Refused(wire::refuse(Rule::UnknownType, k));
+    if type_id != 5 {
+        return End::Refused(wire::refuse(Rule::UnknownType, k));
     }
     match outputs::amount_at(s, a) {
-        Part::Refused(refusal) => Part::Refused(refusal),
-        Part::Next(n) => {
-            let Number::Value(count, first) = wire::u32_at(s, n) else {
-                return Part::Refused(wire::cut(s, n, 4));
+        End::Refused(refusal) => End::Refused(refusal),
+        End::At(n) => {
+            let Integer::Value(count, first) = wire::u32_at(s, n) else {
+                return End::Refused(wire::cut(s, n, 4));
             };
             indices_from(s, first, count)
         }
@@ -79,7 +79,7 @@ fn spend_at(s: &[u8], at: usize) -> Part
 }
 
 // So many inputs from start.
-pub fn inputs_from(s: &[u8], start: usize, count: u64) -> Part
+pub fn inputs_from(s: &[u8], start: usize, count: u64) -> End
     ensures { λ r. ⌜ r ≡ ended (series input count) (now (s .entry)) start ⌝ }
 {
     let mut left = count;
@@ -88,19 +88,19 @@ pub fn inputs_from(s: &[u8], start: usize, count: u64) -> Part
     let mut last: u64 = 0;
     let mut at = start;
     while 0 < left {
-        let Part::Next(i) = wire::part_at(s, at, 32) else {
-            return Part::Refused(wire::cut(s, at, 32));
+        let End::At(i) = wire::field_at(s, at, 32) else {
+            return End::Refused(wire::cut(s, at, 32));
         };
         let id = wire::id_at(s, at);
-        let Number::Value(index, e) = wire::u32_at(s, i) else {
-            return Part::Refused(wire::cut(s, i, 4));
+        let Integer::Value(index, e) = wire::u32_at(s, i) else {
+            return End::Refused(wire::cut(s, i, 4));
         };
         if key_follows(any, prev, last, id, index) {
             match spend_at(s, e) {
-                Part::Refused(refusal) => {
-                    return Part::Refused(refusal);
+                End::Refused(refusal) => {
+                    return End::Refused(refusal);
                 }
-                Part::Next(next) => {
+                End::At(next) => {
                     any = true;
                     prev = id;
                     last = index;
@@ -109,8 +109,8 @@ pub fn inputs_from(s: &[u8], start: usize, count: u64) -> Part
                 }
             }
         } else {
-            return Part::Refused(wire::refuse(Rule::OutOfOrder, at));
+            return End::Refused(wire::refuse(Rule::OutOfOrder, at));
         }
     }
-    Part::Next(at)
+    End::At(at)
 }

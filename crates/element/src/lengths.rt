@@ -25,149 +25,149 @@ use crate::MINT_OPERATION;
 use crate::NFT_MINT;
 use crate::SECP_MINT;
 use crate::SECP_TRANSFER;
-use wire::Number;
-use wire::Part;
+use wire::End;
+use wire::Integer;
 
 // A count and as many elements of one width: tells the count. The width is small, so that the product is a usize.
-fn list_past(s: &[u8], at: usize, width: usize) -> Number
+fn list_past(s: &[u8], at: usize, width: usize) -> Integer
     requires { ⌜ width ≤ 64 ⌝ }
     ensures { λ r. ⌜ Tells (byCount width) (λ v. v .0) (now (s .entry)) at r ⌝ }
 {
-    let Number::Value(count, first) = wire::u32_at(s, at) else {
-        return Number::Refused(wire::cut(s, at, 4));
+    let Integer::Value(count, first) = wire::u32_at(s, at) else {
+        return Integer::Refused(wire::cut(s, at, 4));
     };
-    match wire::part_at(s, first, width * count as usize) {
-        Part::Refused(refusal) => Number::Refused(refusal),
-        Part::Next(next) => Number::Value(count, next),
+    match wire::field_at(s, first, width * count as usize) {
+        End::Refused(refusal) => Integer::Refused(refusal),
+        End::At(next) => Integer::Value(count, next),
     }
 }
 
-fn owners_past(s: &[u8], at: usize) -> Part
+fn owners_past(s: &[u8], at: usize) -> End
     ensures { λ r. ⌜ Passes owners (now (s .entry)) at r ⌝ }
 {
-    let Part::Next(addresses) = wire::part_at(s, at, BEFORE_ADDRESSES) else {
-        return Part::Refused(wire::cut(s, at, BEFORE_ADDRESSES));
+    let End::At(addresses) = wire::field_at(s, at, BEFORE_ADDRESSES) else {
+        return End::Refused(wire::cut(s, at, BEFORE_ADDRESSES));
     };
     match list_past(s, addresses, ADDRESS_WIDTH) {
-        Number::Refused(refusal) => Part::Refused(refusal),
-        Number::Value(_, next) => Part::Next(next),
+        Integer::Refused(refusal) => End::Refused(refusal),
+        Integer::Value(_, next) => End::At(next),
     }
 }
 
 // Owners behind a field of some width.
-fn owners_behind(s: &[u8], at: usize, width: usize) -> Part
+fn owners_behind(s: &[u8], at: usize, width: usize) -> End
     ensures { λ r. ⌜ Passes (andThen (blob width) (λ field. owners)) (now (s .entry)) at r ⌝ }
 {
-    let Part::Next(next) = wire::part_at(s, at, width) else {
-        return Part::Refused(wire::cut(s, at, width));
+    let End::At(next) = wire::field_at(s, at, width) else {
+        return End::Refused(wire::cut(s, at, width));
     };
     owners_past(s, next)
 }
 
 // `count` owners from start, in any order.
-fn owners_list_past(s: &[u8], start: usize, count: u64) -> Part
+fn owners_list_past(s: &[u8], start: usize, count: u64) -> End
     ensures { λ r. ⌜ Passes (unordered owners count) (now (s .entry)) start r ⌝ }
 {
     let mut left = count;
     let mut at = start;
     while 0 < left {
         match owners_past(s, at) {
-            Part::Refused(refusal) => {
-                return Part::Refused(refusal);
+            End::Refused(refusal) => {
+                return End::Refused(refusal);
             }
-            Part::Next(next) => {
+            End::At(next) => {
                 at = next;
                 left -= 1;
             }
         }
     }
-    Part::Next(at)
+    End::At(at)
 }
 
 // Type 11 behind its type: group, payload, owners.
-fn payload_past(s: &[u8], at: usize) -> Part
+fn payload_past(s: &[u8], at: usize) -> End
     ensures { λ r. ⌜ Passes (andThen (blob 4) (λ group. andThen payload (λ p. owners))) (now (s .entry)) at r ⌝ }
 {
-    let Part::Next(payload) = wire::part_at(s, at, GROUP_WIDTH) else {
-        return Part::Refused(wire::cut(s, at, GROUP_WIDTH));
+    let End::At(payload) = wire::field_at(s, at, GROUP_WIDTH) else {
+        return End::Refused(wire::cut(s, at, GROUP_WIDTH));
     };
     match string::string_past(s, payload) {
-        Part::Refused(refusal) => Part::Refused(refusal),
-        Part::Next(next) => owners_past(s, next),
+        End::Refused(refusal) => End::Refused(refusal),
+        End::At(next) => owners_past(s, next),
     }
 }
 
 // An output of any type.
-pub fn output_past(s: &[u8], at: usize) -> Part
+pub fn output_past(s: &[u8], at: usize) -> End
     ensures { λ r. ⌜ ((fx : Fx) → Passes (output (fxOutputs fx)) (now (s .entry)) at r) ⌝ }
 {
-    let Number::Value(kind, body) = wire::u32_at(s, at) else {
-        return Part::Refused(wire::cut(s, at, 4));
+    let Integer::Value(type_id, body) = wire::u32_at(s, at) else {
+        return End::Refused(wire::cut(s, at, 4));
     };
-    if kind == SECP_MINT {
+    if type_id == SECP_MINT {
         return owners_past(s, body);
     }
-    if kind == SECP_TRANSFER {
+    if type_id == SECP_TRANSFER {
         return owners_behind(s, body, AMOUNT_WIDTH);
     }
-    if kind == NFT_MINT {
+    if type_id == NFT_MINT {
         return owners_behind(s, body, GROUP_WIDTH);
     }
     payload_past(s, body)
 }
 
 // An output behind its asset id.
-pub fn transferable_past(s: &[u8], at: usize) -> Part
+pub fn transferable_past(s: &[u8], at: usize) -> End
     ensures { λ r. ⌜ ((prev : List ℕ) → Passes (notBelow transferableOutput prev) (now (s .entry)) at r) ⌝ }
 {
-    let Part::Next(next) = wire::part_at(s, at, ID_WIDTH) else {
-        return Part::Refused(wire::cut(s, at, ID_WIDTH));
+    let End::At(next) = wire::field_at(s, at, ID_WIDTH) else {
+        return End::Refused(wire::cut(s, at, ID_WIDTH));
     };
     output_past(s, next)
 }
 
 // An input: tells how many address indices it has. One test finds all that stands before the indices, with their count.
-pub fn input_past(s: &[u8], at: usize) -> Number
+pub fn input_past(s: &[u8], at: usize) -> Integer
     ensures { λ r. ⌜ ((prev : List ℕ) → Tells (input prev) (λ v. length (v .indices)) (now (s .entry)) at r) ⌝ }
 {
-    let Part::Next(first) = wire::part_at(s, at, BEFORE_INDICES + 4) else {
-        return Number::Refused(wire::cut(s, at, BEFORE_INDICES + 4));
+    let End::At(first) = wire::field_at(s, at, BEFORE_INDICES + 4) else {
+        return Integer::Refused(wire::cut(s, at, BEFORE_INDICES + 4));
     };
     let count_at = at + BEFORE_INDICES;
-    let Number::Value(count, _) = wire::u32_at(s, count_at) else {
-        return Number::Refused(wire::cut(s, count_at, 4));
+    let Integer::Value(count, _) = wire::u32_at(s, count_at) else {
+        return Integer::Refused(wire::cut(s, count_at, 4));
     };
-    match wire::part_at(s, first, INDEX_WIDTH * count as usize) {
-        Part::Refused(refusal) => Number::Refused(refusal),
-        Part::Next(next) => Number::Value(count, next),
+    match wire::field_at(s, first, INDEX_WIDTH * count as usize) {
+        End::Refused(refusal) => Integer::Refused(refusal),
+        End::At(next) => Integer::Value(count, next),
     }
 }
 
 // Address indices, group, payload: tells how many address indices there are.
-fn terms_past(s: &[u8], at: usize) -> Number
+fn terms_past(s: &[u8], at: usize) -> Integer
     ensures { λ r. ⌜ Tells terms (λ v. length (v .0)) (now (s .entry)) at r ⌝ }
 {
     match list_past(s, at, INDEX_WIDTH) {
-        Number::Refused(refusal) => Number::Refused(refusal),
-        Number::Value(count, group) => {
-            let Part::Next(payload) = wire::part_at(s, group, GROUP_WIDTH) else {
-                return Number::Refused(wire::cut(s, group, GROUP_WIDTH));
+        Integer::Refused(refusal) => Integer::Refused(refusal),
+        Integer::Value(count, group) => {
+            let End::At(payload) = wire::field_at(s, group, GROUP_WIDTH) else {
+                return Integer::Refused(wire::cut(s, group, GROUP_WIDTH));
             };
             match string::string_past(s, payload) {
-                Part::Refused(refusal) => Number::Refused(refusal),
-                Part::Next(next) => Number::Value(count, next),
+                End::Refused(refusal) => Integer::Refused(refusal),
+                End::At(next) => Integer::Value(count, next),
             }
         }
     }
 }
 
 // Behind the terms, by the operation's type: a mint has a list of owners, a transfer has owners.
-fn recipients_past(s: &[u8], at: usize, kind: u64) -> Part
-    ensures { λ r. ⌜ Passes (operationOwners (operationType kind)) (now (s .entry)) at r ⌝ }
+fn recipients_past(s: &[u8], at: usize, type_id: u64) -> End
+    ensures { λ r. ⌜ Passes (operationOwners (operationType «type_id»)) (now (s .entry)) at r ⌝ }
 {
-    if kind == MINT_OPERATION {
-        let Number::Value(count, first) = wire::u32_at(s, at) else {
-            return Part::Refused(wire::cut(s, at, 4));
+    if type_id == MINT_OPERATION {
+        let Integer::Value(count, first) = wire::u32_at(s, at) else {
+            return End::Refused(wire::cut(s, at, 4));
         };
         return owners_list_past(s, first, count);
     }
@@ -175,63 +175,63 @@ fn recipients_past(s: &[u8], at: usize, kind: u64) -> Part
 }
 
 // What follows an operation's pairs: type, terms, recipients.
-fn action_past(s: &[u8], at: usize) -> Number
+fn action_past(s: &[u8], at: usize) -> Integer
     ensures { λ r. ⌜ Tells action (λ v. length (v .1 .0 .0)) (now (s .entry)) at r ⌝ }
 {
-    let Number::Value(kind, terms) = wire::u32_at(s, at) else {
-        return Number::Refused(wire::cut(s, at, 4));
+    let Integer::Value(type_id, terms) = wire::u32_at(s, at) else {
+        return Integer::Refused(wire::cut(s, at, 4));
     };
     match terms_past(s, terms) {
-        Number::Refused(refusal) => Number::Refused(refusal),
-        Number::Value(asked, recipients) => match recipients_past(s, recipients, kind) {
-            Part::Refused(refusal) => Number::Refused(refusal),
-            Part::Next(next) => Number::Value(asked, next),
+        Integer::Refused(refusal) => Integer::Refused(refusal),
+        Integer::Value(asked, recipients) => match recipients_past(s, recipients, type_id) {
+            End::Refused(refusal) => Integer::Refused(refusal),
+            End::At(next) => Integer::Value(asked, next),
         },
     }
 }
 
 // An operation: tells how many address indices it has.
-pub fn operation_past(s: &[u8], at: usize) -> Number
+pub fn operation_past(s: &[u8], at: usize) -> Integer
     ensures { λ r. ⌜ Tells operation (λ v. length (v .terms .0)) (now (s .entry)) at r ⌝ }
 {
-    let Part::Next(pairs) = wire::part_at(s, at, ID_WIDTH) else {
-        return Number::Refused(wire::cut(s, at, ID_WIDTH));
+    let End::At(pairs) = wire::field_at(s, at, ID_WIDTH) else {
+        return Integer::Refused(wire::cut(s, at, ID_WIDTH));
     };
     match list_past(s, pairs, KEY_WIDTH) {
-        Number::Refused(refusal) => Number::Refused(refusal),
-        Number::Value(_, action) => action_past(s, action),
+        Integer::Refused(refusal) => Integer::Refused(refusal),
+        Integer::Value(_, action) => action_past(s, action),
     }
 }
 
 // `count` outputs of an initial state from start.
-fn outputs_past(s: &[u8], start: usize, count: u64) -> Part
+fn outputs_past(s: &[u8], start: usize, count: u64) -> End
     ensures { λ r. ⌜ ((fx : Fx) → Passes (nondecreasing (output (fxOutputs fx)) count) (now (s .entry)) start r) ⌝ }
 {
     let mut left = count;
     let mut at = start;
     while 0 < left {
         match output_past(s, at) {
-            Part::Refused(refusal) => {
-                return Part::Refused(refusal);
+            End::Refused(refusal) => {
+                return End::Refused(refusal);
             }
-            Part::Next(next) => {
+            End::At(next) => {
                 at = next;
                 left -= 1;
             }
         }
     }
-    Part::Next(at)
+    End::At(at)
 }
 
 // An initial state: FxID, and a list of outputs.
-pub fn state_past(s: &[u8], at: usize) -> Part
+pub fn state_past(s: &[u8], at: usize) -> End
     ensures { λ r. ⌜ ((prev : List ℕ) → Passes (initialState prev) (now (s .entry)) at r) ⌝ }
 {
-    let Part::Next(outputs) = wire::part_at(s, at, FX_WIDTH) else {
-        return Part::Refused(wire::cut(s, at, FX_WIDTH));
+    let End::At(outputs) = wire::field_at(s, at, FX_WIDTH) else {
+        return End::Refused(wire::cut(s, at, FX_WIDTH));
     };
-    let Number::Value(count, first) = wire::u32_at(s, outputs) else {
-        return Part::Refused(wire::cut(s, outputs, 4));
+    let Integer::Value(count, first) = wire::u32_at(s, outputs) else {
+        return End::Refused(wire::cut(s, outputs, 4));
     };
     outputs_past(s, first, count)
 }

@@ -4,38 +4,38 @@ ghost use Rattle.wire.specs.Fields.{blob};
 ghost use Rattle.wire.specs.Series.{increasing, unordered};
 ghost use Rattle.wire.specs.Answer.{ended};
 ghost use Rattle.element.specs.Owners.{owners, thresholdFits};
-use wire::Number;
-use wire::Part;
+use wire::End;
+use wire::Integer;
 use wire::Rule;
 
 // So many addresses from start, each strictly above the one before. That the one before is there is asked again in each turn: the compiler then
 // knows it of both addresses, and hands them over with no further test.
-pub fn addresses_from(s: &[u8], start: usize, count: u64) -> Part
+pub fn addresses_from(s: &[u8], start: usize, count: u64) -> End
     ensures { λ r. ⌜ r ≡ ended (increasing (blob 20) count) (now (s .entry)) start ⌝ }
 {
     if count == 0 {
-        return Part::Next(start);
+        return End::At(start);
     }
-    let Part::Next(_) = wire::part_at(s, start, 20) else {
-        return Part::Refused(wire::cut(s, start, 20));
+    let End::At(_) = wire::field_at(s, start, 20) else {
+        return End::Refused(wire::cut(s, start, 20));
     };
     let mut left = count - 1;
     let mut prev = start;
     while 0 < left {
-        let Part::Next(at) = wire::part_at(s, prev, 20) else {
-            return Part::Refused(wire::cut(s, prev, 20));
+        let End::At(at) = wire::field_at(s, prev, 20) else {
+            return End::Refused(wire::cut(s, prev, 20));
         };
-        let Part::Next(_) = wire::part_at(s, at, 20) else {
-            return Part::Refused(wire::cut(s, at, 20));
+        let End::At(_) = wire::field_at(s, at, 20) else {
+            return End::Refused(wire::cut(s, at, 20));
         };
         if wire::address_below(wire::address_at(s, prev), wire::address_at(s, at)) {
             prev = at;
             left -= 1;
         } else {
-            return Part::Refused(wire::refuse(Rule::OutOfOrder, at));
+            return End::Refused(wire::refuse(Rule::OutOfOrder, at));
         }
     }
-    wire::part_at(s, prev, 20)
+    wire::field_at(s, prev, 20)
 }
 
 // Is this threshold allowed for so many addresses? The reader and the writer both ask here.
@@ -46,40 +46,40 @@ pub fn threshold_fits(threshold: u64, addresses: u64) -> bool
 }
 
 // Where the owners at this place end.
-pub(crate) fn owners_at(s: &[u8], at: usize) -> Part
+pub(crate) fn owners_at(s: &[u8], at: usize) -> End
     ensures { λ r. ⌜ r ≡ ended owners (now (s .entry)) at ⌝ }
 {
-    let Number::Value(_, t) = wire::u64_at(s, at) else {
-        return Part::Refused(wire::cut(s, at, 8));
+    let Integer::Value(_, t) = wire::u64_at(s, at) else {
+        return End::Refused(wire::cut(s, at, 8));
     };
-    let Number::Value(threshold, n) = wire::u32_at(s, t) else {
-        return Part::Refused(wire::cut(s, t, 4));
+    let Integer::Value(threshold, n) = wire::u32_at(s, t) else {
+        return End::Refused(wire::cut(s, t, 4));
     };
-    let Number::Value(count, first) = wire::u32_at(s, n) else {
-        return Part::Refused(wire::cut(s, n, 4));
+    let Integer::Value(count, first) = wire::u32_at(s, n) else {
+        return End::Refused(wire::cut(s, n, 4));
     };
     if !threshold_fits(threshold, count) {
-        return Part::Refused(wire::refuse(Rule::BadThreshold, t));
+        return End::Refused(wire::refuse(Rule::BadThreshold, t));
     }
     addresses_from(s, first, count)
 }
 
 // So many owners from start, of no order.
-pub(crate) fn owners_list_at(s: &[u8], start: usize, count: u64) -> Part
+pub(crate) fn owners_list_at(s: &[u8], start: usize, count: u64) -> End
     ensures { λ r. ⌜ r ≡ ended (unordered owners count) (now (s .entry)) start ⌝ }
 {
     let mut left = count;
     let mut at = start;
     while 0 < left {
         match owners_at(s, at) {
-            Part::Refused(refusal) => {
-                return Part::Refused(refusal);
+            End::Refused(refusal) => {
+                return End::Refused(refusal);
             }
-            Part::Next(next) => {
+            End::At(next) => {
                 at = next;
                 left -= 1;
             }
         }
     }
-    Part::Next(at)
+    End::At(at)
 }

@@ -1,6 +1,6 @@
 // Prints the entries of the transaction in a file, a row to a line: kind, start, length. A refusal is one line: number, place.
+use entry_table::Tabled;
 use libc::STDOUT_FILENO;
-use table::Tabled;
 use wire::Refusal;
 
 // What reading a file to its end, or to the buffer's, finds.
@@ -55,7 +55,7 @@ fn print_entries(buf: &[u8], n: usize) {
         return;
     }
     let mut rows = [0u32; 9816];
-    match table::rows::check_table(&buf[..n], &mut rows) {
+    match entry_table::rows::check_table(&buf[..n], &mut rows) {
         Tabled::Listed(count, _) => {
             print_rows(&rows, count);
         }

@@ -17,13 +17,13 @@ use Rattle.transaction.specs.declared.Layout.{Layout}
 use Rattle.transaction.specs.declared.Checked.{Checked}
 use Rattle.transaction.specs.declared.Checked.the-variants as C
 use Rattle.transaction.proofs.Verdicts.{refused-check, checked-accepted}
-use Rattle.walk.specs.Walk.{located, start, Ahead}
-use Rattle.walk.proofs.Starting.{started}
-use Rattle.walk.proofs.Each.{Each}
-use Rattle.table.specs.Rows.{rowOf, Finds}
-use Rattle.walk.specs.declared.Row.{Row}
-use Rattle.table.specs.declared.Nth.{Nth}
-use Rattle.table.specs.declared.Nth.the-variants as N
+use Rattle.entry_walk.specs.Walk.{located, start, Ahead}
+use Rattle.entry_walk.proofs.Starting.{started}
+use Rattle.entry_walk.proofs.Each.{Each}
+use Rattle.entry_table.specs.Rows.{rowOf, Finds}
+use Rattle.entry_walk.specs.declared.Row.{Row}
+use Rattle.entry_table.specs.declared.Nth.{Nth}
+use Rattle.entry_table.specs.declared.Nth.the-variants as N
 use Rattle.entry.specs.Entry.{refusedEntry, missingEntry, foundEntry, entryAnswer, entryOf}
 use Rattle.entry.specs.Typed.{onTyped, rowEntry}
 use Rattle.entry.specs.declared.EntryRead.{EntryRead}
@@ -57,15 +57,15 @@ module _ (most : ℕ) (s : List ℕ) (n : ℕ) (z : EntryRead) (x : Checked) (p 
   entry-refused e q h =
       h ∙ sym (ap (λ o. onResult o refusedEntry (λ v end. entryAnswer end (entry (avm most) v n))) (refused-check most s e (found q p)))
 
-  module _ (w : Layout) (k : ℕ) (q : x ≡ C.Accepted w k) (b : Slice s) (y : Nth) (d : Finds n (w .kind) s y) where
+  module _ (w : Layout) (k : ℕ) (q : x ≡ C.Accepted w k) (b : Slice s) (y : Nth) (d : Finds n (w .«type_id») s y) where
     entry-by : entryBy s k y ≡ entryOf most s n
     unfolding Finds
     entry-by =
         let (v, r, l) = checked-accepted most s w k (found q p) in
         let es : List EntryAt = entries (avm most) v in
-        let h : Ahead s most (w .kind) start es = subst (λ (w : Layout). Ahead s most (w .kind) start es) (sym l) (started s b most v k r) in
+        let h : Ahead s most (w .«type_id») start es = subst (λ (w : Layout). Ahead s most (w .«type_id») start es) (sym l) (started s b most v k r) in
         ap (entryBy s k) (d most es h)
-        ∙ nth-stands s k es (entries-stand s b most (w .kind) es h) n
+        ∙ nth-stands s k es (entries-stand s b most (w .«type_id») es h) n
         ∙ sym (ap (λ o. onResult o refusedEntry (λ v end. entryAnswer end (entry (avm most) v n))) r)
 
     pub entry-missing : y ≡ N.Missing → z ≡ missingEntry → z ≡ entryOf most s n

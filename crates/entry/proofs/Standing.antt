@@ -6,10 +6,10 @@ use mathlib.Core.List.{List, [], _∷_, append-nil}
 use lib.ListN.{take}
 use Rattle.wire.specs.Bytes.{below}
 use Rattle.wire.specs.Numbers.{ReadingRule, by, outOfOrder, unknownType}
-use Rattle.wire.specs.Format.{Format, took, read, moved, run-inv, pick-inv}
-use Rattle.wire.specs.Fields.{number, blob, constant}
+use Rattle.wire.specs.Format.{Format, took, read, moved, parse-inv, pick-inv}
+use Rattle.wire.specs.Fields.{integer, blob, constant}
 use Rattle.wire.specs.Sequence.{guard, andThen, named}
-use Rattle.wire.specs.Series.{above, notBelow, counted}
+use Rattle.wire.specs.Series.{above, notBelow, countPrefixed}
 use Rattle.wire.specs.Answer.{wholeAt}
 use Rattle.wire.proofs.Bytes.{Slice, slice-bytes}
 use Rattle.wire.proofs.Reading as W
@@ -38,23 +38,23 @@ use Rattle.transaction.specs.declared.ListName.{ListName}
 use Rattle.transaction.specs.declared.ListName.the-variants as L
 use Rattle.transaction.specs.Credentials.{Want, credentialCode}
 use Rattle.transaction.proofs.Reading.{written-next}
-use Rattle.walk.specs.Walk.{start, Ahead}
-use Rattle.walk.proofs.Walking.{state-of, Leading}
-use Rattle.walk.proofs.Each.{Each, rest-each, plan-each}
-use Rattle.fields.specs.Found.{outputFound, inputFound}
-use Rattle.fields.specs.declared.OutputFound.{OutputFound}
-use Rattle.fields.specs.declared.InputFound.{InputFound}
-use Rattle.fields.specs.declared.InputFound.the-variants as I
-use Rattle.fields.proofs.Finding.{output-found, input-found, operation-found}
+use Rattle.entry_walk.specs.Walk.{start, Ahead}
+use Rattle.entry_walk.proofs.Walking.{state-of, Leading}
+use Rattle.entry_walk.proofs.Each.{Each, rest-each, plan-each}
+use Rattle.entry_fields.specs.Found.{outputFound, inputFound}
+use Rattle.entry_fields.specs.declared.OutputFound.{OutputFound}
+use Rattle.entry_fields.specs.declared.InputFound.{InputFound}
+use Rattle.entry_fields.specs.declared.InputFound.the-variants as I
+use Rattle.entry_fields.proofs.Finding.{output-found, input-found, operation-found}
 use Rattle.entry.specs.Typed.{onOutput, onInput, onOperation, typedAt, behindKey, assetAt, txidAt}
 use Rattle.entry.specs.declared.Typed.the-variants as T
 
 operation-asset : (s : List ℕ) (at : ℕ) (v : Operation) (m : ℕ) → read operation s at ≡ took v m → wholeAt 32 s at ≡ v .asset
 unfolding operation named andThen
 operation-asset s at v m h =
-    let (x, i, ex, e₁) = run-inv (blob 32) s at _ v m h in
-    let (pairs, j, ep, e₂) = run-inv (counted (number 4) (above key)) s i _ v m e₁ in
-    let (w, k, ew, e₃) = run-inv action s j _ v m e₂ in
+    let (x, i, ex, e₁) = parse-inv (blob 32) s at _ v m h in
+    let (pairs, j, ep, e₂) = parse-inv (countPrefixed (integer 4) (above key)) s i _ v m e₁ in
+    let (w, k, ew, e₃) = parse-inv action s j _ v m e₂ in
     let same : record { asset = x; outputs = pairs; terms = w .1 .0; owners = (w .0, w .1 .1) } ≡ v = cc in
     W.whole-part 32 s at x i ex ∙ ap (λ (o : Operation). o .asset) same
 
@@ -65,8 +65,8 @@ spent id index w = record { txid = id; index = index; asset = w .0; amount = w .
 spend-asset : (s : List ℕ) (at : ℕ) (w : List ℕ × (Unit {0} × (ℕ × List ℕ))) (m : ℕ) → read spend s at ≡ took w m → wholeAt 32 s at ≡ w .0
 unfolding spend andThen
 spend-asset s at w m h =
-    let (x, i, ex, e₁) = run-inv (blob 32) s at _ w m h in
-    let (y, j, ey, e₂) = run-inv (andThen (constant 4 5 unknownType) (λ type. andThen amount (λ n. indices))) s i (λ y n. took (x, y) n) w m e₁ in
+    let (x, i, ex, e₁) = parse-inv (blob 32) s at _ w m h in
+    let (y, j, ey, e₂) = parse-inv (andThen (constant 4 5 unknownType) (λ type. andThen amount (λ n. indices))) s i (λ y n. took (x, y) n) w m e₁ in
     let same : (x, y) ≡ w = cc in
     W.whole-part 32 s at x i ex ∙ ap (λ (u : List ℕ × (Unit {0} × (ℕ × List ℕ))). u .0) same
 
@@ -85,24 +85,25 @@ module _ (s : List ℕ) (b : Slice s) where
       → read F s at ≡ took v m
   unfolding guard
   guarded-inv F ok x at v m h =
-      let (a, k, ea, e₁) = run-inv F s at _ v m h in
+      let (a, k, ea, e₁) = parse-inv F s at _ v m h in
       let (_, e₂) = pick-inv (ok a) (by x at) (took a k) v m e₁ in
       ea ∙ e₂
 
   -- ---- outputs
 
   output-stands : (make : OutputFields → Entry) (at : ℕ) (v : TransferableOutput) (m : ℕ) → read transferableOutput s at ≡ took v m
-      → (blob 32 .run s at (λ e. T.Missing) (λ asset o. onOutput (outputFound s o) make) ≡ T.Entry (make (outputFields (at + 32) m (v .output))))
+      → (blob 32 .parse s at (λ e. T.Missing) (λ asset o. onOutput (outputFound s o) make) ≡ T.Entry (make (outputFields (at + 32) m (v .output))))
       × (wholeAt 32 s at ≡ v .asset)
   unfolding transferableOutput named andThen
   output-stands make at v m h =
-      let (x, i, ex, e₁) = run-inv (blob 32) s at _ v m h in
-      let (o, k, eo, e₂) = run-inv (output (secpTransfer ∷ [])) s i (λ out n. took record { asset = x; output = out } n) v m e₁ in
+      let (x, i, ex, e₁) = parse-inv (blob 32) s at _ v m h in
+      let (o, k, eo, e₂) = parse-inv (output (secpTransfer ∷ [])) s i (λ out n. took record { asset = x; output = out } n) v m e₁ in
       let behind : i ≡ at + 32 =
       written-next (blob 32) s at x i b ex ∙ ap (λ (j : ℕ). at + j) (W.blob-wide 32 x (blob 32 .sound s at x i (slice-bytes s b) ex .0)) in (
         moved
-            (λ w j. blob 32 .run s at (λ e. T.Missing) (λ asset o. onOutput (outputFound s o) make) ≡ T.Entry (make (outputFields (at + 32) j (w .output)))) e₂
-            (W.run-took (blob 32) s at (λ e. T.Missing) _ x i ex ∙ ap (λ (f : OutputFound). onOutput f make) (output-found s b (secpTransfer ∷ []) i o k eo)
+            (λ w j. blob 32 .parse s at (λ e. T.Missing) (λ asset o. onOutput (outputFound s o) make) ≡ T.Entry
+            (make (outputFields (at + 32) j (w .output)))) e₂
+            (W.parse-took (blob 32) s at (λ e. T.Missing) _ x i ex ∙ ap (λ (f : OutputFound). onOutput f make) (output-found s b (secpTransfer ∷ []) i o k eo)
             ∙ ap (λ (j : ℕ). T.Entry (make (outputFields j k o))) behind),
         moved (λ w j. wholeAt 32 s at ≡ w .asset) e₂ (W.whole-part 32 s at x i ex),
       )
@@ -125,13 +126,13 @@ module _ (s : List ℕ) (b : Slice s) where
       → (inputFound s at ≡ I.Fields (inputFields m v)) × (behindKey s at ≡ v .asset) × (wholeAt 32 s at ≡ v .txid)
   unfolding inputAfter named andThen guard key
   input-stands prev at v m h =
-      let (id, i, ei, e₁) = run-inv (blob 32) s at _ v m h in
-      let (index, k, ek, e₂) = run-inv (number 4) s i _ v m e₁ in
+      let (id, i, ei, e₁) = parse-inv (blob 32) s at _ v m h in
+      let (index, k, ek, e₂) = parse-inv (integer 4) s i _ v m e₁ in
       let (_, e₃) = pick-inv (below (take keyWidth prev) (key .write (id, index))) (by outOfOrder at) _ v m e₂ in
-      let (w, j, ew, e₄) = run-inv spend s k (λ w n. took (spent id index w) n) v m e₃ in (
+      let (w, j, ew, e₄) = parse-inv spend s k (λ w n. took (spent id index w) n) v m e₃ in (
         moved (λ x n. inputFound s at ≡ I.Fields (inputFields n x)) e₄ (input-found s b at id i index k w j ei ek ew),
         moved (λ x n. behindKey s at ≡ x .asset) e₄
-            (W.run-took (blob 32) s at (λ e. noId) _ id i ei ∙ W.run-took (number 4) s i (λ e. noId) _ index k ek ∙ spend-asset s k w j ew),
+            (W.parse-took (blob 32) s at (λ e. noId) _ id i ei ∙ W.parse-took (integer 4) s i (λ e. noId) _ index k ek ∙ spend-asset s k w j ew),
         moved (λ x n. wholeAt 32 s at ≡ x .txid) e₄ (W.whole-part 32 s at id i ei),
       )
 
@@ -189,8 +190,8 @@ module _ (s : List ℕ) (b : Slice s) where
   credential-stands w ws at m f =
       record {
         typed =
-            W.run-took (number 4) s at (λ e. T.Missing) _ (credentialCode (w .type)) (at + 4) (f .type)
-            ∙ W.run-took (number 4) s (at + 4) (λ e. T.Missing) _ (w .signatures) (at + 8) (f .count);
+            W.parse-took (integer 4) s at (λ e. T.Missing) _ (credentialCode (w .type)) (at + 4) (f .type)
+            ∙ W.parse-took (integer 4) s (at + 4) (λ e. T.Missing) _ (w .signatures) (at + 8) (f .count);
         asset = refl;
         txid = refl;
       }

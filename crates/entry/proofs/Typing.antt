@@ -9,13 +9,13 @@ use Rattle.element.specs.declared.InputFields.{InputFields}
 use Rattle.element.specs.declared.OperationFields.{OperationFields}
 use Rattle.transaction.specs.declared.Entry.{Entry}
 use Rattle.transaction.specs.declared.Entry.the-variants as E
-use Rattle.walk.specs.declared.Row.{Row}
-use Rattle.fields.specs.declared.OutputFound.{OutputFound}
-use Rattle.fields.specs.declared.OutputFound.the-variants as O
-use Rattle.fields.specs.declared.InputFound.{InputFound}
-use Rattle.fields.specs.declared.InputFound.the-variants as I
-use Rattle.fields.specs.declared.OperationFound.{OperationFound}
-use Rattle.fields.specs.declared.OperationFound.the-variants as Y
+use Rattle.entry_walk.specs.declared.Row.{Row}
+use Rattle.entry_fields.specs.declared.OutputFound.{OutputFound}
+use Rattle.entry_fields.specs.declared.OutputFound.the-variants as O
+use Rattle.entry_fields.specs.declared.InputFound.{InputFound}
+use Rattle.entry_fields.specs.declared.InputFound.the-variants as I
+use Rattle.entry_fields.specs.declared.OperationFound.{OperationFound}
+use Rattle.entry_fields.specs.declared.OperationFound.the-variants as Y
 use Rattle.entry.specs.Entry.{missingEntry}
 use Rattle.entry.specs.Typed.{onOutput, onInput, onOperation, assetAt, txidAt, onTyped}
 use Rattle.entry.specs.declared.Typed.{Typed}
@@ -53,6 +53,6 @@ module _ (x y : Typed) (p : x ≡ y) (s : List ℕ) (k : ℕ) (r : Row) where
       → _≡_ {A = EntryRead} record { answer = A.Found f (r .start) (r .end) k; asset = a; txid = t } (onTyped y s k r)
   row-typed f a t q ea et = rw (ea, et) (sym (ap (λ t. onTyped t s k r) (found p q)))
 
-pub ruleset passing = (L.on-value, L.on-number-refused, L.on-part, L.on-part-refused, L.tests)
+pub ruleset passing = (L.on-value, L.on-integer-refused, L.on-part, L.on-part-refused, L.tests)
 
 pub ruleset typing = (passing, typed-output, no-output, typed-input, no-input, typed-operation, no-operation, row-missing, row-typed)

@@ -4,21 +4,21 @@ use Prim.Native.Nat.{ℕ}
 use mathlib.Core.List.{List}
 use lib.Dec.{eqb}
 use Rattle.wire.specs.Bytes.{pick}
-use Rattle.wire.specs.Fields.{number, blob}
+use Rattle.wire.specs.Fields.{integer, blob}
 use Rattle.wire.specs.Answer.{wholeAt}
 use Rattle.element.specs.declared.OutputFields.{OutputFields}
 use Rattle.element.specs.declared.InputFields.{InputFields}
 use Rattle.transaction.specs.Entries.{noId}
 use Rattle.transaction.specs.declared.Entry.{Entry}
 use Rattle.transaction.specs.declared.Entry.the-variants as E
-use Rattle.walk.specs.declared.Row.{Row}
-use Rattle.fields.specs.Found.{outputFound, inputFound, operationFound}
-use Rattle.fields.specs.declared.OutputFound.{OutputFound}
-use Rattle.fields.specs.declared.OutputFound.the-variants as O
-use Rattle.fields.specs.declared.InputFound.{InputFound}
-use Rattle.fields.specs.declared.InputFound.the-variants as I
-use Rattle.fields.specs.declared.OperationFound.{OperationFound}
-use Rattle.fields.specs.declared.OperationFound.the-variants as Y
+use Rattle.entry_walk.specs.declared.Row.{Row}
+use Rattle.entry_fields.specs.Found.{outputFound, inputFound, operationFound}
+use Rattle.entry_fields.specs.declared.OutputFound.{OutputFound}
+use Rattle.entry_fields.specs.declared.OutputFound.the-variants as O
+use Rattle.entry_fields.specs.declared.InputFound.{InputFound}
+use Rattle.entry_fields.specs.declared.InputFound.the-variants as I
+use Rattle.entry_fields.specs.declared.OperationFound.{OperationFound}
+use Rattle.entry_fields.specs.declared.OperationFound.the-variants as Y
 use Rattle.entry.specs.Entry.{missingEntry}
 use Rattle.entry.specs.declared.Typed.{Typed}
 use Rattle.entry.specs.declared.Typed.the-variants as T
@@ -36,7 +36,7 @@ onInput (I.Fields f) make = T.Entry (make f)
 onInput I.Missing make = T.Missing
 
 abbrev pub outputTyped : ℕ → List ℕ → ℕ → Typed
-outputTyped kind s at = blob 32 .run s at (λ e. T.Missing) λ asset o. onOutput (outputFound s o) λ f. pick (eqb kind 1) (E.Output f) (E.ExportedOutput f)
+outputTyped kind s at = blob 32 .parse s at (λ e. T.Missing) λ asset o. onOutput (outputFound s o) λ f. pick (eqb kind 1) (E.Output f) (E.ExportedOutput f)
 
 abbrev pub inputTyped : ℕ → List ℕ → ℕ → Typed
 inputTyped kind s at = onInput (inputFound s at) λ f. pick (eqb kind 2) (E.Input f) (E.ImportedInput f)
@@ -53,8 +53,8 @@ stateOutputTyped s at = onOutput (outputFound s at) E.InitialStateOutput
 
 abbrev pub credentialTyped : List ℕ → ℕ → Typed
 credentialTyped s at =
-    number 4 .run s at (λ e. T.Missing) λ type i.
-    number 4 .run s i (λ e. T.Missing) λ count first.
+    integer 4 .parse s at (λ e. T.Missing) λ type i.
+    integer 4 .parse s i (λ e. T.Missing) λ count first.
     T.Entry (E.Credential record { «type_id» = type; «signatures_at» = first; «signatures_count» = count })
 
 abbrev pub typedAt : ℕ → List ℕ → ℕ → Typed
@@ -68,7 +68,7 @@ typedAt kind s at =
 -- ---- identifiers
 
 abbrev pub behindKey : List ℕ → ℕ → List ℕ
-behindKey s at = blob 32 .run s at (λ e. noId) λ id i. number 4 .run s i (λ e. noId) λ index a. wholeAt 32 s a
+behindKey s at = blob 32 .parse s at (λ e. noId) λ id i. integer 4 .parse s i (λ e. noId) λ index a. wholeAt 32 s a
 
 abbrev pub assetAt : ℕ → List ℕ → ℕ → List ℕ
 assetAt kind s at =

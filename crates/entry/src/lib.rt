@@ -4,16 +4,16 @@ ghost use Rattle.transaction.specs.Answer.{memoMost};
 ghost use Rattle.entry.specs.Entry.{refusedEntry, missingEntry, entryOf};
 ghost use Rattle.entry.specs.Typed.{outputTyped, stateOutputTyped, inputTyped, operationTyped, credentialTyped};
 ghost use Rattle.entry.specs.Typed.{typedAt, behindKey, assetAt, txidAt, rowEntry};
-use fields::InputFound;
-use fields::OperationFound;
-use fields::OutputFound;
-use table::Nth;
+use entry_fields::InputFound;
+use entry_fields::OperationFound;
+use entry_fields::OutputFound;
+use entry_table::Nth;
+use entry_walk::Row;
 use transaction::Checked;
 use transaction::CredentialFields;
 use transaction::Entry;
-use walk::Row;
-use wire::Number;
-use wire::Part;
+use wire::End;
+use wire::Integer;
 use wire::Refusal;
 use wire::Rule;
 
@@ -38,10 +38,10 @@ enum Typed {
 fn output_typed(s: &[u8], kind: u32, at: usize) -> Typed
     ensures { λ r. ⌜ r ≡ outputTyped kind (now (s .entry)) at ⌝ }
 {
-    let Part::Next(o) = wire::part_at(s, at, 32) else {
+    let End::At(o) = wire::field_at(s, at, 32) else {
         return Typed::Missing;
     };
-    match fields::output_at(s, o) {
+    match entry_fields::output_at(s, o) {
         OutputFound::Missing => Typed::Missing,
         OutputFound::Fields(fields) => {
             if kind == 1 {
@@ -55,7 +55,7 @@ fn output_typed(s: &[u8], kind: u32, at: usize) -> Typed
 fn input_typed(s: &[u8], kind: u32, at: usize) -> Typed
     ensures { λ r. ⌜ r ≡ inputTyped kind (now (s .entry)) at ⌝ }
 {
-    match fields::input_at(s, at) {
+    match entry_fields::input_at(s, at) {
         InputFound::Missing => Typed::Missing,
         InputFound::Fields(fields) => {
             if kind == 2 {
@@ -69,7 +69,7 @@ fn input_typed(s: &[u8], kind: u32, at: usize) -> Typed
 fn operation_typed(s: &[u8], at: usize) -> Typed
     ensures { λ r. ⌜ r ≡ operationTyped (now (s .entry)) at ⌝ }
 {
-    match fields::operation_at(s, at) {
+    match entry_fields::operation_at(s, at) {
         OperationFound::Missing => Typed::Missing,
         OperationFound::Fields(fields) => Typed::Entry(Entry::Operation(fields)),
     }
@@ -78,7 +78,7 @@ fn operation_typed(s: &[u8], at: usize) -> Typed
 fn state_output_typed(s: &[u8], at: usize) -> Typed
     ensures { λ r. ⌜ r ≡ stateOutputTyped (now (s .entry)) at ⌝ }
 {
-    match fields::output_at(s, at) {
+    match entry_fields::output_at(s, at) {
         OutputFound::Missing => Typed::Missing,
         OutputFound::Fields(fields) => Typed::Entry(Entry::InitialStateOutput(fields)),
     }
@@ -87,10 +87,10 @@ fn state_output_typed(s: &[u8], at: usize) -> Typed
 fn credential_typed(s: &[u8], at: usize) -> Typed
     ensures { λ r. ⌜ r ≡ credentialTyped (now (s .entry)) at ⌝ }
 {
-    let Number::Value(type_id, i) = wire::u32_at(s, at) else {
+    let Integer::Value(type_id, i) = wire::u32_at(s, at) else {
         return Typed::Missing;
     };
-    let Number::Value(signatures_count, signatures_at) = wire::u32_at(s, i) else {
+    let Integer::Value(signatures_count, signatures_at) = wire::u32_at(s, i) else {
         return Typed::Missing;
     };
     Typed::Entry(Entry::Credential(CredentialFields {
@@ -126,10 +126,10 @@ fn typed_at(s: &[u8], kind: u32, at: usize) -> Typed
 fn behind_key(s: &[u8], at: usize) -> [u8; 32]
     ensures { λ r. ⌜ r ≡ behindKey (now (s .entry)) at ⌝ }
 {
-    let Part::Next(i) = wire::part_at(s, at, 32) else {
+    let End::At(i) = wire::field_at(s, at, 32) else {
         return [0u8; 32];
     };
-    let Number::Value(_, a) = wire::u32_at(s, i) else {
+    let Integer::Value(_, a) = wire::u32_at(s, i) else {
         return [0u8; 32];
     };
     wire::id_at(s, a)
@@ -204,7 +204,7 @@ fn entry_within(s: &[u8], n: u64, most: u64) -> EntryRead
 {
     match checker::check::check_within(s, most) {
         Checked::Refused(refusal) => refused(refusal),
-        Checked::Accepted(layout, bytes) => match table::rows::find(s, layout.kind, n) {
+        Checked::Accepted(layout, bytes) => match entry_table::rows::find(s, layout.type_id, n) {
             Nth::Missing => missing(),
             Nth::Entry(row) => row_entry(s, row, bytes),
         },

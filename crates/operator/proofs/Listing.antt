@@ -6,9 +6,9 @@ use native.Mathlib.Omega.{arith}
 use borrow.Author.Tests.{ne-eqb}
 use Rattle.wire.specs.declared.Refusal.{Refusal}
 use Rattle.wire.specs.Numbers.{numberOf, number-range}
-use Rattle.table.specs.Table.{Filled, filled}
-use Rattle.table.specs.declared.Tabled.{Tabled}
-use Rattle.table.specs.declared.Tabled.the-variants as T
+use Rattle.entry_table.specs.Table.{Filled, filled}
+use Rattle.entry_table.specs.declared.Tabled.{Tabled}
+use Rattle.entry_table.specs.declared.Tabled.the-variants as T
 use Rattle.operator.specs.Listing.{packed, listing, listed}
 
 -- ---- the number of an answer

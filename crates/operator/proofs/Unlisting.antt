@@ -18,18 +18,18 @@ use Rattle.transaction.specs.declared.Checked.the-variants as C
 use Rattle.transaction.proofs.Codec.{codec}
 use Rattle.transaction.proofs.Signed.{parts-took, spaced-slots}
 use Rattle.transaction.proofs.Verdicts.{checked-place}
-use Rattle.table.specs.Table.{filled, tabled, tabledNumber}
-use Rattle.table.specs.Table as Entries
-use Rattle.table.specs.declared.Tabled.{Tabled}
-use Rattle.table.specs.declared.Tabled.the-variants as T
-use Rattle.table.proofs.Bounding.{entries-few}
+use Rattle.entry_table.specs.Table.{filled, tabled, tabledNumber}
+use Rattle.entry_table.specs.Table as Entries
+use Rattle.entry_table.specs.declared.Tabled.{Tabled}
+use Rattle.entry_table.specs.declared.Tabled.the-variants as T
+use Rattle.entry_table.proofs.Bounding.{entries-few}
 use Rattle.draft.specs.Reader.{reader}
 use Rattle.draft.specs.Packing.{TakenApart}
 use Rattle.draft.proofs.Packing.{apart, spaced-count}
-use Rattle.slot_table.specs.Table.{slots, tabledSlots}
-use Rattle.slot_table.specs.Table as Slots
-use Rattle.slot_table.specs.Slots as Slot
-use Rattle.slot_table.proofs.Rows.{reader-places}
+use Rattle.draft_slot_table.specs.Table.{slots, tabledSlots}
+use Rattle.draft_slot_table.specs.Table as Slots
+use Rattle.draft_slot_table.specs.Slots as Slot
+use Rattle.draft_slot_table.proofs.Rows.{reader-places}
 use Rattle.operator.specs.Listing.{reported, packed, Unlisted}
 
 -- an answer with a small number and few rows, or a small place

@@ -4,9 +4,9 @@ use mathlib.Core.List.{List}
 use lib.Dec.{eqb}
 use Rattle.wire.specs.Bytes.{Bytes, pick}
 use Rattle.transaction.specs.Answer.{memoMost}
-use Rattle.table.specs.Table.{Filled, tabled, tabledNumber, tabledPlace, tabledRows}
-use Rattle.table.specs.declared.Tabled.{Tabled}
-use Rattle.slot_table.specs.Table.{tabledSlots}
+use Rattle.entry_table.specs.Table.{Filled, tabled, tabledNumber, tabledPlace, tabledRows}
+use Rattle.entry_table.specs.declared.Tabled.{Tabled}
+use Rattle.draft_slot_table.specs.Table.{tabledSlots}
 use Rattle.draft.specs.Packing.{TakenApart}
 
 pub record Listing : Type 0 where

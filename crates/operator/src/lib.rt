@@ -1,10 +1,10 @@
 // The functions that the operator's command calls beside those of the phone program.
 ghost use mathlib.Core.Path.{_≡_};
 ghost use Rattle.transaction.specs.Answer.{memoMost};
-ghost use Rattle.table.specs.Table.{tabled};
-ghost use Rattle.slot_table.specs.Table.{tabledSlots};
+ghost use Rattle.entry_table.specs.Table.{tabled};
+ghost use Rattle.draft_slot_table.specs.Table.{tabledSlots};
 ghost use Rattle.operator.specs.Listing.{packed, listing, listed};
-use table::Tabled;
+use entry_table::Tabled;
 
 // How many rows were written, or number × 2^32 + place.
 fn word(answer: Tabled) -> u64
@@ -24,7 +24,7 @@ fn word(answer: Tabled) -> u64
 pub extern "C" fn cellfacet_rows(bytes: &[u8], table: &mut [u32]) -> u64
     ensures { λ r. ⌜ listing r (now (table .exit)) ≡ listed (tabled memoMost (now (bytes .entry)) (now (table .entry))) ⌝ }
 {
-    word(table::rows::check_table(bytes, table))
+    word(entry_table::rows::check_table(bytes, table))
 }
 
 // The check with a lent table, in which each slot has a row: credential, place, filled.
@@ -32,5 +32,5 @@ pub extern "C" fn cellfacet_rows(bytes: &[u8], table: &mut [u32]) -> u64
 pub extern "C" fn cellfacet_slots(bytes: &[u8], table: &mut [u32]) -> u64
     ensures { λ r. ⌜ listing r (now (table .exit)) ≡ listed (tabledSlots memoMost (now (bytes .entry)) (now (table .entry))) ⌝ }
 {
-    word(slot_table::list_slots(bytes, table))
+    word(draft_slot_table::list_slots(bytes, table))
 }

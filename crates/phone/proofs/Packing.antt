@@ -23,9 +23,9 @@ use Rattle.transaction.specs.declared.Checked.{Checked}
 use Rattle.transaction.specs.declared.Checked.the-variants as C
 use Rattle.transaction.proofs.Verdicts.{checked-place, checked-accepted, checked-refused}
 use Rattle.transaction.proofs.Signed.{parts-of, same-unsigned, length-eq, spaced-slots}
-use Rattle.slot.specs.Joining.{same, join, firstClash}
-use Rattle.slot.proofs.Comparing.{first-some, same-eq, length-join}
-use Rattle.slot.proofs.Putting.{spaced-at, length-putAll}
+use Rattle.draft_slots.specs.Joining.{same, join, firstClash}
+use Rattle.draft_slots.proofs.Comparing.{first-some, same-eq, length-join}
+use Rattle.draft_slots.proofs.Putting.{spaced-at, length-putAll}
 use Rattle.draft.specs.Reader.{Reader, reader, body}
 use Rattle.draft.specs.Calls.{answerNumber, answerPlace, refuse, merged, decideMerge, mergeCall}
 use Rattle.draft.specs.declared.Answer.{Answer}
@@ -94,7 +94,8 @@ module _ (d e out : List ℕ) (b : Bytes d) where
     pub merge-small : (f : Refusal) → a ≡ A.Refused f → f .place ≤ 65536
     unfolding mergeCall
     merge-small f q =
-        decided-small f s (R .accepts d) (R .accepts e) (same (body R d) (body R e)) (firstClash 0 (R .slots d) d e) (leb (length d) (length out)) (merged R d e) slot-small
+        decided-small f s (R .accepts d) (R .accepts e) (same (body R d) (body R e)) (firstClash 0 (R .slots d) d e) (leb (length d) (length out))
+        (merged R d e) slot-small
         (ap (λ (x : Answer). (x, s)) (sym q) ∙ p)
 
 -- the same, with what the call ensures before what is known of its first draft

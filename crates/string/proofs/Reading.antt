@@ -10,9 +10,9 @@ use lib.Seq.{drop-cons}
 use lib.Dec.{eqb}
 use borrow.Author.Tests.{lt-leb, le-leb, eq-eqb, ne-eqb}
 use Rattle.wire.specs.declared.Refusal.{Refusal}
-use Rattle.wire.specs.declared.Part.{Part}
-use Rattle.wire.specs.declared.Part.the-variants as P
-use Rattle.wire.specs.Bytes.{pick, part}
+use Rattle.wire.specs.declared.End.{End}
+use Rattle.wire.specs.declared.End.the-variants as P
+use Rattle.wire.specs.Bytes.{pick, between}
 use Rattle.wire.specs.Numbers.{by, notPrintable}
 use Rattle.wire.specs.Fields.{blob}
 use Rattle.wire.specs.Answer.{ended}
@@ -20,11 +20,11 @@ use Rattle.wire.proofs.Bytes.{Slice}
 use Rattle.wire.proofs.Reading as W
 use Rattle.string.specs.Strings.{unprintable, unprintable-le, string}
 
-module _ {R : Type 0} (most : ℕ) (s : List ℕ) (at : ℕ) (z : R) (stop : Refusal → R) (go : List ℕ → ℕ → R) (x : Part) where
-  pub on-string : (n : ℕ) → x ≡ ended (string 4 most) s at → x ≡ P.Next n → ((v : List ℕ) → z ≡ go v n) → z ≡ string 4 most .run s at stop go
+module _ {R : Type 0} (most : ℕ) (s : List ℕ) (at : ℕ) (z : R) (stop : Refusal → R) (go : List ℕ → ℕ → R) (x : End) where
+  pub on-string : (n : ℕ) → x ≡ ended (string 4 most) s at → x ≡ P.At n → ((v : List ℕ) → z ≡ go v n) → z ≡ string 4 most .parse s at stop go
   on-string = W.ends (string 4 most) R s at z stop go x
 
-  pub on-string-refused : (e : Refusal) → x ≡ ended (string 4 most) s at → x ≡ P.Refused e → z ≡ stop e → z ≡ string 4 most .run s at stop go
+  pub on-string-refused : (e : Refusal) → x ≡ ended (string 4 most) s at → x ≡ P.Refused e → z ≡ stop e → z ≡ string 4 most .parse s at stop go
   on-string-refused = W.stops (string 4 most) R s at z stop go x
 
 -- characters: what is left of the search for one that is not printable, from index i on
@@ -57,16 +57,18 @@ module _ (s : List ℕ) (i y : ℕ) (w : unprintableFrom s i ≡ y) where
 pub ruleset characters = (unprintable-low, unprintable-high, unprintable-on, unprintable-end)
 
 -- the characters of a body that is wholly there, where the code has looked at them: u is the index of the first that is not printable
-module _ (k : ℕ) (s : List ℕ) (at : ℕ) (z X : Part) (x : Part) (n : ℕ) (b : List ℕ) (u : ℕ)
-    (p : x ≡ ended (blob k) s at) (q : x ≡ P.Next n) (c : Slice s) (e : b ≡ part at n s) (d : u ≡ unprintable b) where
-  pub if-printable : u ≡ k → z ≡ X → z ≡ pick (eqb (unprintable (part at n s)) (length (part at n s))) X (P.Refused (by notPrintable (at + unprintable (part at n s))))
+module _ (k : ℕ) (s : List ℕ) (at : ℕ) (z X : End) (x : End) (n : ℕ) (b : List ℕ) (u : ℕ)
+    (p : x ≡ ended (blob k) s at) (q : x ≡ P.At n) (c : Slice s) (e : b ≡ between at n s) (d : u ≡ unprintable b) where
+  pub if-printable : u ≡ k → z ≡ X
+      → z ≡ pick (eqb (unprintable (between at n s)) (length (between at n s))) X (P.Refused (by notPrintable (at + unprintable (between at n s))))
   if-printable h i = rw (← e, ← d, h, e, W.part-long k s at x n p q c, eq-eqb k k refl) i
 
-  pub if-unprintable : (u ≡ k → ⊥) → (f : Refusal) → f ≡ by notPrintable (at + u) → z ≡ P.Refused f → z ≡ pick (eqb (unprintable (part at n s)) (length (part at n s))) X (P.Refused (by notPrintable (at + unprintable (part at n s))))
+  pub if-unprintable : (u ≡ k → ⊥) → (f : Refusal) → f ≡ by notPrintable (at + u) → z ≡ P.Refused f
+      → z ≡ pick (eqb (unprintable (between at n s)) (length (between at n s))) X (P.Refused (by notPrintable (at + unprintable (between at n s))))
   if-unprintable h f g i = rw (W.part-long k s at x n p q c, ← e, ← d, ne-eqb u k h) (i ∙ ap P.Refused g)
 
 -- and its place is a number of 64 bits
-pub unprintable-fits : (s b : List ℕ) (a e u : ℕ) → b ≡ part a e s → u ≡ unprintable b → length s < 2 ^ 64 → a < 2 ^ 64 → a + u < 2 ^ 64
+pub unprintable-fits : (s b : List ℕ) (a e u : ℕ) → b ≡ between a e s → u ≡ unprintable b → length s < 2 ^ 64 → a < 2 ^ 64 → a + u < 2 ^ 64
 unprintable-fits s b a e u h k i j = omega (arith, k, unprintable-le b, ap length h, length-take (e - a) (drop a s), length-drop a s)
 
 pub ruleset reading = (W.on-value, W.on-short, W.on-part, W.on-cut, W.on-part-refused, W.tests, W.part-made)

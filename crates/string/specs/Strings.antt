@@ -9,7 +9,7 @@ use lib.Dec.{leb, ltb, eqb}
 use Rattle.wire.specs.Bytes.{pick}
 use Rattle.wire.specs.Numbers.{badLength, notPrintable, badDenomination}
 use Rattle.wire.specs.Format.{Format}
-use Rattle.wire.specs.Fields.{number, blob, blob-sized}
+use Rattle.wire.specs.Fields.{integer, blob, blob-sized}
 use Rattle.wire.specs.Sequence.{andThen, guard, guardAt, named}
 
 -- a length of w bytes, at most `most`
@@ -17,7 +17,7 @@ abbrev pub lengthFits : ℕ → ℕ → Bool
 lengthFits most n = leb n most
 
 abbrev pub lengthTo : ℕ → ℕ → Format ℕ
-lengthTo w most = guard (number w) (λ n. lengthFits most n) badLength
+lengthTo w most = guard (integer w) (λ n. lengthFits most n) badLength
 
 unfoldable pub string : ℕ → ℕ → Format (List ℕ)
 unfolding named andThen guard
@@ -63,7 +63,7 @@ abbrev pub notEmpty : ℕ → Bool
 notEmpty n = ltb 0 n
 
 abbrev pub textLength : ℕ → Format ℕ
-textLength most = guard (guard (number 2) (λ n. notEmpty n) badLength) (λ n. lengthFits most n) badLength
+textLength most = guard (guard (integer 2) (λ n. notEmpty n) badLength) (λ n. lengthFits most n) badLength
 
 unfoldable pub text : ℕ → Format (List ℕ)
 unfolding named andThen guard guardAt printable
@@ -82,4 +82,4 @@ denominationFits n = leb n 32
 
 unfoldable pub denomination : Format ℕ
 unfolding guard
-denomination = guard (number 1) (λ n. denominationFits n) badDenomination
+denomination = guard (integer 1) (λ n. denominationFits n) badDenomination

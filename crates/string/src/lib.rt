@@ -3,8 +3,8 @@ ghost use mathlib.Core.Path.{_≡_};
 ghost use Prim.Native.Nat.{ℕ};
 ghost use Rattle.wire.specs.Answer.{ended, Passes};
 ghost use Rattle.string.specs.Strings.{string, memo, unprintable, text, denomination};
-use wire::Number;
-use wire::Part;
+use wire::End;
+use wire::Integer;
 use wire::Rule;
 
 // The most bytes that a name, a symbol and a payload have.
@@ -15,16 +15,16 @@ pub const SYMBOL_MOST: u64 = 4;
 pub const PAYLOAD_MOST: u64 = 1024;
 
 // A memo or a payload: a 32-bit length, at most so many bytes.
-pub fn string_at(s: &[u8], at: usize, most: u64) -> Part
+pub fn string_at(s: &[u8], at: usize, most: u64) -> End
     ensures { λ r. ⌜ r ≡ ended (string 4 most) (now (s .entry)) at ⌝ }
 {
-    let Number::Value(length, first) = wire::u32_at(s, at) else {
-        return Part::Refused(wire::cut(s, at, 4));
+    let Integer::Value(length, first) = wire::u32_at(s, at) else {
+        return End::Refused(wire::cut(s, at, 4));
     };
     if most < length {
-        return Part::Refused(wire::refuse(Rule::BadLength, at));
+        return End::Refused(wire::refuse(Rule::BadLength, at));
     }
-    wire::part_at(s, first, length as usize)
+    wire::field_at(s, first, length as usize)
 }
 
 // The index of the first byte that is not printable; the length where all are.
@@ -45,56 +45,56 @@ pub fn first_unprintable(s: &[u8]) -> usize
 }
 
 // A name or a symbol: a 16-bit length from 1 to most, and printable characters.
-pub fn text_at(s: &[u8], at: usize, most: u64) -> Part
+pub fn text_at(s: &[u8], at: usize, most: u64) -> End
     ensures { λ r. ⌜ r ≡ ended (text most) (now (s .entry)) at ⌝ }
 {
-    let Number::Value(length, first) = wire::u16_at(s, at) else {
-        return Part::Refused(wire::cut(s, at, 2));
+    let Integer::Value(length, first) = wire::u16_at(s, at) else {
+        return End::Refused(wire::cut(s, at, 2));
     };
     if length == 0 {
-        return Part::Refused(wire::refuse(Rule::BadLength, at));
+        return End::Refused(wire::refuse(Rule::BadLength, at));
     }
     if most < length {
-        return Part::Refused(wire::refuse(Rule::BadLength, at));
+        return End::Refused(wire::refuse(Rule::BadLength, at));
     }
-    let Part::Next(next) = wire::part_at(s, first, length as usize) else {
-        return Part::Refused(wire::cut(s, first, length as usize));
+    let End::At(next) = wire::field_at(s, first, length as usize) else {
+        return End::Refused(wire::cut(s, first, length as usize));
     };
     let printable = first_unprintable(wire::between(s, first, next));
     if printable as u64 != length {
-        return Part::Refused(wire::refuse(Rule::NotPrintable, first + printable));
+        return End::Refused(wire::refuse(Rule::NotPrintable, first + printable));
     }
-    Part::Next(next)
+    End::At(next)
 }
 
-pub fn denomination_at(s: &[u8], at: usize) -> Part
+pub fn denomination_at(s: &[u8], at: usize) -> End
     ensures { λ r. ⌜ r ≡ ended denomination (now (s .entry)) at ⌝ }
 {
-    let Number::Value(value, next) = wire::u8_at(s, at) else {
-        return Part::Refused(wire::cut(s, at, 1));
+    let Integer::Value(value, next) = wire::u8_at(s, at) else {
+        return End::Refused(wire::cut(s, at, 1));
     };
     if 32 < value {
-        return Part::Refused(wire::refuse(Rule::BadDenomination, at));
+        return End::Refused(wire::refuse(Rule::BadDenomination, at));
     }
-    Part::Next(next)
+    End::At(next)
 }
 
 // Passes a memo or a payload that was read: its length is not judged again.
-pub fn string_past(s: &[u8], at: usize) -> Part
+pub fn string_past(s: &[u8], at: usize) -> End
     ensures { λ r. ⌜ ((most : ℕ) → Passes (memo most) (now (s .entry)) at r) ⌝ }
 {
-    let Number::Value(length, first) = wire::u32_at(s, at) else {
-        return Part::Refused(wire::cut(s, at, 4));
+    let Integer::Value(length, first) = wire::u32_at(s, at) else {
+        return End::Refused(wire::cut(s, at, 4));
     };
-    wire::part_at(s, first, length as usize)
+    wire::field_at(s, first, length as usize)
 }
 
 // Passes a name or a symbol that was read: neither its length nor its characters are judged again.
-pub fn text_past(s: &[u8], at: usize) -> Part
+pub fn text_past(s: &[u8], at: usize) -> End
     ensures { λ r. ⌜ ((most : ℕ) → Passes (text most) (now (s .entry)) at r) ⌝ }
 {
-    let Number::Value(length, first) = wire::u16_at(s, at) else {
-        return Part::Refused(wire::cut(s, at, 2));
+    let Integer::Value(length, first) = wire::u16_at(s, at) else {
+        return End::Refused(wire::cut(s, at, 2));
     };
-    wire::part_at(s, first, length as usize)
+    wire::field_at(s, first, length as usize)
 }

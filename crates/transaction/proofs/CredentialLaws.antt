@@ -12,36 +12,37 @@ use lib.Seq.{take-at, drop-at, getD-append-add}
 use borrow.Author.Tests.{eq-eqb}
 use Rattle.wire.specs.Bytes.{Bytes, digits, length-digits, pick}
 use Rattle.wire.specs.Numbers.{by, unknownType, wrongCount}
-use Rattle.wire.specs.Format.{run-alike}
-use Rattle.wire.specs.Fields.{number, blob}
+use Rattle.wire.specs.Format.{parse-alike}
+use Rattle.wire.specs.Fields.{integer, blob}
 use Rattle.wire.specs.declared.Refusal.{Refusal}
 use Rattle.transaction.specs.Slots.{signatureWidth, blank, slotAt, Outside, Spaced, length-slotAt, bytes-slotAt, bytes-blank, length-blank}
-use Rattle.transaction.specs.Credentials.{CredentialType, secpCredential, nftCredential, credentialCode, Want, Piece, due, signature, signatures, credential, each, layout, pieces, credentials, places, size, blanks, total}
+use Rattle.transaction.specs.Credentials.{CredentialType, secpCredential, nftCredential, credentialCode, Want, Piece, due, signature}
+use Rattle.transaction.specs.Credentials.{signatures, credential, each, layout, pieces, credentials, places, size, blanks, total}
 
 -- ---- piece by piece, as code reads them: it keeps no signature, and goes on with the place
 
 module _ {R : Type 0} (s : List ℕ) (stop : Refusal → R) (go : ℕ → R) where
   -- n signatures, then the others
-  pub signatures-then : (n : ℕ) (ps : List Piece) (at : ℕ) → pieces (signatures n ps) .run s at stop (λ l k. go k)
-      ≡ pieces (signatures n []) .run s at stop (λ l m. pieces ps .run s m stop (λ l k. go k))
+  pub signatures-then : (n : ℕ) (ps : List Piece) (at : ℕ) → pieces (signatures n ps) .parse s at stop (λ l k. go k)
+      ≡ pieces (signatures n []) .parse s at stop (λ l m. pieces ps .parse s m stop (λ l k. go k))
   unfolding pieces signatures
   signatures-then zero ps at = refl
-  signatures-then (suc n) ps at = run-alike (blob signatureWidth) s at stop _ _ (λ b m. signatures-then n ps m)
+  signatures-then (suc n) ps at = parse-alike (blob signatureWidth) s at stop _ _ (λ b m. signatures-then n ps m)
 
   -- one credential, then the others
-  pub each-then : (w : Want) (ws : List Want) (at : ℕ) → pieces (each (w ∷ ws)) .run s at stop (λ l k. go k)
-      ≡ pieces (credential w []) .run s at stop (λ l m. pieces (each ws) .run s m stop (λ l k. go k))
+  pub each-then : (w : Want) (ws : List Want) (at : ℕ) → pieces (each (w ∷ ws)) .parse s at stop (λ l k. go k)
+      ≡ pieces (credential w []) .parse s at stop (λ l m. pieces (each ws) .parse s m stop (λ l k. go k))
   unfolding pieces each
   each-then w ws at =
-      run-alike (number 4) s at stop _ _ (λ n m.
+      parse-alike (integer 4) s at stop _ _ (λ n m.
       ap (λ r. pick (eqb n (credentialCode (w .type))) r (stop (by unknownType at)))
-      (run-alike (number 4) s m stop _ _ (λ i j.
+      (parse-alike (integer 4) s m stop _ _ (λ i j.
       ap (λ r. pick (eqb i (w .signatures)) r (stop (by wrongCount m))) (signatures-then (w .signatures) (each ws) j))))
 
 -- ---- lengths and places
 
 pub length-pieces : (ps : List Piece) (l : List (List ℕ)) → pieces ps .Good l → length (pieces ps .write l) ≡ size ps
-unfolding pieces size number
+unfolding pieces size integer
 length-pieces [] l h = refl
 length-pieces (due x v ∷ ps) l h = omega (arith, length-append (digits 4 v) (pieces ps .write l), length-digits 4 v, length-pieces ps l (h .1))
 length-pieces (signature ∷ ps) [] h = absurd h
@@ -76,7 +77,7 @@ by-front a b c d n j ea eb f g = go (decLe n j)
 -- two runs of the same pieces are the same outside the signatures
 pub pieces-outside : (ps : List Piece) (l m : List (List ℕ)) → pieces ps .Good l → pieces ps .Good m
     → (p j : ℕ) → Outside (places p ps) (p + j) → getD (pieces ps .write l) j 0 ≡ getD (pieces ps .write m) j 0
-unfolding pieces places number
+unfolding pieces places integer
 pieces-outside [] l m g h p j o = refl
 pieces-outside (due x v ∷ ps) l m g h p j o =
     by-front (digits 4 v) (digits 4 v) (pieces ps .write l) (pieces ps .write m) 4 j (length-digits 4 v) (length-digits 4 v) (λ k. refl)
@@ -91,7 +92,7 @@ pieces-outside (signature ∷ ps) (x ∷ l) (y ∷ m) g h p j o =
 -- at the k-th place stands the k-th signature
 pub slot-is : (ps : List Piece) (l : List (List ℕ)) → pieces ps .Good l → (pre : List ℕ) (p : ℕ) → length pre ≡ p
     → (k : ℕ) → k < length l → (z : List ℕ) → slotAt (pre ++ pieces ps .write l) (getD (places p ps) k 0) ≡ getD l k z
-unfolding pieces places slotAt number
+unfolding pieces places slotAt integer
 slot-is [] l h pre p e k b z = absurd (omega (arith, ap length h))
 slot-is (due x v ∷ ps) l h pre p e k b z =
     ap (λ (s : List ℕ). slotAt s (getD (places (p + 4) ps) k 0)) (sym (append-assoc pre (digits 4 v) (pieces ps .write l)))
@@ -159,7 +160,7 @@ Fitting (due x v ∷ ps) = (v < 256 ^ 4) × Fitting ps
 Fitting (signature ∷ ps) = Fitting ps
 
 pub blanks-good : (ps : List Piece) → Fitting ps → pieces ps .Good (blanks ps)
-unfolding pieces blanks number
+unfolding pieces blanks integer
 blanks-good [] h = refl
 blanks-good (due x v ∷ ps) h = ((h .0, eq-eqb v v refl), blanks-good ps (h .1))
 blanks-good (signature ∷ ps) h = ((length-blank, bytes-blank), blanks-good ps h)
@@ -187,7 +188,7 @@ fitting-layout ws k = (omega (arith, size-each ws), fitting-each ws (omega arith
 
 -- as many bytes as any others
 length-blanks : (ps : List Piece) → length (pieces ps .write (blanks ps)) ≡ size ps
-unfolding pieces blanks size number
+unfolding pieces blanks size integer
 length-blanks [] = refl
 length-blanks (due x v ∷ ps) = omega (arith, length-append (digits 4 v) (pieces ps .write (blanks ps)), length-digits 4 v, length-blanks ps)
 length-blanks (signature ∷ ps) = omega (arith, length-append blank (pieces ps .write (blanks ps)), length-blank, length-blanks ps)
@@ -196,7 +197,8 @@ pub blank-good : (ws : List Want) → length (credentials ws .write (blanks (lay
 unfolding credentials
 blank-good ws h = blanks-good (layout ws) (fitting-layout ws (omega (arith, length-blanks (layout ws))))
 
-pub same-length : (ws : List Want) (l : List (List ℕ)) → credentials ws .Good l → length (credentials ws .write l) ≡ length (credentials ws .write (blanks (layout ws)))
+pub same-length : (ws : List Want) (l : List (List ℕ)) → credentials ws .Good l
+    → length (credentials ws .write l) ≡ length (credentials ws .write (blanks (layout ws)))
 unfolding credentials
 same-length ws l g = length-pieces (layout ws) l g ∙ sym (length-blanks (layout ws))
 

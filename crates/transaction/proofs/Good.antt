@@ -12,7 +12,7 @@ use borrow.Author.Tests.{leb-true, le-leb}
 use Rattle.wire.specs.Bytes.{digits, length-digits, below}
 use Rattle.wire.specs.Numbers.{wrongCodec, unknownType, wrongCount, emptyList}
 use Rattle.wire.specs.Format.{Format}
-use Rattle.wire.specs.Fields.{Sized, number, blob}
+use Rattle.wire.specs.Fields.{Sized, integer, blob}
 use Rattle.wire.specs.Sequence.{guard}
 use Rattle.wire.specs.Series.{left, Chain, notBelow}
 use Rattle.wire.specs.Orders.{All, OneOf, Increasing, Nondecreasing, Ascending}
@@ -20,26 +20,29 @@ use Rattle.wire.proofs.Orders.{constant-good, tag-good, digits-order, notBelow-
 use Rattle.element.specs.Outputs.{TransferableOutput, transferableOutput}
 use Rattle.element.specs.Inputs.{Input, input}
 use Rattle.element.specs.Operations.{Operation, operation, fxCode, InitialState, initialState}
-use Rattle.element.specs.Layout.{transferableOutputBytes}
+use Rattle.element.specs.PlainBytes.{transferableOutputBytes}
 use Rattle.element.specs.Good.{GoodTransferableOutput, GoodInput, inputKey, GoodOperation, GoodInitialState}
 use Rattle.element.proofs.Writing.{transferableOutput-bytes}
-use Rattle.element.proofs.Good.{string-good, text-good, denomination-good, transferableOutput-good, key-width, input-good, input-front, operation-good, fxCode-fits, initialState-good, initialState-front}
+use Rattle.element.proofs.Good.{string-good, text-good, denomination-good, transferableOutput-good, key-width, input-good, input-front}
+use Rattle.element.proofs.Good.{operation-good, fxCode-fits, initialState-good, initialState-front}
 use Rattle.transaction.specs.Slots.{signatureWidth}
 use Rattle.transaction.specs.Credentials.{credentialCode, Want, Piece, signatures, each, pieces, credentials, total}
-use Rattle.transaction.specs.Plan.{ownPlan, kindCode, kindOf, kindOf-code, kinds}
+use Rattle.transaction.specs.Plan.{ownPlan, typeId, typeOf, typeOf-id, types}
 use Rattle.transaction.specs.Form.{atLeast, Value, form, asked, wanted}
 use Rattle.transaction.specs.Avm.{avm}
 use Rattle.transaction.specs.Family.{Head, head, unsigned, wants, Signed, signed}
 use Rattle.transaction.specs.Signed as Any
-use Rattle.transaction.specs.Transaction.{Own, plain, createAsset, operate, importFrom, exportTo, Transaction, inputWant, operationWant, ownWants, credentialsOf, GoodOutputs, GoodInputs, GoodOperations, GoodStates, GoodOwn, GoodTransaction}
-use Rattle.transaction.specs.Accepted.{ownOf, reading, kindOwn, ownValue, valueOf}
-use Rattle.transaction.specs.declared.Kind.{Kind}
-use Rattle.transaction.specs.declared.Kind.the-variants as K
+use Rattle.transaction.specs.Transaction.{Own, plain, createAsset, operate, importFrom, exportTo, Transaction, inputWant, operationWant}
+use Rattle.transaction.specs.Transaction.{ownWants, credentialsOf, GoodOutputs, GoodInputs, GoodOperations, GoodStates, GoodOwn}
+use Rattle.transaction.specs.Transaction.{GoodTransaction}
+use Rattle.transaction.specs.Accepted.{ownOf, reading, ownType, ownValue, valueOf}
+use Rattle.transaction.specs.declared.TransactionType.{TransactionType}
+use Rattle.transaction.specs.declared.TransactionType.the-variants as K
 use Rattle.transaction.proofs.CredentialLaws.{credentialCode-fits}
 
 -- ---- a transaction and a value of the format are the same thing
 
-ownOf-value : (o : Own) → ownOf (kindOwn o) (ownValue o) ≡ o
+ownOf-value : (o : Own) → ownOf (ownType o) (ownValue o) ≡ o
 unfolding ownOf ownValue
 ownOf-value plain = refl
 ownOf-value (createAsset name symbol denomination list) = refl
@@ -53,12 +56,12 @@ reading-value most t = ap (λ o. record { base = t .base; own = o; signatures = 
 
 pub value-reading : (most : ℕ) (v : Signed (avm most)) → valueOf most (reading most v) ≡ v
 unfolding reading valueOf
-value-reading most ((h, (outs, (ins, (memo, own)))), signatures) = go (h .kind) own
+value-reading most ((h, (outs, (ins, (memo, own)))), signatures) = go (h .type) own
   where
-    go : (k : Kind) (own : Value (ownPlan k))
+    go : (k : TransactionType) (own : Value (ownPlan k))
         → _≡_ {A = Signed (avm most)}
-        ((record { kind = kindOwn (ownOf k own); network = h .network; chain = h .chain }, (outs, (ins, (memo, ownValue (ownOf k own))))), signatures)
-        ((record { kind = k; network = h .network; chain = h .chain }, (outs, (ins, (memo, own)))), signatures)
+        ((record { type = ownType (ownOf k own); network = h .network; chain = h .chain }, (outs, (ins, (memo, ownValue (ownOf k own))))), signatures)
+        ((record { type = k; network = h .network; chain = h .chain }, (outs, (ins, (memo, own)))), signatures)
     go K.Base own = refl
     go K.CreateAsset own = refl
     go K.Operation own = refl
@@ -112,9 +115,9 @@ credentials-good ws l = (
 -- a list of at least so many elements
 list-good : {A : Type 0} (least : ℕ) (E : List ℕ → Format A) (P : List A → Type 0) → ((l : List A) → Chain E (left E) [] l ↔ P l)
     → (l : List A) → atLeast least E .Good l ↔ ((least ≤ length l) × (length l < 256 ^ 4) × P l)
-unfolding atLeast number
+unfolding atLeast integer
 list-good least E P good l =
-    let on = counted-good E P good (guard (number 4) (λ n. leb least n) emptyList) l in (
+    let on = counted-good E P good (guard (integer 4) (λ n. leb least n) emptyList) l in (
       λ h.
           let ((count, some), p) = on .0 h in
           (leb-true least (length l) some, count, p),
@@ -194,7 +197,7 @@ states-good l =
 
 -- ---- what a type has of its own
 
-pub own-good : (most : ℕ) (k : Kind) (w : Value (ownPlan k)) → form most (ownPlan k) .Good w ↔ GoodOwn (ownOf k w)
+pub own-good : (most : ℕ) (k : TransactionType) (w : Value (ownPlan k)) → form most (ownPlan k) .Good w ↔ GoodOwn (ownOf k w)
 unfolding ownOf form blob
 own-good most K.Base w = (λ h. tt, λ g. refl)
 own-good most K.CreateAsset (name, (symbol, (denomination, (list, w)))) = (
@@ -207,7 +210,10 @@ own-good most K.CreateAsset (name, (symbol, (denomination, (list, w)))) = (
       },
   λ g. (
     text-good 128 (omega arith) name .1 (g .name-good),
-    (text-good 4 (omega arith) symbol .1 (g .symbol-good), (denomination-good denomination .1 (g .denomination-good), (states-good list .1 (g .states-good), refl))),
+    (
+      text-good 4 (omega arith) symbol .1 (g .symbol-good),
+      (denomination-good denomination .1 (g .denomination-good), (states-good list .1 (g .states-good), refl)),
+    ),
   ),
 )
 own-good most K.Operation (list, w) = (λ h. operations-good list .0 (h .0), λ g. (operations-good list .1 g, refl))
@@ -236,7 +242,7 @@ unfolding asked
 asked-one f [] = refl
 asked-one f (a ∷ l) = ap (λ (ws : List Want). f a ∷ ws) (asked-one f l)
 
-own-wanted : (k : Kind) (w : Value (ownPlan k)) → wanted (ownPlan k) w ≡ ownWants (ownOf k w)
+own-wanted : (k : TransactionType) (w : Value (ownPlan k)) → wanted (ownPlan k) w ≡ ownWants (ownOf k w)
 unfolding ownOf wanted
 own-wanted K.Base w = refl
 own-wanted K.CreateAsset (name, (symbol, (denomination, (list, w)))) = append-nil _ ∙ asked-none list
@@ -249,7 +255,7 @@ pub wants-credentials : (most : ℕ) (v : Signed (avm most)) → wants (avm most
 unfolding wants reading
 wants-credentials most ((h, (outs, (ins, (memo, own)))), signatures) =
     ap₂ (λ (a b : List Want). a ++ b) (asked-none outs)
-    (ap₂ (λ (a b : List Want). a ++ b) (asked-one inputWant ins) (own-wanted (h .kind) own))
+    (ap₂ (λ (a b : List Want). a ++ b) (asked-one inputWant ins) (own-wanted (h .type) own))
 
 -- their counts are those of indices, which have 32 bits
 all-append : {A : Type 0} (P : A → Type 0) (a b : List A) → All P a → All P b → All P (a ++ b)
@@ -272,30 +278,30 @@ own-narrow (exportTo chain list) g = tt
 
 -- ---- the whole
 
-kindCode-fits : (k : Kind) → kindCode k < 256 ^ 4
-kindCode-fits K.Base = omega arith
-kindCode-fits K.CreateAsset = omega arith
-kindCode-fits K.Operation = omega arith
-kindCode-fits K.Import = omega arith
-kindCode-fits K.Export = omega arith
+typeId-fits : (k : TransactionType) → typeId k < 256 ^ 4
+typeId-fits K.Base = omega arith
+typeId-fits K.CreateAsset = omega arith
+typeId-fits K.Operation = omega arith
+typeId-fits K.Import = omega arith
+typeId-fits K.Export = omega arith
 
-kind-listed : (k : Kind) → OneOf k kinds
-kind-listed K.Base = inl refl
-kind-listed K.CreateAsset = inr (inl refl)
-kind-listed K.Operation = inr (inr (inl refl))
-kind-listed K.Import = inr (inr (inr (inl refl)))
-kind-listed K.Export = inr (inr (inr (inr (inl refl))))
+type-listed : (k : TransactionType) → OneOf k types
+type-listed K.Base = inl refl
+type-listed K.CreateAsset = inr (inl refl)
+type-listed K.Operation = inr (inr (inl refl))
+type-listed K.Import = inr (inr (inr (inl refl)))
+type-listed K.Export = inr (inr (inr (inr (inl refl))))
 
 -- codec and type take nothing away: every type is one of the five
-pub head-good : (most : ℕ) (h : Head Kind) → head (avm most) .Good h ↔ ((h .network < 256 ^ 4) × Sized 32 (h .chain))
-unfolding head number blob
+pub head-good : (most : ℕ) (h : Head TransactionType) → head (avm most) .Good h ↔ ((h .network < 256 ^ 4) × Sized 32 (h .chain))
+unfolding head integer blob
 head-good most h = (
   λ g. g .1 .1,
   λ g. (
     constant-good 2 0 wrongCodec .1 (omega arith),
     (
-      tag-good kindCode kindOf kindOf-code (number 4) kinds unknownType (h .kind) (kindCode-fits (h .kind)) .1
-          (kind-listed (h .kind)),
+      tag-good typeId typeOf typeOf-id (integer 4) types unknownType (h .type) (typeId-fits (h .type)) .1
+          (type-listed (h .type)),
       g,
     ),
   ),
@@ -318,7 +324,7 @@ transaction-good most ((h, (outs, (ins, (memo, own)))), signatures) = (
               memo = note;
               memo-length = length-fits;
             };
-        own = own-good most (h .kind) own .0 (g .0 .1 .1 .1 .1);
+        own = own-good most (h .type) own .0 (g .0 .1 .1 .1 .1);
         credentials = credentials;
         count = count;
         signatures = sized;
@@ -330,7 +336,7 @@ transaction-good most ((h, (outs, (ins, (memo, own)))), signatures) = (
         outputs-good 0 outs .1 (omega arith, g .base .outputs),
         (
           inputs-good 0 ins .1 (omega arith, g .base .inputs),
-          (string-good 4 most memo .1 (g .base .memo, g .base .memo-length), own-good most (h .kind) own .1 (g .own)),
+          (string-good 4 most memo .1 (g .base .memo, g .base .memo-length), own-good most (h .type) own .1 (g .own)),
         ),
       ),
     ),
@@ -346,6 +352,6 @@ transaction-good most ((h, (outs, (ins, (memo, own)))), signatures) = (
 
     narrow : GoodTransaction most t → All Narrow (credentialsOf t)
     narrow g =
-        all-append Narrow (map inputWant ins) (ownWants (ownOf (h .kind) own))
+        all-append Narrow (map inputWant ins) (ownWants (ownOf (h .type) own))
         (all-map inputWant GoodInput Narrow (λ i k. k .indices .count) ins (g .base .inputs .each))
-        (own-narrow (ownOf (h .kind) own) (g .own))
+        (own-narrow (ownOf (h .type) own) (g .own))

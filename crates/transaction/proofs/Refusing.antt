@@ -5,13 +5,15 @@ use mathlib.Core.List.{List, [], _∷_}
 use lib.ListN.{take}
 use lib.Dec.{leb}
 use Rattle.wire.specs.declared.Rule.{Rule}
-use Rattle.wire.specs.Numbers.{numberOf, ReadingRule, ruleOf, cutShort, wrongCodec, unknownType, zeroAmount, outOfOrder, badThreshold, badLength, notPrintable, badDenomination, emptyList, wrongCount}
+use Rattle.wire.specs.Numbers.{numberOf, ReadingRule, ruleOf, cutShort, wrongCodec, unknownType, zeroAmount, outOfOrder, badThreshold, badLength}
+use Rattle.wire.specs.Numbers.{notPrintable, badDenomination, emptyList, wrongCount}
 use Rattle.wire.specs.Format.{refused}
 use Rattle.wire.specs.declared.Refusal.{Refusal}
-use Rattle.wire.specs.Fields.{number, blob, constant}
+use Rattle.wire.specs.Fields.{integer, blob, constant}
 use Rattle.wire.specs.Sequence.{andThen, guard, tag}
 use Rattle.wire.specs.Orders.{OneOf}
-use Rattle.wire.proofs.Refusing.{RefusesBy, NumberIn, one-of, blob-refuses, number-refuses, constant-refuses, then-refuses, guard-refuses, mapped-refuses, only-refuses, tag-refuses, notBelow-refuses, counted-refuses, whole-refuses}
+use Rattle.wire.proofs.Refusing.{RefusesBy, NumberIn, one-of, blob-refuses, integer-refuses, constant-refuses, then-refuses, guard-refuses}
+use Rattle.wire.proofs.Refusing.{mapped-refuses, only-refuses, tag-refuses, notBelow-refuses, counted-refuses, whole-refuses}
 use Rattle.string.proofs.Refusing.{string-refuses, text-refuses, denomination-refuses}
 use Rattle.wire.specs.Series.{notBelow}
 use Rattle.element.specs.Outputs.{transferableOutput}
@@ -34,15 +36,15 @@ module _ (P : Rule → Type 0) (short : P (ruleOf cutShort)) where
     head-refuses =
         mapped-refuses P
         (andThen (constant 2 0 wrongCodec) (λ codec.
-        andThen (tag (F .code) (F .kind) (F .kind-code) (number 4) (F .kinds) unknownType) (λ k.
-        andThen (number 4) (λ network. blob 32))))
-        (λ (codec, (k, (network, chain))). record { kind = k; network = network; chain = chain })
+        andThen (tag (F .typeId) (F .typeOf) (F .typeOf-id) (integer 4) (F .types) unknownType) (λ k.
+        andThen (integer 4) (λ network. blob 32))))
+        (λ (codec, (k, (network, chain))). record { type = k; network = network; chain = chain })
         (then-refuses P (constant 2 0 wrongCodec) (λ codec.
-        andThen (tag (F .code) (F .kind) (F .kind-code) (number 4) (F .kinds) unknownType) (λ k.
-        andThen (number 4) (λ network. blob 32))) (constant-refuses P 2 0 wrongCodec short codec) λ u.
-        then-refuses P (tag (F .code) (F .kind) (F .kind-code) (number 4) (F .kinds) unknownType) (λ k. andThen (number 4) (λ network. blob 32))
-        (tag-refuses P (F .code) (F .kind) (F .kind-code) (number 4) (F .kinds) unknownType (number-refuses P 4 short) type) λ k.
-        then-refuses P (number 4) (λ network. blob 32) (number-refuses P 4 short) (λ network. blob-refuses P 32 short))
+        andThen (tag (F .typeId) (F .typeOf) (F .typeOf-id) (integer 4) (F .types) unknownType) (λ k.
+        andThen (integer 4) (λ network. blob 32))) (constant-refuses P 2 0 wrongCodec short codec) λ u.
+        then-refuses P (tag (F .typeId) (F .typeOf) (F .typeOf-id) (integer 4) (F .types) unknownType) (λ k. andThen (integer 4) (λ network. blob 32))
+        (tag-refuses P (F .typeId) (F .typeOf) (F .typeOf-id) (integer 4) (F .types) unknownType (integer-refuses P 4 short) type) λ k.
+        then-refuses P (integer 4) (λ network. blob 32) (integer-refuses P 4 short) (λ network. blob-refuses P 32 short))
 
   module _ (type : P (ruleOf unknownType)) (zero : P (ruleOf zeroAmount)) (order : P (ruleOf outOfOrder)) (threshold : P (ruleOf badThreshold))
       (long : P (ruleOf badLength)) (print : P (ruleOf notPrintable)) (denomination : P (ruleOf badDenomination)) where
@@ -75,8 +77,8 @@ module _ (P : Rule → Type 0) (short : P (ruleOf cutShort)) where
       list-refuses : (l : ListName) (least : ℕ) → RefusesBy (listOf l least) P
       unfolding atLeast
       list-refuses l least =
-          counted-refuses P (guard (number 4) (λ n. leb least n) emptyList) (elementsOf l .element)
-          (guard-refuses P (number 4) (λ n. leb least n) emptyList (number-refuses P 4 short) none) (elements-refuse l)
+          counted-refuses P (guard (integer 4) (λ n. leb least n) emptyList) (elementsOf l .element)
+          (guard-refuses P (integer 4) (λ n. leb least n) emptyList (integer-refuses P 4 short) none) (elements-refuse l)
 
       form-refuses : (most : ℕ) (p : Plan) → RefusesBy (form most p) P
       unfolding form
@@ -88,8 +90,8 @@ module _ (P : Rule → Type 0) (short : P (ruleOf cutShort)) where
       unsigned-refuses : (F : Family) → P (ruleOf wrongCodec) → RefusesBy (unsigned F) P
       unfolding unsigned
       unsigned-refuses F codec =
-          then-refuses P (head F) (λ v. form (F .memoMost) (F .plan (v .kind))) (head-refuses F codec type)
-          (λ v. form-refuses (F .memoMost) (F .plan (v .kind)))
+          then-refuses P (head F) (λ v. form (F .memoMost) (F .plan (v .type))) (head-refuses F codec type)
+          (λ v. form-refuses (F .memoMost) (F .plan (v .type)))
 
 -- every rule but that of the credentials' counts
 abbrev pub unsignedNumbers : List ℕ

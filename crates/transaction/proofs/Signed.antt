@@ -61,7 +61,13 @@ module _ {U : Type 0} (body : Format U) (wants : U → List Want) where
 
     pub length-eq : length d ≡ length (body .write u) + size (layout (wants u))
     unfolding assemble credentials
-    length-eq = omega (arith, ap length (p .same), length-append (body .write u) (pieces (layout (wants u)) .write l), length-pieces (layout (wants u)) l (p .signatures-good))
+    length-eq = omega (
+      arith,
+      ap length (p .same),
+      length-append (body .write u) (pieces (layout (wants u)) .write l),
+      length-pieces (layout (wants u)) l
+          (p .signatures-good),
+    )
 
     pub count-eq : length (slotsAt body wants d) ≡ total (wants u)
     count-eq = ap length slots-eq ∙ count-layout (wants u) (length (body .write u))

@@ -48,11 +48,12 @@ module _ (most : ℕ) where
   checked-refused s e q = ap verdict (refused-check s e q)
 
   -- what was read, where the lists are, and how many bytes there are
-  pub checked-accepted : (s : List ℕ) (w : Layout) (n : ℕ) → C.Accepted w n ≡ checked most s → (v : Signed (avm most)) × (check (avm most) s ≡ took v n) × (w ≡ layout most (v .0))
+  pub checked-accepted : (s : List ℕ) (w : Layout) (n : ℕ) → C.Accepted w n ≡ checked most s
+      → (v : Signed (avm most)) × (check (avm most) s ≡ took v n) × (w ≡ layout most (v .0))
   checked-accepted s w n = accepted-inv (λ v. layout most (v .0)) (check (avm most) s) w n
 
   -- ---- where the credentials' count stands
 
   pub layout-credentials : (u : Unsigned (avm most)) → layout most u .«credentials_at» ≡ length (unsigned (avm most) .write u)
   unfolding unsigned
-  layout-credentials (h, v) = sym (length-append (head (avm most) .write h) (form most (plan (h .kind)) .write v))
+  layout-credentials (h, v) = sym (length-append (head (avm most) .write h) (form most (plan (h .type)) .write v))

@@ -12,13 +12,13 @@ use Rattle.transaction.specs.Form.{Value}
 use Rattle.transaction.specs.Family.{Signed, check, accepted}
 use Rattle.transaction.specs.Avm.{avm}
 use Rattle.transaction.specs.Transaction.{Own, plain, createAsset, operate, importFrom, exportTo, Transaction, GoodTransaction}
-use Rattle.transaction.specs.Layout.{bytesOf}
-use Rattle.transaction.specs.declared.Kind.{Kind}
-use Rattle.transaction.specs.declared.Kind.the-variants as K
+use Rattle.transaction.specs.PlainBytes.{bytesOf}
+use Rattle.transaction.specs.declared.TransactionType.{TransactionType}
+use Rattle.transaction.specs.declared.TransactionType.the-variants as K
 
 -- ---- the transaction that a value of the signed format is, and the value that a transaction is
 
-unfoldable pub ownOf : (k : Kind) → Value (ownPlan k) → Own
+unfoldable pub ownOf : (k : TransactionType) → Value (ownPlan k) → Own
 ownOf K.Base v = plain
 ownOf K.CreateAsset (name, (symbol, (denomination, (list, v)))) = createAsset name symbol denomination list
 ownOf K.Operation (list, v) = operate list
@@ -30,18 +30,18 @@ unfolding ownOf
 reading most ((h, (outs, (ins, (memo, own)))), signatures) =
     record {
       base = record { network = h .network; chain = h .chain; outputs = outs; inputs = ins; memo = memo };
-      own = ownOf (h .kind) own;
+      own = ownOf (h .type) own;
       signatures = signatures;
     }
 
-abbrev pub kindOwn : Own → Kind
-kindOwn plain = K.Base
-kindOwn (createAsset name symbol denomination states) = K.CreateAsset
-kindOwn (operate operations) = K.Operation
-kindOwn (importFrom chain inputs) = K.Import
-kindOwn (exportTo chain outputs) = K.Export
+abbrev pub ownType : Own → TransactionType
+ownType plain = K.Base
+ownType (createAsset name symbol denomination states) = K.CreateAsset
+ownType (operate operations) = K.Operation
+ownType (importFrom chain inputs) = K.Import
+ownType (exportTo chain outputs) = K.Export
 
-unfoldable pub ownValue : (o : Own) → Value (ownPlan (kindOwn o))
+unfoldable pub ownValue : (o : Own) → Value (ownPlan (ownType o))
 ownValue plain = tt
 ownValue (createAsset name symbol denomination list) = (name, (symbol, (denomination, (list, tt))))
 ownValue (operate list) = (list, tt)
@@ -53,7 +53,7 @@ unfolding ownValue
 valueOf most t =
     let b = t .base in (
       (
-        record { kind = kindOwn (t .own); network = b .network; chain = b .chain },
+        record { type = ownType (t .own); network = b .network; chain = b .chain },
         (b .outputs, (b .inputs, (b .memo, ownValue (t .own)))),
       ),
       t .signatures,

@@ -8,15 +8,15 @@ use Rattle.wire.specs.Bytes.{pick}
 use Rattle.wire.specs.Numbers.{refusal, numberOf, bytesAfterEnd}
 use Rattle.wire.specs.Format.{took, onResult, read}
 use Rattle.wire.specs.Answer.{ended}
-use Rattle.wire.specs.declared.Part.{Part}
-use Rattle.wire.specs.declared.Number.{Number}
-use Rattle.wire.specs.declared.Number.the-variants as M
+use Rattle.wire.specs.declared.End.{End}
+use Rattle.wire.specs.declared.Integer.{Integer}
+use Rattle.wire.specs.declared.Integer.the-variants as M
 use Rattle.transaction.specs.Credentials.{credentials}
-use Rattle.transaction.specs.Plan.{kindCode, plan}
+use Rattle.transaction.specs.Plan.{typeId, plan}
 use Rattle.transaction.specs.Form.{listOf, Value, form, wanted}
 use Rattle.transaction.specs.Family.{head, Unsigned, unsigned, wants, check}
 use Rattle.transaction.specs.Avm.{avm}
-use Rattle.transaction.specs.declared.Kind.{Kind}
+use Rattle.transaction.specs.declared.TransactionType.{TransactionType}
 use Rattle.transaction.specs.declared.ListName.{ListName}
 use Rattle.transaction.specs.declared.ListName.the-variants as N
 use Rattle.transaction.specs.declared.Layout.{Layout}
@@ -30,38 +30,38 @@ abbrev pub memoMost : ℕ
 memoMost = 256
 
 -- a list: how many elements it has, and the place behind them
-abbrev pub listAt : ListName → ℕ → List ℕ → ℕ → Number
-listAt l least s at = listOf l least .run s at M.Refused (λ v n. M.Value (length v) n)
+abbrev pub listAt : ListName → ℕ → List ℕ → ℕ → Integer
+listAt l least s at = listOf l least .parse s at M.Refused (λ v n. M.Value (length v) n)
 
 -- codec, type, network, chain id, in which the memo's limit plays no part: the type's number, and the place behind them
-abbrev pub headAt : List ℕ → ℕ → Number
-headAt s at = head (avm memoMost) .run s at M.Refused (λ h n. M.Value (kindCode (h .kind)) n)
+abbrev pub headAt : List ℕ → ℕ → Integer
+headAt s at = head (avm memoMost) .parse s at M.Refused (λ h n. M.Value (typeId (h .type)) n)
 
 -- ---- with memos of at most `most` bytes
 
 module _ (most : ℕ) where
   -- what is known of a transaction whose outputs' count is at `at`
-  abbrev pub layoutFrom : (k : Kind) → ℕ → Value (plan k) → Layout
+  abbrev pub layoutFrom : (k : TransactionType) → ℕ → Value (plan k) → Layout
   layoutFrom k at v =
       record {
-        kind = kindCode k;
+        «type_id» = typeId k;
         «inputs_at» = at + length (listOf N.Output 0 .write (v .0));
         «credentials_count» = length (wanted (plan k) v);
         «credentials_at» = at + length (form most (plan k) .write v);
       }
 
   abbrev pub layout : Unsigned (avm most) → Layout
-  layout u = layoutFrom (u .0 .kind) (length (head (avm most) .write (u .0))) (u .1)
+  layout u = layoutFrom (u .0 .type) (length (head (avm most) .write (u .0))) (u .1)
 
   abbrev pub unsignedAt : List ℕ → UnsignedRead
-  unsignedAt s = unsigned (avm most) .run s 0 U.Refused (λ u n. U.Whole (layout u))
+  unsignedAt s = unsigned (avm most) .parse s 0 U.Refused (λ u n. U.Whole (layout u))
 
   -- the check
   abbrev pub checked : List ℕ → Checked
   checked s = onResult (check (avm most) s) C.Refused (λ v n. C.Accepted (layout (v .0)) n)
 
 -- the credentials behind an unsigned part that was read
-abbrev pub CredentialsAt : Layout → List ℕ → Part → Type 0
+abbrev pub CredentialsAt : Layout → List ℕ → End → Type 0
 CredentialsAt w s r =
     (most : ℕ) (u : Unsigned (avm most)) (at : ℕ) → read (unsigned (avm most)) s 0 ≡ took u at → w ≡ layout most u
     → r ≡ ended (credentials (wants (avm most) u)) s at
@@ -70,7 +70,7 @@ CredentialsAt w s r =
 abbrev pub SignedAt : Layout → List ℕ → Checked → Type 0
 SignedAt w s r =
     (most : ℕ) (u : Unsigned (avm most)) (at : ℕ) → read (unsigned (avm most)) s 0 ≡ took u at → w ≡ layout most u
-    → r ≡ credentials (wants (avm most) u) .run s at C.Refused (λ l n. pick (eqb n (length s)) (C.Accepted w n) (C.Refused (refusal bytesAfterEnd n)))
+    → r ≡ credentials (wants (avm most) u) .parse s at C.Refused (λ l n. pick (eqb n (length s)) (C.Accepted w n) (C.Refused (refusal bytesAfterEnd n)))
 
 -- the number and the place that an answer reports: accepted is 0, with the bytes of the transaction
 abbrev pub checkedNumber : Checked → ℕ

@@ -32,4 +32,5 @@ pub record Codec (F : Family) : Type 0 where
   -- a refusal's place is inside the bytes, or at their end
   pub refused-at : (s : List ℕ) (e : Refusal) → Bytes s → check F s ≡ refused e → e .place ≤ length s
   -- the unsigned part is read the same from any bytes that start the same
-  pub unsigned-local : (s t : List ℕ) (u : Unsigned F) (n : ℕ) → Bytes s → read (unsigned F) s 0 ≡ took u n → take n t ≡ take n s → read (unsigned F) t 0 ≡ took u n
+  pub unsigned-local : (s t : List ℕ) (u : Unsigned F) (n : ℕ) → Bytes s → read (unsigned F) s 0 ≡ took u n → take n t ≡ take n s
+      → read (unsigned F) t 0 ≡ took u n

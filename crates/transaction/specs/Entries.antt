@@ -54,7 +54,8 @@ abbrev pub outputEntry : ℕ → ℕ → TransferableOutput → List EntryAt
 outputEntry at end o = record { fields = E.Output (outputFields (at + 32) end (o .output)); start = at; end = end; asset = o .asset; txid = noId } ∷ []
 
 abbrev pub exportedEntry : ℕ → ℕ → TransferableOutput → List EntryAt
-exportedEntry at end o = record { fields = E.ExportedOutput (outputFields (at + 32) end (o .output)); start = at; end = end; asset = o .asset; txid = noId } ∷ []
+exportedEntry at end o =
+    record { fields = E.ExportedOutput (outputFields (at + 32) end (o .output)); start = at; end = end; asset = o .asset; txid = noId } ∷ []
 
 abbrev pub inputEntry : ℕ → ℕ → Input → List EntryAt
 inputEntry at end i = record { fields = E.Input (inputFields end i); start = at; end = end; asset = i .asset; txid = i .txid } ∷ []

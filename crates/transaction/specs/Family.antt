@@ -8,7 +8,7 @@ use mathlib.Core.Option.{Option}
 use lib.ListN.{length}
 use Rattle.wire.specs.Numbers.{wrongCodec, unknownType}
 use Rattle.wire.specs.Format.{Format, Result}
-use Rattle.wire.specs.Fields.{number, blob, constant}
+use Rattle.wire.specs.Fields.{integer, blob, constant}
 use Rattle.wire.specs.Sequence.{andThen, named, tag}
 use Rattle.transaction.specs.Credentials.{Want}
 use Rattle.transaction.specs.Entries.{EntryAt, nth, credentialEntries}
@@ -17,45 +17,45 @@ use Rattle.transaction.specs.Form.{Value, form, wanted, planEntries}
 use Rattle.transaction.specs.Signed as Any
 
 pub record Family : Type 1 where
-  pub Kind : Type 0
-  pub code : Kind → ℕ
-  pub kind : ℕ → Kind
-  pub kind-code : (k : Kind) → kind (code k) ≡ k
-  pub kinds : List Kind
-  pub plan : Kind → Plan
+  pub TransactionType : Type 0
+  pub typeId : TransactionType → ℕ
+  pub typeOf : ℕ → TransactionType
+  pub typeOf-id : (k : TransactionType) → typeOf (typeId k) ≡ k
+  pub types : List TransactionType
+  pub plan : TransactionType → Plan
   -- the most bytes that a memo has
   pub memoMost : ℕ
 
 -- codec, type, network, chain id
 pub record Head (K : Type 0) : Type 0 where
-  pub kind : K
+  pub type : K
   pub network : ℕ
   pub chain : List ℕ
 
 module _ (F : Family) where
-  unfoldable pub head : Format (Head (F .Kind))
+  unfoldable pub head : Format (Head (F .TransactionType))
   unfolding named andThen
   head =
       named
       (andThen (constant 2 0 wrongCodec) (λ codec.
-      andThen (tag (F .code) (F .kind) (F .kind-code) (number 4) (F .kinds) unknownType) (λ k.
-      andThen (number 4) (λ network.
+      andThen (tag (F .typeId) (F .typeOf) (F .typeOf-id) (integer 4) (F .types) unknownType) (λ k.
+      andThen (integer 4) (λ network.
       blob 32))))
-      (λ (codec, (k, (network, chain))). record { kind = k; network = network; chain = chain })
-      (λ h. (tt, (h .kind, (h .network, h .chain))))
+      (λ (codec, (k, (network, chain))). record { type = k; network = network; chain = chain })
+      (λ h. (tt, (h .type, (h .network, h .chain))))
       (λ v h. refl)
       (λ h. refl)
 
   abbrev pub Unsigned : Type 0
-  Unsigned = (h : Head (F .Kind)) × Value (F .plan (h .kind))
+  Unsigned = (h : Head (F .TransactionType)) × Value (F .plan (h .type))
 
   unfoldable pub unsigned : Format Unsigned
   unfolding andThen
-  unsigned = andThen head (λ h. form (F .memoMost) (F .plan (h .kind)))
+  unsigned = andThen head (λ h. form (F .memoMost) (F .plan (h .type)))
 
   unfoldable pub wants : Unsigned → List Want
   unfolding wanted
-  wants u = wanted (F .plan (u .0 .kind)) (u .1)
+  wants u = wanted (F .plan (u .0 .type)) (u .1)
 
   abbrev pub Signed : Type 0
   Signed = Unsigned × List (List ℕ)
@@ -73,7 +73,7 @@ module _ (F : Family) where
   unfoldable pub entries : Signed → List EntryAt
   unfolding planEntries credentialEntries
   entries (u, l) =
-      planEntries (F .memoMost) (F .plan (u .0 .kind)) (u .1) (length (head .write (u .0)))
+      planEntries (F .memoMost) (F .plan (u .0 .type)) (u .1) (length (head .write (u .0)))
       ++ credentialEntries (wants u) (length (unsigned .write u) + 4)
 
   abbrev pub entry : Signed → ℕ → Option EntryAt

@@ -5,9 +5,9 @@ use lib.ListN.{length}
 use lib.Dec.{leb}
 use Rattle.wire.specs.Numbers.{emptyList}
 use Rattle.wire.specs.Format.{Format}
-use Rattle.wire.specs.Fields.{number}
+use Rattle.wire.specs.Fields.{integer}
 use Rattle.wire.specs.Sequence.{andThen, guard, only}
-use Rattle.wire.specs.Series.{counted}
+use Rattle.wire.specs.Series.{countPrefixed}
 use Rattle.transaction.specs.Credentials.{Want}
 use Rattle.transaction.specs.Entries.{EntryAt, entriesFrom}
 use Rattle.transaction.specs.Plan.{Plan, shut, end, field, many, Content, contentOf, wantOf, fieldCredential, fieldSignatures, elementsOf}
@@ -16,8 +16,8 @@ use Rattle.transaction.specs.declared.ListName.{ListName}
 
 -- a count of at least `least`, and as many elements
 unfoldable pub atLeast : {A : Type 0} → ℕ → (List ℕ → Format A) → Format (List A)
-unfolding counted guard
-atLeast least E = counted (guard (number 4) (λ n. leb least n) emptyList) E
+unfolding countPrefixed guard
+atLeast least E = countPrefixed (guard (integer 4) (λ n. leb least n) emptyList) E
 
 abbrev pub listOf : (l : ListName) → ℕ → Format (List (elementsOf l .Element))
 listOf l least = atLeast least (elementsOf l .element)

@@ -11,5 +11,5 @@ pub mod Codec
 pub mod FirstBroken
 pub mod Answer
 pub mod Transaction
-pub mod Layout
+pub mod PlainBytes
 pub mod Accepted

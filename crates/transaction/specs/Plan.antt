@@ -11,7 +11,7 @@ use lib.ListN.{length, length-append}
 use lib.Dec.{eqb}
 use Rattle.wire.specs.Bytes.{pick}
 use Rattle.wire.specs.Format.{Format}
-use Rattle.wire.specs.Fields.{number, length-number, blob}
+use Rattle.wire.specs.Fields.{integer, length-integer, blob}
 use Rattle.wire.specs.Sequence.{guard, listed}
 use Rattle.wire.specs.Series.{notBelow}
 use Rattle.string.specs.Strings.{memo, name, symbol, denomination}
@@ -20,8 +20,8 @@ use Rattle.element.specs.Inputs.{Input, key, inputAfter, input}
 use Rattle.element.specs.Operations.{Operation, operation, InitialState, fxCode, fxId, initialStateAfter, initialState}
 use Rattle.transaction.specs.Credentials.{CredentialType, secpCredential, nftCredential, Want}
 use Rattle.transaction.specs.Entries.{EntryAt, outputEntry, exportedEntry, inputEntry, importedEntry, operationEntry, stateEntries}
-use Rattle.transaction.specs.declared.Kind.{Kind}
-use Rattle.transaction.specs.declared.Kind.the-variants as K
+use Rattle.transaction.specs.declared.TransactionType.{TransactionType}
+use Rattle.transaction.specs.declared.TransactionType.the-variants as K
 use Rattle.transaction.specs.declared.FieldName.{FieldName}
 use Rattle.transaction.specs.declared.FieldName.the-variants as F
 use Rattle.transaction.specs.declared.ListName.{ListName}
@@ -34,7 +34,7 @@ pub record Elements : Type 1 where
   pub Element : Type 0
   pub element : List ℕ → Format Element
   -- no element is of no bytes
-  pub solid : (prev : List ℕ) (v : Element) → element prev .Good v → 0 < length (element prev .write v)
+  pub nonEmpty : (prev : List ℕ) (v : Element) → element prev .Good v → 0 < length (element prev .write v)
   -- the credential that each asks for, if they do, and of how many signatures
   pub credential : Option CredentialType
   pub signatures : Element → ℕ
@@ -50,21 +50,23 @@ wantOf (some t) n = record { type = t; signatures = n } ∷ []
 longer : (a b : List ℕ) (n : ℕ) → length a ≡ suc n → 0 < length (a ++ b)
 longer a b n h = omega (arith, length-append a b)
 
-pub output-solid : (prev : List ℕ) (v : TransferableOutput) → notBelow transferableOutput prev .Good v → 0 < length (notBelow transferableOutput prev .write v)
+pub output-nonEmpty : (prev : List ℕ) (v : TransferableOutput) → notBelow transferableOutput prev .Good v
+    → 0 < length (notBelow transferableOutput prev .write v)
 unfolding guard transferableOutput blob
-output-solid prev v h = longer (v .asset) _ 31 (h .0 .0 .0)
+output-nonEmpty prev v h = longer (v .asset) _ 31 (h .0 .0 .0)
 
-pub input-solid : (prev : List ℕ) (v : Input) → input prev .Good v → 0 < length (input prev .write v)
+pub input-nonEmpty : (prev : List ℕ) (v : Input) → input prev .Good v → 0 < length (input prev .write v)
 unfolding inputAfter guard key blob
-input-solid prev v h = longer (v .txid ++ number 4 .write (v .index)) _ 35 (omega (arith, h .0 .0 .0 .0, length-append (v .txid) (number 4 .write (v .index)), length-number 4 (v .index)))
+input-nonEmpty prev v h = longer (v .txid ++ integer 4 .write (v .index)) _ 35
+    (omega (arith, h .0 .0 .0 .0, length-append (v .txid) (integer 4 .write (v .index)), length-integer 4 (v .index)))
 
-pub operation-solid : (prev : List ℕ) (v : Operation) → operation .Good v → 0 < length (operation .write v)
+pub operation-nonEmpty : (prev : List ℕ) (v : Operation) → operation .Good v → 0 < length (operation .write v)
 unfolding operation blob
-operation-solid prev v h = longer (v .asset) _ 31 (h .0 .0)
+operation-nonEmpty prev v h = longer (v .asset) _ 31 (h .0 .0)
 
-pub state-solid : (prev : List ℕ) (v : InitialState) → initialState prev .Good v → 0 < length (initialState prev .write v)
+pub state-nonEmpty : (prev : List ℕ) (v : InitialState) → initialState prev .Good v → 0 < length (initialState prev .write v)
 unfolding initialStateAfter guard fxId
-state-solid prev v h = longer (number 4 .write (fxCode (v .fx))) _ 3 (length-number 4 (fxCode (v .fx)))
+state-nonEmpty prev v h = longer (integer 4 .write (fxCode (v .fx))) _ 3 (length-integer 4 (fxCode (v .fx)))
 
 -- ---- fields
 
@@ -106,7 +108,7 @@ outputs entry =
     record {
       Element = TransferableOutput;
       element = notBelow transferableOutput;
-      solid = output-solid;
+      nonEmpty = output-nonEmpty;
       credential = none;
       signatures = λ v. 0;
       entries = entry;
@@ -118,7 +120,7 @@ inputs entry =
     record {
       Element = Input;
       element = input;
-      solid = input-solid;
+      nonEmpty = input-nonEmpty;
       credential = some secpCredential;
       signatures = λ v. length (v .indices);
       entries = entry;
@@ -130,7 +132,7 @@ operations =
     record {
       Element = Operation;
       element = λ prev. operation;
-      solid = operation-solid;
+      nonEmpty = operation-nonEmpty;
       credential = some nftCredential;
       signatures = λ v. length (v .terms .0);
       entries = operationEntry;
@@ -142,7 +144,7 @@ states =
     record {
       Element = InitialState;
       element = initialState;
-      solid = state-solid;
+      nonEmpty = state-nonEmpty;
       credential = none;
       signatures = λ v. 0;
       entries = stateEntries;
@@ -165,7 +167,7 @@ pub data Plan : Type 0 where
   many : ListName → ℕ → Plan → Plan
 
 -- what a type has behind the memo
-abbrev pub ownPlan : Kind → Plan
+abbrev pub ownPlan : TransactionType → Plan
 ownPlan K.Base = end
 ownPlan K.CreateAsset = field F.Name (field F.Symbol (field F.Denomination (many L.State 1 end)))
 ownPlan K.Operation = many L.Operation 1 end
@@ -173,33 +175,33 @@ ownPlan K.Import = field F.Chain (many L.Imported 1 end)
 ownPlan K.Export = field F.Chain (many L.Exported 1 end)
 
 -- outputs, inputs and memo in every type
-abbrev pub plan : Kind → Plan
+abbrev pub plan : TransactionType → Plan
 plan k = many L.Output 0 (many L.Input 0 (field F.Memo (ownPlan k)))
 
 -- ---- the types' numbers; between them there may be others
 
-abbrev pub kindCode : Kind → ℕ
-kindCode K.Base = 0
-kindCode K.CreateAsset = 1
-kindCode K.Operation = 2
-kindCode K.Import = 3
-kindCode K.Export = 4
+abbrev pub typeId : TransactionType → ℕ
+typeId K.Base = 0
+typeId K.CreateAsset = 1
+typeId K.Operation = 2
+typeId K.Import = 3
+typeId K.Export = 4
 
-abbrev pub kindOf : ℕ → Kind
-kindOf n = pick (eqb n 0) K.Base (pick (eqb n 1) K.CreateAsset (pick (eqb n 2) K.Operation (pick (eqb n 3) K.Import K.Export)))
+abbrev pub typeOf : ℕ → TransactionType
+typeOf n = pick (eqb n 0) K.Base (pick (eqb n 1) K.CreateAsset (pick (eqb n 2) K.Operation (pick (eqb n 3) K.Import K.Export)))
 
-pub kindOf-code : (k : Kind) → kindOf (kindCode k) ≡ k
-kindOf-code K.Base = refl
-kindOf-code K.CreateAsset = refl
-kindOf-code K.Operation = refl
-kindOf-code K.Import = refl
-kindOf-code K.Export = refl
+pub typeOf-id : (k : TransactionType) → typeOf (typeId k) ≡ k
+typeOf-id K.Base = refl
+typeOf-id K.CreateAsset = refl
+typeOf-id K.Operation = refl
+typeOf-id K.Import = refl
+typeOf-id K.Export = refl
 
-abbrev pub kinds : List Kind
-kinds = K.Base ∷ K.CreateAsset ∷ K.Operation ∷ K.Import ∷ K.Export ∷ []
+abbrev pub types : List TransactionType
+types = K.Base ∷ K.CreateAsset ∷ K.Operation ∷ K.Import ∷ K.Export ∷ []
 
-abbrev pub isKind : ℕ → Bool
-isKind n = listed kindCode kinds n
+abbrev pub isType : ℕ → Bool
+isType n = listed typeId types n
 
 abbrev pub planOf : ℕ → Plan
-planOf n = plan (kindOf n)
+planOf n = plan (typeOf n)

@@ -20,12 +20,12 @@ unfoldable pub slotAt : List ℕ → ℕ → List ℕ
 slotAt d p = take signatureWidth (drop p d)
 
 -- d with s in place of the slot at p, and with f p in place of the slot at each p of a list
-unfoldable pub put : ℕ → List ℕ → List ℕ → List ℕ
-put p s d = take p d ++ s ++ drop (p + signatureWidth) d
+unfoldable pub putSlot : ℕ → List ℕ → List ℕ → List ℕ
+putSlot p s d = take p d ++ s ++ drop (p + signatureWidth) d
 
 unfoldable pub putAll : List ℕ → (ℕ → List ℕ) → List ℕ → List ℕ
 putAll [] f d = d
-putAll (p ∷ ps) f d = putAll ps f (put p (f p) d)
+putAll (p ∷ ps) f d = putAll ps f (putSlot p (f p) d)
 
 -- the place n is in no slot
 abbrev pub Outside : List ℕ → ℕ → Type 0

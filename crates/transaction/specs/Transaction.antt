@@ -9,7 +9,7 @@ use Rattle.wire.specs.Orders.{All, Increasing, Nondecreasing, Ascending}
 use Rattle.element.specs.Outputs.{TransferableOutput}
 use Rattle.element.specs.Inputs.{Input}
 use Rattle.element.specs.Operations.{Operation, InitialState}
-use Rattle.element.specs.Layout.{transferableOutputBytes, fxNumber}
+use Rattle.element.specs.PlainBytes.{transferableOutputBytes, plainFxId}
 use Rattle.element.specs.Good.{GoodString, GoodText, GoodTransferableOutput, GoodInput, inputKey, GoodOperation, GoodInitialState}
 use Rattle.transaction.specs.Credentials.{Want, secpCredential, nftCredential, total}
 
@@ -80,7 +80,7 @@ pub record GoodStates (l : List InitialState) : Type 0 where
   pub some : 1 ≤ length l
   pub count : length l < 2 ^ 32
   pub each : All GoodInitialState l
-  pub order : Ascending (map (λ v. fxNumber (v .fx)) l)
+  pub order : Ascending (map (λ v. plainFxId (v .fx)) l)
 
 -- the memo is of at most `most` bytes, 256 in the base, and its length is a number of 32 bits
 pub record GoodBase (most : ℕ) (b : Base) : Type 0 where

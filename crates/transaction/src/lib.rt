@@ -19,7 +19,7 @@ pub const SECP_CREDENTIAL: u64 = 9;
 pub const NFT_CREDENTIAL: u64 = 14;
 
 // The types of a transaction: 0 to 4.
-pub enum Kind {
+pub enum TransactionType {
     Base,
     CreateAsset,
     Operation,
@@ -64,7 +64,7 @@ pub enum Entry {
 
 // The type's number, where the inputs' count stands, how many credentials are wanted, and where their count stands.
 pub struct Layout {
-    pub kind: u32,
+    pub type_id: u32,
     pub inputs_at: usize,
     pub credentials_count: u64,
     pub credentials_at: usize,

@@ -6,7 +6,8 @@ use mathlib.Core.Bool.{Bool, true, false}
 use native.Mathlib.Omega.{arith}
 use native.Mathlib.Decide.{decLe}
 use native.Mathlib.Numerals.{add-one}
-use native.Mathlib.Nat.{pow-suc, pow-succ', pow-le-pow-right, lt-of-lt-of-le, mul-assoc, add-mul, add-assoc, zero-lt-suc, mod-lt, div-one, div-div-eq-div-mul, div-lt-iff-lt-mul, div-add-mod', le-refl}
+use native.Mathlib.Nat.{pow-suc, pow-succ', pow-le-pow-right, lt-of-lt-of-le, mul-assoc, add-mul, add-assoc, zero-lt-suc, mod-lt, div-one}
+use native.Mathlib.Nat.{div-div-eq-div-mul, div-lt-iff-lt-mul, div-add-mod', le-refl}
 use lib.Arith.{mod-mul, digits-div, digits-mod}
 use lib.ListN.{length, getD, set, take, drop, drop-of-length-le, length-drop, length-append}
 use lib.Seq.{drop-cons, take-length, take-nil, take-all, take-suc, append-snoc, set-at, getD-drop, length-take-le}
@@ -16,7 +17,7 @@ use mir.Syntax.{w8}
 use borrow.Author.Tests.{lt-ltb, le-ltb, ltb-true, ltb-false, leb-true}
 use Rattle.wire.specs.declared.Order.{Order}
 use Rattle.wire.specs.declared.Order.the-variants.{Below, Equal, Above}
-use Rattle.wire.specs.Bytes.{Bytes, bytes-take, bytes-drop, pick, part, value, value-lt, digits, pow-positive, below}
+use Rattle.wire.specs.Bytes.{Bytes, bytes-take, bytes-drop, pick, between, value, value-lt, digits, pow-positive, below}
 use Rattle.wire.specs.Order.{order, keyBelow}
 
 -- what the rule for a slice of bytes gives: each element is a byte
@@ -47,7 +48,8 @@ value-more s at i h =
 pub value-room : (s : List ℕ) (at : ℕ) → Slice s → (i : ℕ) → at + i < length s → i < 8 → value (take i (drop at s)) < 256 ^ 7
 value-room s at hb i k h =
     let len : length (take i (drop at s)) ≡ i = length-take-le i (drop at s) (rw length-drop (omega arith)) in
-    lt-of-lt-of-le (value-lt (take i (drop at s)) (bytes-take i (drop at s) (bytes-drop at s (slice-bytes s hb)))) (rw len (pow-le-pow-right {n = 256} (zero-lt-suc 255) {i = i} {j = 7} (omega arith)))
+    lt-of-lt-of-le (value-lt (take i (drop at s)) (bytes-take i (drop at s) (bytes-drop at s (slice-bytes s hb))))
+    (rw len (pow-le-pow-right {n = 256} (zero-lt-suc 255) {i = i} {j = 7} (omega arith)))
 
 -- ---- a number written byte by byte, the lowest first
 
@@ -62,22 +64,23 @@ digits-low w v =
 put-front : (s ys : List ℕ) (j b : ℕ) → suc j ≤ length s → set (take (suc j) s ++ ys) j b ≡ take j s ++ (b ∷ ys)
 put-front s ys j b h = rw (take-suc s j 0 h, append-snoc) (set-at (take j s) (getD s j 0) ys b j (length-take-le j s (omega arith)))
 
-pub number-none : (s : List ℕ) (v : ℕ) → (v ≡ v / 256 ^ (length s - length s)) × (s ≡ take (length s) s ++ digits (length s - length s) (v % 256 ^ (length s - length s)))
+pub integer-none : (s : List ℕ) (v : ℕ)
+    → (v ≡ v / 256 ^ (length s - length s)) × (s ≡ take (length s) s ++ digits (length s - length s) (v % 256 ^ (length s - length s)))
 unfolding digits
-number-none s v =
+integer-none s v =
     let e : length s - length s ≡ 0 = omega arith in
     (rw e (sym (div-one v)), rw (e, take-length) (sym (append-nil s)))
 
-pub number-left : (v n i : ℕ) → 0 < i → i ≤ n → v / 256 ^ (n - i) / 256 ≡ v / 256 ^ (n - (i - 1))
-number-left v n i h k =
+pub integer-left : (v n i : ℕ) → 0 < i → i ≤ n → v / 256 ^ (n - i) / 256 ≡ v / 256 ^ (n - (i - 1))
+integer-left v n i h k =
     let f : n - (i - 1) ≡ suc (n - i) = omega arith in
     rw (f, pow-suc) (div-div-eq-div-mul v (256 ^ (n - i)) 256)
 
-pub number-more : (s : List ℕ) (v i : ℕ) → 0 < i → i ≤ length s
+pub integer-more : (s : List ℕ) (v i : ℕ) → 0 < i → i ≤ length s
     → set (take i s ++ digits (length s - i) (v % 256 ^ (length s - i))) (i - 1) (v / 256 ^ (length s - i) % 256)
     ≡ take (i - 1) s ++ digits (length s - (i - 1)) (v % 256 ^ (length s - (i - 1)))
-number-more s v zero h k = absurd (omega arith)
-number-more s v (suc j) h k =
+integer-more s v zero h k = absurd (omega arith)
+integer-more s v (suc j) h k =
     let e : suc j - 1 ≡ j = omega arith in
     let f : length s - j ≡ suc (length s - suc j) = omega arith in
     rw (e, f, digits-low) (put-front s (digits (length s - suc j) (v % 256 ^ (length s - suc j))) j (v / 256 ^ (length s - suc j) % 256) k)
@@ -255,18 +258,19 @@ below-digits (suc k) i j h g =
 -- a key's bytes are in order as its parts are
 pub key-below : (a b : List ℕ) (i j : ℕ) → length a ≡ length b → i < 256 ^ 4 → j < 256 ^ 4 → below (a ++ digits 4 i) (b ++ digits 4 j) ≡ keyBelow a i b j
 unfolding keyBelow
-key-below a b i j h g k = below-append a b (digits 4 i) (digits 4 j) h ∙ ap (λ (t : Bool). pick (below a b) true (pick (below b a) false t)) (below-digits 4 i j g k)
+key-below a b i j h g k = below-append a b (digits 4 i) (digits 4 j) h
+    ∙ ap (λ (t : Bool). pick (below a b) true (pick (below b a) false t)) (below-digits 4 i j g k)
 
 -- ---- parts
 
 -- the bytes from a up to e where not all of that is there
-pub part-out : (a e : ℕ) (s : List ℕ) → length s < a → [] ≡ part a e s
+pub part-out : (a e : ℕ) (s : List ℕ) → length s < a → [] ≡ between a e s
 part-out a e s h = let o : length s ≤ a = omega arith in rw (drop-of-length-le s, take-nil)
 
-pub part-none : (a e : ℕ) (s : List ℕ) → e < a → [] ≡ part a e s
+pub part-none : (a e : ℕ) (s : List ℕ) → e < a → [] ≡ between a e s
 part-none a e s h = let o : e - a ≡ 0 = omega arith in rw o
 
-pub part-over : (a e : ℕ) (s : List ℕ) → length s < e → take (length s - a) (drop a s) ≡ part a e s
+pub part-over : (a e : ℕ) (s : List ℕ) → length s < e → take (length s - a) (drop a s) ≡ between a e s
 part-over a e s h =
     take-all (length s - a) (drop a s) (rw length-drop (omega arith)) ∙ sym (take-all (e - a) (drop a s) (rw length-drop (omega arith)))
 
@@ -285,7 +289,7 @@ copy-some s z h =
     rw (take-length (take (length z) s), n, drop-of-length-le z {i = length z} (le-refl (length z)), drop-of-length-le z {i = length s} o)
 
 -- what is left, y, where z was filled with the bytes from at, which are there
-pub copy-part : (s z y : List ℕ) (at : ℕ) (t : Bool) → y ≡ take (length z) (part at (at + length z) s) ++ drop (length (part at (at + length z) s)) z
+pub copy-part : (s z y : List ℕ) (at : ℕ) (t : Bool) → y ≡ take (length z) (between at (at + length z) s) ++ drop (length (between at (at + length z) s)) z
     → t ≡ leb (length z) (length s - at) → t ≡ true → y ≡ take (length z) (drop at s)
 copy-part s z y at t e q h =
     let r : length z ≤ length s - at = leb-true (length z) (length s - at) (found q h) in

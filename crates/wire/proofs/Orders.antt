@@ -14,9 +14,9 @@ use borrow.Author.Tests.{ltb-true, ltb-false, lt-ltb, le-ltb, eqb-true, eqb-fals
 use Rattle.wire.specs.Bytes.{pick, digits, length-digits, below}
 use Rattle.wire.specs.Numbers.{ReadingRule}
 use Rattle.wire.specs.Format.{Format}
-use Rattle.wire.specs.Fields.{number, constant}
+use Rattle.wire.specs.Fields.{integer, constant}
 use Rattle.wire.specs.Sequence.{guard, listed, tag}
-use Rattle.wire.specs.Series.{items, left, Chain, above, notBelow, series, counted}
+use Rattle.wire.specs.Series.{items, left, Chain, above, notBelow, series, countPrefixed}
 use Rattle.wire.specs.Order.{keyBelow}
 use Rattle.wire.specs.Orders.{All, OneOf, Adjacent, Ascending}
 use Rattle.wire.proofs.Bytes.{below-empty, below-digits}
@@ -33,20 +33,20 @@ test-not false = (λ e. refl, λ e. refl)
 -- ---- a number that has to be v, and a number that stands for one of the kinds listed
 
 pub constant-good : (w v : ℕ) (x : ReadingRule) → constant w v x .Good tt ↔ (v < 256 ^ w)
-unfolding constant number
+unfolding constant integer
 constant-good w v x = (λ h. h .0, λ h. (h, eq-eqb v v refl))
 
-module _ {K : Type 0} (code : K → ℕ) (kind : ℕ → K) (back : (k : K) → kind (code k) ≡ k) where
+module _ {K : Type 0} (code : K → ℕ) (decode : ℕ → K) (back : (k : K) → decode (code k) ≡ k) where
   pub listed-good : (ks : List K) (k : K) → (listed code ks (code k) ≡ true) ↔ OneOf k ks
   listed-good [] k = (λ e. let z : _≡_ {A = ℕ} 0 1 = cc in absurd (omega arith), λ h. absurd h)
   listed-good (j ∷ ks) k = turn (eqb (code k) (code j)) refl (listed-good ks k)
     where
       turn : (b : Bool) → eqb (code k) (code j) ≡ b → (listed code ks (code k) ≡ true) ↔ OneOf k ks
           → (pick b true (listed code ks (code k)) ≡ true) ↔ ((k ≡ j) ⊎ OneOf k ks)
-      turn true p on = (λ e. inl (sym (back k) ∙ ap kind (eqb-true (code k) (code j) p) ∙ back j), λ h. refl)
+      turn true p on = (λ e. inl (sym (back k) ∙ ap decode (eqb-true (code k) (code j) p) ∙ back j), λ h. refl)
       turn false p on = (λ e. inr (on .0 e), ⊎-elim (λ e. absurd (eqb-false (code k) (code j) p (ap code e))) (on .1))
 
-  pub tag-good : (N : Format ℕ) (ks : List K) (x : ReadingRule) (k : K) → N .Good (code k) → tag code kind back N ks x .Good k ↔ OneOf k ks
+  pub tag-good : (N : Format ℕ) (ks : List K) (x : ReadingRule) (k : K) → N .Good (code k) → tag code decode back N ks x .Good k ↔ OneOf k ks
   unfolding tag
   tag-good N ks x k fits = (λ h. listed-good ks k .0 (h .1), λ h. (fits, listed-good ks k .1 h))
 
@@ -141,11 +141,11 @@ module _ {A : Type 0} (F : Format A) (Fit : A → Type 0) (good : (a : A) → F 
   pub above-good : ((a : A) → Fit a → 0 < length (F .write a)) → (l : List A)
       → Chain (above F) (left (above F)) [] l ↔ (All Fit l × Adjacent (λ a b. below (F .write a) (F .write b) ≡ true) l)
   unfolding guard
-  above-good solid =
+  above-good nonEmpty =
       chain-good (above F) Fit (λ prev a. below prev (F .write a) ≡ true) (λ a b. below (F .write a) (F .write b) ≡ true)
       (λ prev a. Iff·and (good a) Iff·rfl)
       (λ prev a b fa fb. Iff·rfl)
-      (λ a fa. empty-below (F .write a) (solid a fa))
+      (λ a fa. empty-below (F .write a) (nonEmpty a fa))
 
   pub notBelow-good : (l : List A) → Chain (notBelow F) (left (notBelow F)) [] l ↔ (All Fit l × Adjacent (λ a b. below (F .write b) (F .write a) ≡ false) l)
   unfolding guard
@@ -160,10 +160,10 @@ module _ {A : Type 0} (F : Format A) (Fit : A → Type 0) (good : (a : A) → F 
   unordered-good prev (a ∷ l) = Iff·and (good a) (unordered-good (F .write a) l)
 
 -- numbers of w bytes, each above the one before
-pub ascending-good : (w : ℕ) → 0 < w → (l : List ℕ) → Chain (above (number w)) (left (above (number w))) [] l ↔ (All (λ n. n < 256 ^ w) l × Ascending l)
-unfolding guard number
+pub ascending-good : (w : ℕ) → 0 < w → (l : List ℕ) → Chain (above (integer w)) (left (above (integer w))) [] l ↔ (All (λ n. n < 256 ^ w) l × Ascending l)
+unfolding guard integer
 ascending-good w some =
-    chain-good (above (number w)) (λ n. n < 256 ^ w) (λ prev n. below prev (digits w n) ≡ true) (λ m n. m < n)
+    chain-good (above (integer w)) (λ n. n < 256 ^ w) (λ prev n. below prev (digits w n) ≡ true) (λ m n. m < n)
     (λ prev n. Iff·rfl)
     (λ prev m n. digits-order w m n)
     (λ n h. empty-below (digits w n) (rw (length-digits w n) some))
@@ -187,8 +187,8 @@ module _ {A : Type 0} (E : List ℕ → Format A) (P : List A → Type 0) (good 
   unfolding items
   series-good n l = Iff·and Iff·rfl (good l)
 
-  pub counted-good : (C : Format ℕ) (l : List A) → counted C E .Good l ↔ (C .Good (length l) × P l)
-  unfolding counted items
+  pub counted-good : (C : Format ℕ) (l : List A) → countPrefixed C E .Good l ↔ (C .Good (length l) × P l)
+  unfolding countPrefixed items
   counted-good C l = (λ h. (h .0, good l .0 (h .1 .1)), λ h. (h .0, (refl, good l .1 (h .1))))
 
 -- ---- lists in order by what a function gives of each element

@@ -8,18 +8,18 @@ use native.Mathlib.Omega.{arith}
 use native.Mathlib.Numerals.{sub-one}
 use lib.ListN.{length, drop}
 use Rattle.wire.specs.declared.Refusal.{Refusal}
-use Rattle.wire.specs.declared.Part.{Part}
-use Rattle.wire.specs.declared.Part.the-variants as P
-use Rattle.wire.specs.declared.Number.{Number}
-use Rattle.wire.specs.declared.Number.the-variants as N
+use Rattle.wire.specs.declared.End.{End}
+use Rattle.wire.specs.declared.End.the-variants as P
+use Rattle.wire.specs.declared.Integer.{Integer}
+use Rattle.wire.specs.declared.Integer.the-variants as N
 use Rattle.wire.specs.Numbers.{ReadingRule, by}
-use Rattle.wire.specs.Format.{Format, Result, took, refused, read, run-inv, pick-inv, moved, read-complete}
-use Rattle.wire.specs.Fields.{blob, number, length-number}
+use Rattle.wire.specs.Format.{Format, Result, took, refused, read, parse-inv, pick-inv, moved, read-complete}
+use Rattle.wire.specs.Fields.{blob, integer, length-integer}
 use Rattle.wire.specs.Sequence.{tag, find-is, listed}
-use Rattle.wire.specs.Series.{items, listRun, list-inv}
+use Rattle.wire.specs.Series.{items, listParse, list-inv}
 use Rattle.wire.specs.Answer.{ended, valued, Passes, Tells}
 use Rattle.wire.proofs.Bytes.{found, Slice, slice-bytes}
-use Rattle.wire.proofs.Reading.{run-took}
+use Rattle.wire.proofs.Reading.{parse-took}
 
 -- of what was taken, z is what `go` makes
 unfoldable pub Yields : {A R : Type 0} → Result A → (A → ℕ → R) → R → Type 0
@@ -30,10 +30,10 @@ Leads F s at go z = Yields (read F s at) go z
 
 -- ---- answers
 
-same-next : {j m : ℕ} → P.Next j ≡ P.Next m → j ≡ m
+same-next : {j m : ℕ} → P.At j ≡ P.At m → j ≡ m
 same-next e = cc
 
-next-refused : {j : ℕ} {e : Refusal} → P.Next j ≡ P.Refused e → ⊥
+next-refused : {j : ℕ} {e : Refusal} → P.At j ≡ P.Refused e → ⊥
 next-refused r = let k : _≡_ {A = ℕ} 0 1 = cc in omega arith
 
 same-value : {c d j m : ℕ} → N.Value d j ≡ N.Value c m → (d ≡ c) × (j ≡ m)
@@ -44,29 +44,29 @@ value-refused r = let k : _≡_ {A = ℕ} 0 1 = cc in omega arith
 
 -- ---- contracts
 
-abbrev pub next : {A : Type 0} → A → ℕ → Part
-next v n = P.Next n
+abbrev pub next : {A : Type 0} → A → ℕ → End
+next v n = P.At n
 
-abbrev pub told : {A : Type 0} → (A → ℕ) → A → ℕ → Number
+abbrev pub told : {A : Type 0} → (A → ℕ) → A → ℕ → Integer
 told f v n = N.Value (f v) n
 
 module _ {A : Type 0} (F : Format A) (s : List ℕ) (at : ℕ) where
-  pub passes : (z : Part) → Leads F s at next z → Passes F s at z
+  pub passes : (z : End) → Leads F s at next z → Passes F s at z
   unfolding Yields
   passes z h = h
 
-  pub leads : (z : Part) → Passes F s at z → Leads F s at next z
+  pub leads : (z : End) → Passes F s at z → Leads F s at next z
   unfolding Yields
   leads z h = h
 
-  pub tells : (f : A → ℕ) (z : Number) → Leads F s at (told f) z → Tells F f s at z
+  pub tells : (f : A → ℕ) (z : Integer) → Leads F s at (told f) z → Tells F f s at z
   unfolding Yields
   tells f z h = h
 
   -- what was read with no condition
-  pub leads-run : {R : Type 0} (go : A → ℕ → R) (z : R) (stop : Refusal → R) → z ≡ F .run s at stop go → Leads F s at go z
+  pub leads-parse : {R : Type 0} (go : A → ℕ → R) (z : R) (stop : Refusal → R) → z ≡ F .parse s at stop go → Leads F s at go z
   unfolding Yields
-  leads-run go z stop h v n e = h ∙ run-took F s at stop go v n e
+  leads-parse go z stop h v n e = h ∙ parse-took F s at stop go v n e
 
 -- ---- the same bytes, read by another format
 
@@ -102,140 +102,140 @@ unfolding Yields
 yields-end v n go z h w m e = moved (λ w m. z ≡ go w m) e h
 
 module _ {A B R : Type 0} (F : Format A) (s : List ℕ) (at : ℕ) (k : A → ℕ → Result B) (go : B → ℕ → R) (z : R) where
-  pub yields-run : ((v : A) (n : ℕ) → read F s at ≡ took v n → Yields (k v n) go z) → Yields (F .run s at refused k) go z
+  pub yields-parse : ((v : A) (n : ℕ) → read F s at ≡ took v n → Yields (k v n) go z) → Yields (F .parse s at refused k) go z
   unfolding Yields
-  yields-run h w m e =
-      let (v, n, ev, e₁) = run-inv F s at k w m e in
+  yields-parse h w m e =
+      let (v, n, ev, e₁) = parse-inv F s at k w m e in
       h v n ev w m e₁
 
   -- a call that passes F has answered x
-  module _ (x : Part) (p : Passes F s at x) where
-    pub run-whole : ((v : A) (n : ℕ) → x ≡ P.Next n → Yields (k v n) go z) → Yields (F .run s at refused k) go z
-    run-whole h = yields-run (λ v n e. h v n (p v n e))
+  module _ (x : End) (p : Passes F s at x) where
+    pub parse-whole : ((v : A) (n : ℕ) → x ≡ P.At n → Yields (k v n) go z) → Yields (F .parse s at refused k) go z
+    parse-whole h = yields-parse (λ v n e. h v n (p v n e))
 
-    pub run-next : (m : ℕ) → x ≡ P.Next m → ((v : A) → Yields (k v m) go z) → Yields (F .run s at refused k) go z
-    run-next m q h = run-whole (λ v n e. subst (λ (j : ℕ). Yields (k v j) go z) (sym (same-next (found e q))) (h v))
+    pub parse-next : (m : ℕ) → x ≡ P.At m → ((v : A) → Yields (k v m) go z) → Yields (F .parse s at refused k) go z
+    parse-next m q h = parse-whole (λ v n e. subst (λ (j : ℕ). Yields (k v j) go z) (sym (same-next (found e q))) (h v))
 
-    pub run-refused : (e : Refusal) → x ≡ P.Refused e → Yields (F .run s at refused k) go z
-    run-refused e q = run-whole (λ v n r. absurd (next-refused (found r q)))
+    pub parse-refused : (e : Refusal) → x ≡ P.Refused e → Yields (F .parse s at refused k) go z
+    parse-refused e q = parse-whole (λ v n r. absurd (next-refused (found r q)))
 
   -- or one that tells a number of it
-  module _ (f : A → ℕ) (x : Number) (p : Tells F f s at x) where
-    pub told-whole : ((v : A) (n : ℕ) → x ≡ N.Value (f v) n → Yields (k v n) go z) → Yields (F .run s at refused k) go z
-    told-whole h = yields-run (λ v n e. h v n (p v n e))
+  module _ (f : A → ℕ) (x : Integer) (p : Tells F f s at x) where
+    pub told-whole : ((v : A) (n : ℕ) → x ≡ N.Value (f v) n → Yields (k v n) go z) → Yields (F .parse s at refused k) go z
+    told-whole h = yields-parse (λ v n e. h v n (p v n e))
 
-    pub told-next : (c m : ℕ) → x ≡ N.Value c m → ((v : A) → c ≡ f v → Yields (k v m) go z) → Yields (F .run s at refused k) go z
+    pub told-next : (c m : ℕ) → x ≡ N.Value c m → ((v : A) → c ≡ f v → Yields (k v m) go z) → Yields (F .parse s at refused k) go z
     told-next c m q h =
         told-whole (λ v n e.
         let (i, j) = same-value (found e q) in
         subst (λ (j : ℕ). Yields (k v j) go z) (sym j) (h v (sym i)))
 
-    pub told-refused : (e : Refusal) → x ≡ N.Refused e → Yields (F .run s at refused k) go z
+    pub told-refused : (e : Refusal) → x ≡ N.Refused e → Yields (F .parse s at refused k) go z
     told-refused e q = told-whole (λ v n r. absurd (value-refused (found r q)))
 
 -- a format of one width, passed as a part
-module _ {A : Type 0} (F : Format A) (w : ℕ) (wide : Wide F w) (s : List ℕ) (at : ℕ) (b : Slice s) (x : Part) (p : x ≡ ended (blob w) s at) where
+module _ {A : Type 0} (F : Format A) (w : ℕ) (wide : Wide F w) (s : List ℕ) (at : ℕ) (b : Slice s) (x : End) (p : x ≡ ended (blob w) s at) where
   pub passes-wide : Passes F s at x
-  passes-wide = passes F s at x (leads-covered F (blob w) (F .write) (wide-covers F w wide) s at b next x (leads-run (blob w) s at next x P.Refused p))
+  passes-wide = passes F s at x (leads-covered F (blob w) (F .write) (wide-covers F w wide) s at b next x (leads-parse (blob w) s at next x P.Refused p))
 
 module _ {B R : Type 0} (s : List ℕ) (at : ℕ) (go : B → ℕ → R) (z : R) where
-  module _ (w : ℕ) (k : List ℕ → ℕ → Result B) (x : Part) (p : x ≡ ended (blob w) s at) where
+  module _ (w : ℕ) (k : List ℕ → ℕ → Result B) (x : End) (p : x ≡ ended (blob w) s at) where
     part-passes : Passes (blob w) s at x
-    part-passes = passes (blob w) s at x (leads-run (blob w) s at next x P.Refused p)
+    part-passes = passes (blob w) s at x (leads-parse (blob w) s at next x P.Refused p)
 
-    pub part-next : (m : ℕ) → x ≡ P.Next m → ((v : List ℕ) → Yields (k v m) go z) → Yields (blob w .run s at refused k) go z
-    part-next = run-next (blob w) s at k go z x part-passes
+    pub part-next : (m : ℕ) → x ≡ P.At m → ((v : List ℕ) → Yields (k v m) go z) → Yields (blob w .parse s at refused k) go z
+    part-next = parse-next (blob w) s at k go z x part-passes
 
-    pub part-refused : (e : Refusal) → x ≡ P.Refused e → Yields (blob w .run s at refused k) go z
-    part-refused = run-refused (blob w) s at k go z x part-passes
+    pub part-refused : (e : Refusal) → x ≡ P.Refused e → Yields (blob w .parse s at refused k) go z
+    part-refused = parse-refused (blob w) s at k go z x part-passes
 
   module _ (w : ℕ) (k : ℕ → ℕ → Result B) where
-    module _ (x : Number) (p : x ≡ valued (number w) s at) where
-      number-tells : Tells (number w) (λ c. c) s at x
-      number-tells = tells (number w) s at (λ c. c) x (leads-run (number w) s at N.Value x N.Refused p)
+    module _ (x : Integer) (p : x ≡ valued (integer w) s at) where
+      integer-tells : Tells (integer w) (λ c. c) s at x
+      integer-tells = tells (integer w) s at (λ c. c) x (leads-parse (integer w) s at N.Value x N.Refused p)
 
-      pub value-next : (c m : ℕ) → x ≡ N.Value c m → Yields (k c m) go z → Yields (number w .run s at refused k) go z
+      pub value-next : (c m : ℕ) → x ≡ N.Value c m → Yields (k c m) go z → Yields (integer w .parse s at refused k) go z
       value-next c m q h =
-          told-next (number w) s at k go z (λ c. c) x number-tells c m q (λ v i. subst (λ (d : ℕ). Yields (k d m) go z) i h)
+          told-next (integer w) s at k go z (λ c. c) x integer-tells c m q (λ v i. subst (λ (d : ℕ). Yields (k d m) go z) i h)
 
-      pub value-short : (e : Refusal) → x ≡ N.Refused e → Yields (number w .run s at refused k) go z
-      value-short = told-refused (number w) s at k go z (λ c. c) x number-tells
+      pub value-short : (e : Refusal) → x ≡ N.Refused e → Yields (integer w .parse s at refused k) go z
+      value-short = told-refused (integer w) s at k go z (λ c. c) x integer-tells
 
     -- a number that is passed as a part
-    module _ (b : Slice s) (x : Part) (p : x ≡ ended (blob w) s at) where
-      pub number-next : (m : ℕ) → x ≡ P.Next m → ((v : ℕ) → Yields (k v m) go z) → Yields (number w .run s at refused k) go z
-      number-next = run-next (number w) s at k go z x (passes-wide (number w) w (λ v g. length-number w v) s at b x p)
+    module _ (b : Slice s) (x : End) (p : x ≡ ended (blob w) s at) where
+      pub integer-next : (m : ℕ) → x ≡ P.At m → ((v : ℕ) → Yields (k v m) go z) → Yields (integer w .parse s at refused k) go z
+      integer-next = parse-next (integer w) s at k go z x (passes-wide (integer w) w (λ v g. length-integer w v) s at b x p)
 
-      pub number-refused : (e : Refusal) → x ≡ P.Refused e → Yields (number w .run s at refused k) go z
-      number-refused = run-refused (number w) s at k go z x (passes-wide (number w) w (λ v g. length-number w v) s at b x p)
+      pub integer-refused : (e : Refusal) → x ≡ P.Refused e → Yields (integer w .parse s at refused k) go z
+      integer-refused = parse-refused (integer w) s at k go z x (passes-wide (integer w) w (λ v g. length-integer w v) s at b x p)
 
 -- along parts and numbers, to the end
-pub ruleset passing = (part-next, part-refused, value-next, value-short, number-next, number-refused, yields-end)
+pub ruleset passing = (part-next, part-refused, value-next, value-short, integer-next, integer-refused, yields-end)
 
 -- a number that stands for a kind
-module _ {B K R : Type 0} (code : K → ℕ) (kind : ℕ → K) (back : (k : K) → kind (code k) ≡ k) (w : ℕ) (ks : List K) (r : ReadingRule)
-    (s : List ℕ) (at : ℕ) (k : K → ℕ → Result B) (go : B → ℕ → R) (z : R) (x : Number) (p : x ≡ valued (number w) s at) where
-  tag-run : (Yields (number w .run s at refused (λ n m. k (kind n) m)) go z) → Yields (tag code kind back (number w) ks r .run s at refused k) go z
+module _ {B K R : Type 0} (code : K → ℕ) (decode : ℕ → K) (back : (k : K) → decode (code k) ≡ k) (w : ℕ) (ks : List K) (r : ReadingRule)
+    (s : List ℕ) (at : ℕ) (k : K → ℕ → Result B) (go : B → ℕ → R) (z : R) (x : Integer) (p : x ≡ valued (integer w) s at) where
+  tag-parse : (Yields (integer w .parse s at refused (λ n m. k (decode n) m)) go z) → Yields (tag code decode back (integer w) ks r .parse s at refused k) go z
   unfolding tag Yields
-  tag-run h v n e =
-      let (c, m, ec, e₁) = run-inv (number w) s at _ v n e in
-      let (_, e₂) = pick-inv (listed code ks c) (by r at) (k (kind c) m) v n (sym (find-is code kind back ks c (λ j. k j m) (refused (by r at))) ∙ e₁) in
-      h v n (run-took (number w) s at refused _ c m ec ∙ e₂)
+  tag-parse h v n e =
+      let (c, m, ec, e₁) = parse-inv (integer w) s at _ v n e in
+      let (_, e₂) = pick-inv (listed code ks c) (by r at) (k (decode c) m) v n (sym (find-is code decode back ks c (λ j. k j m) (refused (by r at))) ∙ e₁) in
+      h v n (parse-took (integer w) s at refused _ c m ec ∙ e₂)
 
-  pub tag-next : (c m : ℕ) → x ≡ N.Value c m → Yields (k (kind c) m) go z → Yields (tag code kind back (number w) ks r .run s at refused k) go z
-  tag-next c m q h = tag-run (value-next s at go z w (λ n m. k (kind n) m) x p c m q h)
+  pub tag-next : (c m : ℕ) → x ≡ N.Value c m → Yields (k (decode c) m) go z → Yields (tag code decode back (integer w) ks r .parse s at refused k) go z
+  tag-next c m q h = tag-parse (value-next s at go z w (λ n m. k (decode n) m) x p c m q h)
 
-  pub tag-short : (e : Refusal) → x ≡ N.Refused e → Yields (tag code kind back (number w) ks r .run s at refused k) go z
-  tag-short e q = tag-run (value-short s at go z w (λ n m. k (kind n) m) x p e q)
+  pub tag-short : (e : Refusal) → x ≡ N.Refused e → Yields (tag code decode back (integer w) ks r .parse s at refused k) go z
+  tag-short e q = tag-parse (value-short s at go z w (λ n m. k (decode n) m) x p e q)
 
 -- ---- a loop over a list
 
 module _ {A S : Type 0} (E : S → Format A) (step : S → A → S) (s : List ℕ) where
   -- the element at a place is passed by a call, in whatever state
-  unfoldable pub Each : ℕ → Part → Type 0
+  unfoldable pub Each : ℕ → End → Type 0
   Each at x = (st : S) → Leads (E st) s at next x
 
   -- what is left of the list is passed
-  abbrev Rest : ℕ → ℕ → Part → Type 0
+  abbrev Rest : ℕ → ℕ → End → Type 0
   Rest n at z = (st : S) → Leads (items E step st n) s at next z
 
   -- so the whole of it is: c elements from start, of which n are left, from `at` on
   unfoldable pub Onward : ℕ → ℕ → ℕ → ℕ → Type 0
-  Onward n at c start = (z : Part) → Rest n at z → Rest c start z
+  Onward n at c start = (z : End) → Rest n at z → Rest c start z
 
   pub onward-start : (c start : ℕ) → Onward c start c start
   unfolding Onward
   onward-start c start z h = h
 
   module _ (n at c start : ℕ) (o : Onward n at c start) where
-    pub onward-turn : (x : Part) (m : ℕ) → 0 < n → x ≡ P.Next m → Each at x → Onward (n - 1) m c start
-    unfolding Onward Yields Each items listRun
+    pub onward-turn : (x : End) (m : ℕ) → 0 < n → x ≡ P.At m → Each at x → Onward (n - 1) m c start
+    unfolding Onward Yields Each items listParse
     onward-turn x m l q p z h = o z (turn n l h)
       where
         turn : (n : ℕ) → 0 < n → Rest (n - 1) m z → Rest n at z
         turn zero l h st v e r = absurd (omega arith)
         turn (suc n) l h st v e r =
-            let (a, j, ea, e₁) = run-inv (E st) s at _ v e r in
+            let (a, j, ea, e₁) = parse-inv (E st) s at _ v e r in
             let (t, k, et, e₂) = list-inv E step n (step st a) s j _ v e e₁ in
             let i : j ≡ m = same-next (found (p st a j ea) q) in
-            moved (λ (w : List A) y. z ≡ P.Next y) e₂ ((rw (sub-one (suc n)) at h) (step st a) t k (rw (← i) et))
+            moved (λ (w : List A) y. z ≡ P.At y) e₂ ((rw (sub-one (suc n)) at h) (step st a) t k (rw (← i) et))
 
-    pub onward-refused : (x : Part) (d : Refusal) → 0 < n → x ≡ P.Refused d → Each at x → (st : S) (z : Part) → Leads (items E step st c) s start next z
-    unfolding Onward Yields Each items listRun
+    pub onward-refused : (x : End) (d : Refusal) → 0 < n → x ≡ P.Refused d → Each at x → (st : S) (z : End) → Leads (items E step st c) s start next z
+    unfolding Onward Yields Each items listParse
     onward-refused x d l q p st z = o z (never n l) st
       where
         never : (n : ℕ) → 0 < n → Rest n at z
         never zero l st v e r = absurd (omega arith)
         never (suc n) l st v e r =
-            let (a, j, ea, e₁) = run-inv (E st) s at _ v e r in
+            let (a, j, ea, e₁) = parse-inv (E st) s at _ v e r in
             absurd (next-refused (found (p st a j ea) q))
 
-    pub onward-end : n ≤ 0 → (st : S) → Leads (items E step st c) s start next (P.Next at)
-    unfolding Onward Yields items listRun
-    onward-end l = o (P.Next at) (none n l)
+    pub onward-end : n ≤ 0 → (st : S) → Leads (items E step st c) s start next (P.At at)
+    unfolding Onward Yields items listParse
+    onward-end l = o (P.At at) (none n l)
       where
-        none : (n : ℕ) → n ≤ 0 → Rest n at (P.Next at)
-        none zero l st v k e = let i : at ≡ k = cc in ap P.Next i
+        none : (n : ℕ) → n ≤ 0 → Rest n at (P.At at)
+        none zero l st v k e = let i : at ≡ k = cc in ap P.At i
         none (suc n) l st v k e = absurd (omega arith)
 
 pub ruleset looping = (onward-start, onward-turn, onward-refused, onward-end)

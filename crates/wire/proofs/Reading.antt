@@ -15,16 +15,16 @@ use lib.Seq.{length-take-le}
 use lib.Dec.{ltb, leb, eqb}
 use borrow.Author.Tests.{lt-ltb, le-ltb, le-leb, lt-leb, leb-true, eq-eqb, ne-eqb}
 use Rattle.wire.specs.declared.Refusal.{Refusal}
-use Rattle.wire.specs.declared.Part.{Part}
-use Rattle.wire.specs.declared.Part.the-variants as P
-use Rattle.wire.specs.declared.Number.{Number}
-use Rattle.wire.specs.declared.Number.the-variants as N
-use Rattle.wire.specs.Bytes.{value, pick, part, below}
+use Rattle.wire.specs.declared.End.{End}
+use Rattle.wire.specs.declared.End.the-variants as P
+use Rattle.wire.specs.declared.Integer.{Integer}
+use Rattle.wire.specs.declared.Integer.the-variants as N
+use Rattle.wire.specs.Bytes.{value, pick, between, below}
 use Rattle.wire.specs.Numbers.{cutAt}
 use Rattle.wire.specs.Format.{Format, Result, took, refused, onResult, read, refused-took, took-refused, Stands, stands-part, stands-append}
-use Rattle.wire.specs.Fields.{blob, blobRun, number, length-number}
+use Rattle.wire.specs.Fields.{blob, blobParse, integer, length-integer}
 use Rattle.wire.specs.Sequence.{guard}
-use Rattle.wire.specs.Series.{listRun, listWrite, Chain, items, left, above, increasing}
+use Rattle.wire.specs.Series.{listParse, listWrite, Chain, items, left, above, increasing}
 use Rattle.wire.specs.Answer.{ended, valued, wholeAt}
 use Rattle.wire.proofs.Bytes.{found, Slice, slice-bytes}
 
@@ -32,27 +32,27 @@ use Rattle.wire.proofs.Bytes.{found, Slice, slice-bytes}
 
 module _ {A R : Type 0} (F : Format A) (s : List ℕ) (at : ℕ) (stop : Refusal → R) (go : A → ℕ → R) where
   -- the reading took v, up to n
-  pub run-took : (v : A) (n : ℕ) → read F s at ≡ took v n → F .run s at stop go ≡ go v n
-  run-took v n q = F .same s at stop go ∙ ap (λ o. onResult o stop go) q
+  pub parse-took : (v : A) (n : ℕ) → read F s at ≡ took v n → F .parse s at stop go ≡ go v n
+  parse-took v n q = F .same s at stop go ∙ ap (λ o. onResult o stop go) q
 
-  pub run-refused : (e : Refusal) → read F s at ≡ refused e → F .run s at stop go ≡ stop e
-  run-refused e q = F .same s at stop go ∙ ap (λ o. onResult o stop go) q
+  pub parse-refused : (e : Refusal) → read F s at ≡ refused e → F .parse s at stop go ≡ stop e
+  parse-refused e q = F .same s at stop go ∙ ap (λ o. onResult o stop go) q
 
-pub part-next-inv : {A : Type 0} (o : Result A) (n : ℕ) → onResult o P.Refused (λ v m. P.Next m) ≡ P.Next n → (v : A) × (o ≡ took v n)
+pub part-next-inv : {A : Type 0} (o : Result A) (n : ℕ) → onResult o P.Refused (λ v m. P.At m) ≡ P.At n → (v : A) × (o ≡ took v n)
 part-next-inv (took v m) n q = (v, ap (λ k. took v k) cc)
 part-next-inv (refused e) n q = let z : _≡_ {A = ℕ} 0 1 = cc in absurd (omega arith)
 
-pub part-refused-inv : {A : Type 0} (o : Result A) (e : Refusal) → onResult o P.Refused (λ v m. P.Next m) ≡ P.Refused e → o ≡ refused e
+pub part-refused-inv : {A : Type 0} (o : Result A) (e : Refusal) → onResult o P.Refused (λ v m. P.At m) ≡ P.Refused e → o ≡ refused e
 part-refused-inv (took v m) e q = let z : _≡_ {A = ℕ} 0 1 = cc in absurd (omega arith)
 part-refused-inv (refused d) e q = ap refused cc
 
-pub number-value-inv : (o : Result ℕ) (v n : ℕ) → onResult o N.Refused N.Value ≡ N.Value v n → o ≡ took v n
-number-value-inv (took w m) v n q = let a : w ≡ v = cc in let b : m ≡ n = cc in rw (a, b)
-number-value-inv (refused e) v n q = let z : _≡_ {A = ℕ} 0 1 = cc in absurd (omega arith)
+pub integer-value-inv : (o : Result ℕ) (v n : ℕ) → onResult o N.Refused N.Value ≡ N.Value v n → o ≡ took v n
+integer-value-inv (took w m) v n q = let a : w ≡ v = cc in let b : m ≡ n = cc in rw (a, b)
+integer-value-inv (refused e) v n q = let z : _≡_ {A = ℕ} 0 1 = cc in absurd (omega arith)
 
-pub number-refused-inv : (o : Result ℕ) (e : Refusal) → onResult o N.Refused N.Value ≡ N.Refused e → o ≡ refused e
-number-refused-inv (took v m) e q = let z : _≡_ {A = ℕ} 0 1 = cc in absurd (omega arith)
-number-refused-inv (refused d) e q = ap refused cc
+pub integer-refused-inv : (o : Result ℕ) (e : Refusal) → onResult o N.Refused N.Value ≡ N.Refused e → o ≡ refused e
+integer-refused-inv (took v m) e q = let z : _≡_ {A = ℕ} 0 1 = cc in absurd (omega arith)
+integer-refused-inv (refused d) e q = ap refused cc
 
 -- ---- the leaves, where the code has asked, with the answer t, whether the bytes are there
 
@@ -67,33 +67,35 @@ pub room-inside : (k n at : ℕ) (t : Bool) → t ≡ leb k (n - at) → t ≡ t
 room-inside k n at t p h i = omega (arith, room-there k n at t p h)
 
 module _ {R : Type 0} (k : ℕ) (s : List ℕ) (at : ℕ) (z : R) (stop : Refusal → R) (t : Bool) where
-  pub blob-there : (go : List ℕ → ℕ → R) → t ≡ leb k (length s - at) → t ≡ true → z ≡ go (take k (drop at s)) (at + k) → z ≡ blob k .run s at stop go
-  unfolding blob blobRun
+  pub blob-there : (go : List ℕ → ℕ → R) → t ≡ leb k (length s - at) → t ≡ true → z ≡ go (take k (drop at s)) (at + k) → z ≡ blob k .parse s at stop go
+  unfolding blob blobParse
   blob-there go p h e = rw (found p h) e
 
-  pub blob-cut : (go : List ℕ → ℕ → R) → t ≡ leb k (length s - at) → t ≡ false → (f : Refusal) → f ≡ cutAt k s at → z ≡ stop f → z ≡ blob k .run s at stop go
-  unfolding blob blobRun
+  pub blob-cut : (go : List ℕ → ℕ → R) → t ≡ leb k (length s - at) → t ≡ false → (f : Refusal) → f ≡ cutAt k s at → z ≡ stop f → z ≡ blob k .parse s at stop go
+  unfolding blob blobParse
   blob-cut go p h f g e = rw (found p h) (e ∙ ap stop g)
 
-  pub number-there : (go : ℕ → ℕ → R) (v : ℕ) → t ≡ leb k (length s - at) → t ≡ true → v ≡ value (take k (drop at s)) → z ≡ go v (at + k) → z ≡ number k .run s at stop go
-  unfolding number
-  number-there go v p h q e = blob-there (λ b m. go (value b) m) p h (e ∙ ap (λ u. go u (at + k)) q)
+  pub integer-there : (go : ℕ → ℕ → R) (v : ℕ) → t ≡ leb k (length s - at) → t ≡ true → v ≡ value (take k (drop at s)) → z ≡ go v (at + k)
+      → z ≡ integer k .parse s at stop go
+  unfolding integer
+  integer-there go v p h q e = blob-there (λ b m. go (value b) m) p h (e ∙ ap (λ u. go u (at + k)) q)
 
-  pub number-cut : (go : ℕ → ℕ → R) → t ≡ leb k (length s - at) → t ≡ false → (f : Refusal) → f ≡ cutAt k s at → z ≡ stop f → z ≡ number k .run s at stop go
-  unfolding number
-  number-cut go p h f g e = blob-cut (λ b m. go (value b) m) p h f g e
+  pub integer-cut : (go : ℕ → ℕ → R) → t ≡ leb k (length s - at) → t ≡ false → (f : Refusal) → f ≡ cutAt k s at → z ≡ stop f → z ≡ integer k .parse s at stop go
+  unfolding integer
+  integer-cut go p h f g e = blob-cut (λ b m. go (value b) m) p h f g e
 
-pub ruleset leaf = (blob-there, blob-cut, number-there, number-cut)
+pub ruleset leaf = (blob-there, blob-cut, integer-there, integer-cut)
 
 -- the same, where it is known and not asked
-pub blob-has : {R : Type 0} (k : ℕ) (s : List ℕ) (at : ℕ) (z : R) (stop : Refusal → R) (go : List ℕ → ℕ → R) → k ≤ length s - at → z ≡ go (take k (drop at s)) (at + k) → z ≡ blob k .run s at stop go
+pub blob-has : {R : Type 0} (k : ℕ) (s : List ℕ) (at : ℕ) (z : R) (stop : Refusal → R) (go : List ℕ → ℕ → R) → k ≤ length s - at
+    → z ≡ go (take k (drop at s)) (at + k) → z ≡ blob k .parse s at stop go
 blob-has k s at z stop go h = blob-there k s at z stop true go (sym (le-leb k (length s - at) h)) refl
 
 -- ---- a call's answer: what it ensures, what the match found, and the reading goes on from there
 
 -- a leaf has one refusal
 pub blob-stops : (k : ℕ) (s : List ℕ) (at : ℕ) (e : Refusal) → read (blob k) s at ≡ refused e → e ≡ cutAt k s at
-unfolding blob blobRun
+unfolding blob blobParse
 blob-stops k s at e = cases (leb k (length s - at))
   where
     cases : (b : Bool) → pick b (took (take k (drop at s)) (at + k)) (refused (cutAt k s at)) ≡ refused e → e ≡ cutAt k s at
@@ -101,52 +103,54 @@ blob-stops k s at e = cases (leb k (length s - at))
     cases false q = cc
 
 -- what is taken is the part
-pub blob-part : (k : ℕ) (s : List ℕ) (at : ℕ) (v : List ℕ) (n : ℕ) → read (blob k) s at ≡ took v n → v ≡ part at n s
-unfolding blob blobRun
+pub blob-part : (k : ℕ) (s : List ℕ) (at : ℕ) (v : List ℕ) (n : ℕ) → read (blob k) s at ≡ took v n → v ≡ between at n s
+unfolding blob blobParse
 blob-part k s at v n = cases (leb k (length s - at))
   where
-    cases : (b : Bool) → pick b (took (take k (drop at s)) (at + k)) (refused (cutAt k s at)) ≡ took v n → v ≡ part at n s
-    cases true q = let e : at + k ≡ n = cc in let d : n - at ≡ k = omega arith in let f : take k (drop at s) ≡ v = cc in sym f ∙ ap (λ i. take i (drop at s)) (sym d)
+    cases : (b : Bool) → pick b (took (take k (drop at s)) (at + k)) (refused (cutAt k s at)) ≡ took v n → v ≡ between at n s
+    cases true q = let e : at + k ≡ n = cc in let d : n - at ≡ k = omega arith in let f : take k (drop at s) ≡ v = cc in sym f
+        ∙ ap (λ i. take i (drop at s)) (sym d)
     cases false q = refused-took (cutAt k s at) v n q
 
-pub number-stops : (k : ℕ) (s : List ℕ) (at : ℕ) (e : Refusal) → read (number k) s at ≡ refused e → e ≡ cutAt k s at
-unfolding number
-number-stops k s at e q = blob-stops k s at e (cases (read (blob k) s at) (sym (blob k .same s at refused (λ b m. took (value b) m)) ∙ q))
+pub integer-stops : (k : ℕ) (s : List ℕ) (at : ℕ) (e : Refusal) → read (integer k) s at ≡ refused e → e ≡ cutAt k s at
+unfolding integer
+integer-stops k s at e q = blob-stops k s at e (cases (read (blob k) s at) (sym (blob k .same s at refused (λ b m. took (value b) m)) ∙ q))
   where
     cases : (o : Result (List ℕ)) → onResult o refused (λ b m. took (value b) m) ≡ refused e → o ≡ refused e
     cases (took b m) q = took-refused (value b) m e q
     cases (refused d) q = ap refused cc
 
-module _ {A : Type 0} (F : Format A) (s : List ℕ) (at : ℕ) (x : Part) where
-  pub next-took : (n : ℕ) → x ≡ ended F s at → x ≡ P.Next n → (v : A) × (read F s at ≡ took v n)
-  next-took n p q = part-next-inv (read F s at) n (sym (F .same s at P.Refused (λ v n. P.Next n)) ∙ found p q)
+module _ {A : Type 0} (F : Format A) (s : List ℕ) (at : ℕ) (x : End) where
+  pub next-took : (n : ℕ) → x ≡ ended F s at → x ≡ P.At n → (v : A) × (read F s at ≡ took v n)
+  next-took n p q = part-next-inv (read F s at) n (sym (F .same s at P.Refused (λ v n. P.At n)) ∙ found p q)
 
   pub next-refused : (e : Refusal) → x ≡ ended F s at → x ≡ P.Refused e → read F s at ≡ refused e
-  next-refused e p q = part-refused-inv (read F s at) e (sym (F .same s at P.Refused (λ v n. P.Next n)) ∙ found p q)
+  next-refused e p q = part-refused-inv (read F s at) e (sym (F .same s at P.Refused (λ v n. P.At n)) ∙ found p q)
 
 -- Any format that a function ends as a Part: a crate states these two for a format of its own by name. (Stated for any F, they would fit every
 -- reading, and `search` would try them everywhere)
 module _ {A : Type 0} (F : Format A) where
   abbrev pub Ends : Type 1
-  Ends = (R : Type 0) (s : List ℕ) (at : ℕ) (z : R) (stop : Refusal → R) (go : A → ℕ → R) (x : Part) (n : ℕ) → x ≡ ended F s at → x ≡ P.Next n
-      → ((v : A) → z ≡ go v n) → z ≡ F .run s at stop go
+  Ends = (R : Type 0) (s : List ℕ) (at : ℕ) (z : R) (stop : Refusal → R) (go : A → ℕ → R) (x : End) (n : ℕ) → x ≡ ended F s at → x ≡ P.At n
+      → ((v : A) → z ≡ go v n) → z ≡ F .parse s at stop go
 
   abbrev pub Stops : Type 1
-  Stops = (R : Type 0) (s : List ℕ) (at : ℕ) (z : R) (stop : Refusal → R) (go : A → ℕ → R) (x : Part) (e : Refusal) → x ≡ ended F s at → x ≡ P.Refused e
-      → z ≡ stop e → z ≡ F .run s at stop go
+  Stops = (R : Type 0) (s : List ℕ) (at : ℕ) (z : R) (stop : Refusal → R) (go : A → ℕ → R) (x : End) (e : Refusal) → x ≡ ended F s at → x ≡ P.Refused e
+      → z ≡ stop e → z ≡ F .parse s at stop go
 
   pub ends : Ends
-  ends R s at z stop go x n p q e = let (v, t) = next-took F s at x n p q in e v ∙ sym (run-took F s at stop go v n t)
+  ends R s at z stop go x n p q e = let (v, t) = next-took F s at x n p q in e v ∙ sym (parse-took F s at stop go v n t)
 
   pub stops : Stops
-  stops R s at z stop go x e p q r = r ∙ sym (run-refused F s at stop go e (next-refused F s at x e p q))
+  stops R s at z stop go x e p q r = r ∙ sym (parse-refused F s at stop go e (next-refused F s at x e p q))
 
 -- a list: of its elements none is in hand
-module _ {A S R : Type 0} (E : S → Format A) (step : S → A → S) (st : S) (c : ℕ) (s : List ℕ) (at : ℕ) (z : R) (stop : Refusal → R) (go : List A → ℕ → R) (x : Part) where
-  pub on-list : (n : ℕ) → x ≡ ended (items E step st c) s at → x ≡ P.Next n → ((l : List A) → z ≡ go l n) → z ≡ items E step st c .run s at stop go
+module _ {A S R : Type 0} (E : S → Format A) (step : S → A → S) (st : S) (c : ℕ) (s : List ℕ) (at : ℕ) (z : R) (stop : Refusal → R) (go : List A → ℕ → R)
+    (x : End) where
+  pub on-list : (n : ℕ) → x ≡ ended (items E step st c) s at → x ≡ P.At n → ((l : List A) → z ≡ go l n) → z ≡ items E step st c .parse s at stop go
   on-list = ends (items E step st c) R s at z stop go x
 
-  pub on-list-refused : (e : Refusal) → x ≡ ended (items E step st c) s at → x ≡ P.Refused e → z ≡ stop e → z ≡ items E step st c .run s at stop go
+  pub on-list-refused : (e : Refusal) → x ≡ ended (items E step st c) s at → x ≡ P.Refused e → z ≡ stop e → z ≡ items E step st c .parse s at stop go
   on-list-refused = stops (items E step st c) R s at z stop go x
 
 -- A list of elements of one width that was read: how many they are, and where they begin
@@ -155,9 +159,11 @@ module _ {A : Type 0} (F : Format A) (k : ℕ) (wide : (a : A) → F .Good a →
   unfolding listWrite guard
   wide-chain prev [] h = rw mul-zero
   wide-chain prev (a ∷ l) h =
-      rw (length-append (F .write a) (listWrite (above F) (left (above F)) (F .write a) l), wide a (h .0 .0), wide-chain (F .write a) l (h .1), mul-suc) (add-comm k (k * length l))
+      rw (length-append (F .write a) (listWrite (above F) (left (above F)) (F .write a) l), wide a (h .0 .0), wide-chain (F .write a) l (h .1), mul-suc)
+      (add-comm k (k * length l))
 
-  pub wide-took : (c : ℕ) (s : List ℕ) (at : ℕ) (l : List A) (n : ℕ) → Slice s → read (increasing F c) s at ≡ took l n → (c ≡ length l) × (n ≡ at + k * length l)
+  pub wide-took : (c : ℕ) (s : List ℕ) (at : ℕ) (l : List A) (n : ℕ) → Slice s → read (increasing F c) s at ≡ took l n
+      → (c ≡ length l) × (n ≡ at + k * length l)
   unfolding items
   wide-took c s at l n b t =
       let (g, h) = increasing F c .sound s at l n (slice-bytes s b) t in
@@ -168,77 +174,80 @@ unfolding blob
 blob-wide k b h = h .0
 
 -- a part: its bytes are those of s
-part-took : (k : ℕ) (s : List ℕ) (at : ℕ) (x : Part) (n : ℕ) → x ≡ ended (blob k) s at → x ≡ P.Next n → read (blob k) s at ≡ took (part at n s) n
+part-took : (k : ℕ) (s : List ℕ) (at : ℕ) (x : End) (n : ℕ) → x ≡ ended (blob k) s at → x ≡ P.At n → read (blob k) s at ≡ took (between at n s) n
 part-took k s at x n p q = let (v, t) = next-took (blob k) s at x n p q in t ∙ ap (λ b. took b n) (blob-part k s at v n t)
 
-value-took : (k : ℕ) (s : List ℕ) (at : ℕ) (x : Number) (v n : ℕ) → x ≡ valued (number k) s at → x ≡ N.Value v n → read (number k) s at ≡ took v n
-value-took k s at x v n p q = number-value-inv (read (number k) s at) v n (sym (number k .same s at N.Refused N.Value) ∙ found p q)
+value-took : (k : ℕ) (s : List ℕ) (at : ℕ) (x : Integer) (v n : ℕ) → x ≡ valued (integer k) s at → x ≡ N.Value v n → read (integer k) s at ≡ took v n
+value-took k s at x v n p q = integer-value-inv (read (integer k) s at) v n (sym (integer k .same s at N.Refused N.Value) ∙ found p q)
 
 module _ {R : Type 0} (k : ℕ) (s : List ℕ) (at : ℕ) (z : R) (stop : Refusal → R) where
-  module _ (go : List ℕ → ℕ → R) (x : Part) where
-    pub on-part : (n : ℕ) → x ≡ ended (blob k) s at → x ≡ P.Next n → z ≡ go (part at n s) n → z ≡ blob k .run s at stop go
-    on-part n p q e = e ∙ sym (run-took (blob k) s at stop go (part at n s) n (part-took k s at x n p q))
+  module _ (go : List ℕ → ℕ → R) (x : End) where
+    pub on-part : (n : ℕ) → x ≡ ended (blob k) s at → x ≡ P.At n → z ≡ go (between at n s) n → z ≡ blob k .parse s at stop go
+    on-part n p q e = e ∙ sym (parse-took (blob k) s at stop go (between at n s) n (part-took k s at x n p q))
 
     -- the same, for a need that asks where it stands
-    pub on-part-there : (n : ℕ) → x ≡ ended (blob k) s at → x ≡ P.Next n → Slice s → (Stands s at (blob k .write (part at n s)) n → z ≡ go (part at n s) n)
-        → z ≡ blob k .run s at stop go
-    on-part-there n p q b e = on-part n p q (e (blob k .sound s at (part at n s) n (slice-bytes s b) (part-took k s at x n p q) .1))
+    pub on-part-there : (n : ℕ) → x ≡ ended (blob k) s at → x ≡ P.At n → Slice s → (Stands s at (blob k .write (between at n s)) n → z ≡ go (between at n s) n)
+        → z ≡ blob k .parse s at stop go
+    on-part-there n p q b e = on-part n p q (e (blob k .sound s at (between at n s) n (slice-bytes s b) (part-took k s at x n p q) .1))
 
     -- its own refusal, handed up
-    pub on-part-refused : (e : Refusal) → x ≡ ended (blob k) s at → x ≡ P.Refused e → z ≡ stop e → z ≡ blob k .run s at stop go
+    pub on-part-refused : (e : Refusal) → x ≡ ended (blob k) s at → x ≡ P.Refused e → z ≡ stop e → z ≡ blob k .parse s at stop go
     on-part-refused = stops (blob k) R s at z stop go x
 
     -- a refusal f that the code has made by a call
-    pub on-cut : (e : Refusal) → x ≡ ended (blob k) s at → x ≡ P.Refused e → (f : Refusal) → f ≡ cutAt k s at → z ≡ stop f → z ≡ blob k .run s at stop go
+    pub on-cut : (e : Refusal) → x ≡ ended (blob k) s at → x ≡ P.Refused e → (f : Refusal) → f ≡ cutAt k s at → z ≡ stop f → z ≡ blob k .parse s at stop go
     on-cut e p q f g r =
         let o = next-refused (blob k) s at x e p q in
         on-part-refused e p q (r ∙ ap stop (g ∙ sym (blob-stops k s at e o)))
 
-  module _ (go : ℕ → ℕ → R) (x : Number) where
-    pub on-value : (v n : ℕ) → x ≡ valued (number k) s at → x ≡ N.Value v n → z ≡ go v n → z ≡ number k .run s at stop go
-    on-value v n p q e = e ∙ sym (run-took (number k) s at stop go v n (value-took k s at x v n p q))
+  module _ (go : ℕ → ℕ → R) (x : Integer) where
+    pub on-value : (v n : ℕ) → x ≡ valued (integer k) s at → x ≡ N.Value v n → z ≡ go v n → z ≡ integer k .parse s at stop go
+    on-value v n p q e = e ∙ sym (parse-took (integer k) s at stop go v n (value-took k s at x v n p q))
 
     -- the same, for a need that asks where the number stands
-    pub on-value-there : (v n : ℕ) → x ≡ valued (number k) s at → x ≡ N.Value v n → Slice s → (Stands s at (number k .write v) n → z ≡ go v n) → z ≡ number k .run s at stop go
-    on-value-there v n p q b e = on-value v n p q (e (number k .sound s at v n (slice-bytes s b) (value-took k s at x v n p q) .1))
+    pub on-value-there : (v n : ℕ) → x ≡ valued (integer k) s at → x ≡ N.Value v n → Slice s → (Stands s at (integer k .write v) n → z ≡ go v n)
+        → z ≡ integer k .parse s at stop go
+    on-value-there v n p q b e = on-value v n p q (e (integer k .sound s at v n (slice-bytes s b) (value-took k s at x v n p q) .1))
 
     -- its own refusal, handed up
-    pub on-number-refused : (e : Refusal) → x ≡ valued (number k) s at → x ≡ N.Refused e → z ≡ stop e → z ≡ number k .run s at stop go
-    on-number-refused e p q r =
-        r ∙ sym (run-refused (number k) s at stop go e (number-refused-inv (read (number k) s at) e (sym (number k .same s at N.Refused N.Value) ∙ found p q)))
+    pub on-integer-refused : (e : Refusal) → x ≡ valued (integer k) s at → x ≡ N.Refused e → z ≡ stop e → z ≡ integer k .parse s at stop go
+    on-integer-refused e p q r =
+        r ∙ sym (parse-refused (integer k) s at stop go e
+        (integer-refused-inv (read (integer k) s at) e (sym (integer k .same s at N.Refused N.Value) ∙ found p q)))
 
-    pub on-short : (e : Refusal) → x ≡ valued (number k) s at → x ≡ N.Refused e → (f : Refusal) → f ≡ cutAt k s at → z ≡ stop f → z ≡ number k .run s at stop go
+    pub on-short : (e : Refusal) → x ≡ valued (integer k) s at → x ≡ N.Refused e → (f : Refusal) → f ≡ cutAt k s at → z ≡ stop f
+        → z ≡ integer k .parse s at stop go
     on-short e p q f g r =
-        let o = number-refused-inv (read (number k) s at) e (sym (number k .same s at N.Refused N.Value) ∙ found p q) in
-        on-number-refused e p q (r ∙ ap stop (g ∙ sym (number-stops k s at e o)))
+        let o = integer-refused-inv (read (integer k) s at) e (sym (integer k .same s at N.Refused N.Value) ∙ found p q) in
+        on-integer-refused e p q (r ∙ ap stop (g ∙ sym (integer-stops k s at e o)))
 
 -- ---- how wide a number or a part is that was read, and where the reading goes on
 
-module _ (k : ℕ) (s : List ℕ) (at : ℕ) (x : Number) (v n : ℕ) (p : x ≡ valued (number k) s at) (q : x ≡ N.Value v n) (b : Slice s) where
-  value-read : number k .Good v × Stands s at (number k .write v) n
-  value-read = number k .sound s at v n (slice-bytes s b) (value-took k s at x v n p q)
+module _ (k : ℕ) (s : List ℕ) (at : ℕ) (x : Integer) (v n : ℕ) (p : x ≡ valued (integer k) s at) (q : x ≡ N.Value v n) (b : Slice s) where
+  value-read : integer k .Good v × Stands s at (integer k .write v) n
+  value-read = integer k .sound s at v n (slice-bytes s b) (value-took k s at x v n p q)
 
   -- it has as many bytes
   pub value-small : v < 256 ^ k
-  unfolding number
+  unfolding integer
   value-small = value-read .0
 
   pub value-ends : n ≡ at + k
-  value-ends = value-read .1 .ends ∙ ap (λ j. at + j) (length-number k v)
+  value-ends = value-read .1 .ends ∙ ap (λ j. at + j) (length-integer k v)
 
 pub blob-ends : (k : ℕ) (s : List ℕ) (at : ℕ) (v : List ℕ) (n : ℕ) → read (blob k) s at ≡ took v n → n ≡ at + k
-unfolding blob blobRun
+unfolding blob blobParse
 blob-ends k s at v n = cases (leb k (length s - at))
   where
     cases : (b : Bool) → pick b (took (take k (drop at s)) (at + k)) (refused (cutAt k s at)) ≡ took v n → n ≡ at + k
     cases true q = cc
     cases false q = refused-took (cutAt k s at) v n q
 
-module _ (k : ℕ) (s : List ℕ) (at : ℕ) (x : Part) (n : ℕ) (p : x ≡ ended (blob k) s at) (q : x ≡ P.Next n) where
+module _ (k : ℕ) (s : List ℕ) (at : ℕ) (x : End) (n : ℕ) (p : x ≡ ended (blob k) s at) (q : x ≡ P.At n) where
   pub part-ends : n ≡ at + k
   part-ends = let (v, t) = next-took (blob k) s at x n p q in blob-ends k s at v n t
 
-  pub part-long : Slice s → length (part at n s) ≡ k
+  pub part-long : Slice s → length (between at n s) ≡ k
   unfolding blob
   part-long b =
       let (v, t) = next-took (blob k) s at x n p q in
@@ -249,14 +258,14 @@ module _ (k : ℕ) (s : List ℕ) (at : ℕ) (x : Part) (n : ℕ) (p : x ≡ end
 module _ (k : ℕ) (s : List ℕ) (at : ℕ) where
   -- what is there is handed over
   pub whole-part : (v : List ℕ) (n : ℕ) → read (blob k) s at ≡ took v n → wholeAt k s at ≡ v
-  whole-part v n = run-took (blob k) s at (λ e. replicate k 0) (λ b n. b) v n
+  whole-part v n = parse-took (blob k) s at (λ e. replicate k 0) (λ b n. b) v n
 
   -- what was handed over, y, is the part
-  pub whole-next : (y : List ℕ) (x : Part) (n : ℕ) → y ≡ wholeAt k s at → x ≡ ended (blob k) s at → x ≡ P.Next n → y ≡ part at n s
-  whole-next y x n w p q = w ∙ whole-part (part at n s) n (part-took k s at x n p q)
+  pub whole-next : (y : List ℕ) (x : End) (n : ℕ) → y ≡ wholeAt k s at → x ≡ ended (blob k) s at → x ≡ P.At n → y ≡ between at n s
+  whole-next y x n w p q = w ∙ whole-part (between at n s) n (part-took k s at x n p q)
 
   pub whole-length : length (wholeAt k s at) ≡ k
-  unfolding blob blobRun
+  unfolding blob blobParse
   whole-length = cases (leb k (length s - at)) refl
     where
       cases : (b : Bool) → leb k (length s - at) ≡ b → length (pick b (take k (drop at s)) (replicate k 0)) ≡ k
@@ -293,16 +302,16 @@ module _ {R : Type 0} where
 
   -- the code compares elements where they stand; the format, their writings
   module _ (p q at n : ℕ) (s w : List ℕ) (t : Bool) (z x y : R) (h : Stands s at w n) where
-    pub if-above : t ≡ below (part p q s) (part at n s) → t ≡ true → z ≡ x → z ≡ pick (below (part p q s) w) x y
+    pub if-above : t ≡ below (between p q s) (between at n s) → t ≡ true → z ≡ x → z ≡ pick (below (between p q s) w) x y
     if-above i j e = rw (stands-part s at w n h, found i j) e
 
-    pub if-not-above : t ≡ below (part p q s) (part at n s) → t ≡ false → z ≡ y → z ≡ pick (below (part p q s) w) x y
+    pub if-not-above : t ≡ below (between p q s) (between at n s) → t ≡ false → z ≡ y → z ≡ pick (below (between p q s) w) x y
     if-not-above i j e = rw (stands-part s at w n h, found i j) e
 
-    pub if-below : t ≡ below (part at n s) (part p q s) → t ≡ true → z ≡ y → z ≡ pick (not (below w (part p q s))) x y
+    pub if-below : t ≡ below (between at n s) (between p q s) → t ≡ true → z ≡ y → z ≡ pick (not (below w (between p q s))) x y
     if-below i j e = rw (stands-part s at w n h, found i j) e
 
-    pub if-not-below : t ≡ below (part at n s) (part p q s) → t ≡ false → z ≡ x → z ≡ pick (not (below w (part p q s))) x y
+    pub if-not-below : t ≡ below (between at n s) (between p q s) → t ≡ false → z ≡ x → z ≡ pick (not (below w (between p q s))) x y
     if-not-below i j e = rw (stands-part s at w n h, found i j) e
 
 pub ruleset tests = (if-lt, if-not-lt, if-le, if-not-le, if-eq, if-ne, if-zero, if-some)
@@ -312,8 +321,8 @@ pub ruleset tests = (if-lt, if-not-lt, if-le, if-not-le, if-eq, if-ne, if-zero, 
 pub part-made : (f d : Refusal) → f ≡ d → P.Refused f ≡ P.Refused d
 part-made f d e = ap P.Refused e
 
-pub number-made : (f d : Refusal) → f ≡ d → N.Refused f ≡ N.Refused d
-number-made f d e = ap N.Refused e
+pub integer-made : (f d : Refusal) → f ≡ d → N.Refused f ≡ N.Refused d
+integer-made f d e = ap N.Refused e
 
 -- a let-else chain up to a refusal
 pub ruleset reading = (on-value, on-short, on-part, on-cut, on-part-refused, on-list, on-list-refused, tests, part-made)
@@ -321,24 +330,24 @@ pub ruleset reading = (on-value, on-short, on-part, on-cut, on-part-refused, on-
 -- ---- a loop: the code counts down, the format goes by `suc`. The invariant is that the rest of the reading is the whole reading, y
 
 module _ {A S R : Type 0} (E : S → Format A) (step : S → A → S) (s : List ℕ) (at : ℕ) (stop : Refusal → R) (go : List A → ℕ → R) where
-  pub list-on : (st : S) (n : ℕ) (z y : R) → items E step st n .run s at stop go ≡ y → 0 < n
-      → z ≡ E st .run s at stop (λ a m. items E step (step st a) (n - 1) .run s m stop (λ l k. go (a ∷ l) k)) → z ≡ y
-  unfolding items listRun
+  pub list-on : (st : S) (n : ℕ) (z y : R) → items E step st n .parse s at stop go ≡ y → 0 < n
+      → z ≡ E st .parse s at stop (λ a m. items E step (step st a) (n - 1) .parse s m stop (λ l k. go (a ∷ l) k)) → z ≡ y
+  unfolding items listParse
   list-on st zero z y i h e = absurd (not-suc-le-zero h)
   list-on st (suc n) z y i h e = (rw (sub-one (suc n)) at e) ∙ i
 
-  pub list-end : (st : S) (n : ℕ) (z y : R) → items E step st n .run s at stop go ≡ y → n ≤ 0 → z ≡ go [] at → z ≡ y
-  unfolding items listRun
+  pub list-end : (st : S) (n : ℕ) (z y : R) → items E step st n .parse s at stop go ≡ y → n ≤ 0 → z ≡ go [] at → z ≡ y
+  unfolding items listParse
   list-end st zero z y i h e = e ∙ i
   list-end st (suc n) z y i h e = absurd (not-suc-le-zero h)
 
 module _ {A R : Type 0} (E : List ℕ → Format A) (step : List ℕ → A → List ℕ) (s : List ℕ) (n at : ℕ) (stop : Refusal → R) (go : List A → ℕ → R) where
   -- nothing stands before the first
-  pub list-start : (a : ℕ) → items E step (part a a s) n .run s at stop go ≡ items E step [] n .run s at stop go
+  pub list-start : (a : ℕ) → items E step (between a a s) n .parse s at stop go ≡ items E step [] n .parse s at stop go
   list-start a = let e : a - a ≡ 0 = omega arith in rw e
 
   -- the state that is left is the bytes of the element
-  pub list-again : (p q : ℕ) (w : List ℕ) → Stands s p w q → items E step (part p q s) n .run s at stop go ≡ items E step w n .run s at stop go
+  pub list-again : (p q : ℕ) (w : List ℕ) → Stands s p w q → items E step (between p q s) n .parse s at stop go ≡ items E step w n .parse s at stop go
   list-again p q w h = rw (stands-part s p w q h)
 
 -- a turn: of an element only its end is in hand, and what stands before it

@@ -14,9 +14,9 @@ use Rattle.wire.specs.Bytes.{value, pick}
 use Rattle.wire.specs.Numbers.{ruleNumber, refusal, ReadingRule, ruleOf, Ruled, by, emptyList, wrongCount, tooLong, bytesAfterEnd}
 use Rattle.wire.specs.Numbers.{cutShort, wrongCodec, unknownType, zeroAmount, outOfOrder, badThreshold, badLength, notPrintable, badDenomination}
 use Rattle.wire.specs.Format.{Format, Result, took, refused, onResult, read, refused-rule, took-refused}
-use Rattle.wire.specs.Fields.{blob, blobRun, number, constant}
+use Rattle.wire.specs.Fields.{blob, blobParse, integer, constant}
 use Rattle.wire.specs.Sequence.{andThen, guardAt, guard, only, listed, find-is, tag}
-use Rattle.wire.specs.Series.{listRun, list-same, items, left, seriesFrom, series, above, notBelow, counted}
+use Rattle.wire.specs.Series.{listParse, list-same, items, left, seriesFrom, series, above, notBelow, countPrefixed}
 use Rattle.wire.specs.Orders.{OneOf}
 use Rattle.wire.specs.Whole.{whole}
 use Rattle.wire.proofs.Orders.{listed-good}
@@ -78,9 +78,9 @@ module _ (P : Rule → Type 0) where
   result-refuses (took a m) k e f g q = g a m q
   result-refuses {A} {B} (refused d) k e f g q = refused-by {A = B} d e (f d refl) q
 
-  pub run-refuses : {A B : Type 0} (F : Format A) (s : List ℕ) (at : ℕ) (k : A → ℕ → Result B) (e : Refusal) → RefusesBy F P
-      → ((a : A) (m : ℕ) → k a m ≡ refused e → P (e .rule)) → F .run s at refused k ≡ refused e → P (e .rule)
-  run-refuses F s at k e h g q = result-refuses (read F s at) k e (h s at) g (sym (F .same s at refused k) ∙ q)
+  pub parse-refuses : {A B : Type 0} (F : Format A) (s : List ℕ) (at : ℕ) (k : A → ℕ → Result B) (e : Refusal) → RefusesBy F P
+      → ((a : A) (m : ℕ) → k a m ≡ refused e → P (e .rule)) → F .parse s at refused k ≡ refused e → P (e .rule)
+  parse-refuses F s at k e h g q = result-refuses (read F s at) k e (h s at) g (sym (F .same s at refused k) ∙ q)
 
   -- a test, else a refusal
   pub pick-refuses : {A : Type 0} (t : Bool) (d : Refusal) (o : Result A) (e : Refusal) → P (d .rule) → (o ≡ refused e → P (e .rule))
@@ -91,7 +91,7 @@ module _ (P : Rule → Type 0) where
   -- ---- fields
 
   pub blob-refuses : (n : ℕ) → P (ruleOf cutShort) → RefusesBy (blob n) P
-  unfolding blob blobRun
+  unfolding blob blobParse
   blob-refuses n h s at e = pick-refuses (leb n (length s - at)) (by cutShort at) _ e h (λ q. took-refused (take n (drop at s)) (at + n) e q)
 
   -- ---- combinators
@@ -99,54 +99,55 @@ module _ (P : Rule → Type 0) where
   pub then-refuses : {A : Type 0} {B : A → Type 0} (F : Format A) (G : (a : A) → Format (B a)) → RefusesBy F P → ((a : A) → RefusesBy (G a) P)
       → RefusesBy (andThen F G) P
   unfolding andThen
-  then-refuses F G f g s at e = run-refuses F s at _ e f (λ a m. run-refuses (G a) s m _ e (g a) (λ b n q. took-refused (a, b) n e q))
+  then-refuses F G f g s at e = parse-refuses F s at _ e f (λ a m. parse-refuses (G a) s m _ e (g a) (λ b n q. took-refused (a, b) n e q))
 
   module _ {A : Type 0} (F : Format A) (ok : A → Bool) (x : ReadingRule) (f : RefusesBy F P) (h : P (ruleOf x)) where
     pub guardAt-refuses : (place : ℕ → A → ℕ) (within : (at : ℕ) (a : A) → F .Good a → place at a ≤ at + length (F .write a))
         → RefusesBy (guardAt F ok x place within) P
     unfolding guardAt
-    guardAt-refuses place within s at e = run-refuses F s at _ e f (λ a m. pick-refuses (ok a) (by x (place at a)) _ e h (λ q. took-refused a m e q))
+    guardAt-refuses place within s at e = parse-refuses F s at _ e f (λ a m. pick-refuses (ok a) (by x (place at a)) _ e h (λ q. took-refused a m e q))
 
     pub guard-refuses : RefusesBy (guard F ok x) P
     unfolding guard guardAt
-    guard-refuses s at e = run-refuses F s at _ e f (λ a m. pick-refuses (ok a) (by x at) _ e h (λ q. took-refused a m e q))
+    guard-refuses s at e = parse-refuses F s at _ e f (λ a m. pick-refuses (ok a) (by x at) _ e h (λ q. took-refused a m e q))
 
   -- «as» and named: F is read, and `to` makes of its value what is handed on. Said of the reading, which is all that their formats have of this
   pub mapped-refuses : {A B : Type 0} (F : Format A) (to : A → B) → RefusesBy F P → (s : List ℕ) (at : ℕ) (e : Refusal)
-      → F .run s at refused (λ a m. took (to a) m) ≡ refused e → P (e .rule)
-  mapped-refuses F to f s at e = run-refuses F s at _ e f (λ a m q. took-refused (to a) m e q)
+      → F .parse s at refused (λ a m. took (to a) m) ≡ refused e → P (e .rule)
+  mapped-refuses F to f s at e = parse-refuses F s at _ e f (λ a m q. took-refused (to a) m e q)
 
   pub only-refuses : {A : Type 0} (a : A) → RefusesBy (only a) P
   unfolding only
   only-refuses a s at e q = took-refused a at e q
 
-  pub tag-refuses : {K : Type 0} (code : K → ℕ) (kind : ℕ → K) (back : (k : K) → kind (code k) ≡ k) (N : Format ℕ) (ks : List K) (x : ReadingRule)
-      → RefusesBy N P → P (ruleOf x) → RefusesBy (tag code kind back N ks x) P
+  pub tag-refuses : {K : Type 0} (code : K → ℕ) (decode : ℕ → K) (back : (k : K) → decode (code k) ≡ k) (N : Format ℕ) (ks : List K) (x : ReadingRule)
+      → RefusesBy N P → P (ruleOf x) → RefusesBy (tag code decode back N ks x) P
   unfolding tag
-  tag-refuses code kind back N ks x f h s at e =
-      run-refuses N s at _ e f λ n m q.
-      pick-refuses (listed code ks n) (by x at) (took (kind n) m) e h (λ q. took-refused (kind n) m e q)
-      (sym (find-is code kind back ks n (λ k. took k m) (refused (by x at))) ∙ q)
+  tag-refuses code decode back N ks x f h s at e =
+      parse-refuses N s at _ e f λ n m q.
+      pick-refuses (listed code ks n) (by x at) (took (decode n) m) e h (λ q. took-refused (decode n) m e q)
+      (sym (find-is code decode back ks n (λ k. took k m) (refused (by x at))) ∙ q)
 
   -- ---- numbers
 
-  pub number-refuses : (w : ℕ) → P (ruleOf cutShort) → RefusesBy (number w) P
-  unfolding number
-  number-refuses w h = mapped-refuses (blob w) value (blob-refuses w h)
+  pub integer-refuses : (w : ℕ) → P (ruleOf cutShort) → RefusesBy (integer w) P
+  unfolding integer
+  integer-refuses w h = mapped-refuses (blob w) value (blob-refuses w h)
 
   pub constant-refuses : (w v : ℕ) (x : ReadingRule) → P (ruleOf cutShort) → P (ruleOf x) → RefusesBy (constant w v x) P
   unfolding constant
-  constant-refuses w v x h k = mapped-refuses (guard (number w) (λ n. eqb n v) x) (λ n. tt) (guard-refuses (number w) (λ n. eqb n v) x (number-refuses w h) k)
+  constant-refuses w v x h k = mapped-refuses (guard (integer w) (λ n. eqb n v) x) (λ n. tt)
+      (guard-refuses (integer w) (λ n. eqb n v) x (integer-refuses w h) k)
 
   -- ---- lists
 
   pub items-refuses : {A S : Type 0} (E : S → Format A) (step : S → A → S) (st : S) (n : ℕ) → ((st : S) → RefusesBy (E st) P) → RefusesBy (items E step st n) P
-  unfolding items listRun
+  unfolding items listParse
   items-refuses {A} E step st zero f s at e q = took-refused [] at e q
   items-refuses {A} E step st (suc n) f s at e q =
-      run-refuses (E st) s at _ e (f st)
+      parse-refuses (E st) s at _ e (f st)
       (λ a m q.
-      result-refuses (listRun E step n (step st a) s m refused took) (λ l k. took (a ∷ l) k) e (items-refuses E step (step st a) n f s m)
+      result-refuses (listParse E step n (step st a) s m refused took) (λ l k. took (a ∷ l) k) e (items-refuses E step (step st a) n f s m)
       (λ l k q. took-refused (a ∷ l) k e q) (sym (list-same E step n (step st a) s m refused (λ l k. took (a ∷ l) k)) ∙ q))
       q
 
@@ -161,8 +162,8 @@ module _ (P : Rule → Type 0) where
   notBelow-refuses F prev f h = guard-refuses F _ outOfOrder f h
 
   pub counted-refuses : {A : Type 0} (C : Format ℕ) (E : List ℕ → Format A) → RefusesBy C P → ((prev : List ℕ) → RefusesBy (E prev) P)
-      → RefusesBy (counted C E) P
-  unfolding counted
+      → RefusesBy (countPrefixed C E) P
+  unfolding countPrefixed
   counted-refuses C E f g = mapped-refuses (andThen C (series E)) (λ v. v .1) (then-refuses C (series E) f (λ n. series-refuses E [] n g))
 
   -- ---- the whole of a byte string
@@ -171,4 +172,4 @@ module _ (P : Rule → Type 0) where
       → whole F most s refused took ≡ refused e → P (e .rule)
   whole-refuses F most f h k s e =
       pick-refuses (leb (length s) most) (refusal tooLong 0) _ e h
-      (run-refuses F s 0 _ e f (λ v n. pick-refuses (eqb n (length s)) (refusal bytesAfterEnd n) _ e k (λ q. took-refused v n e q)))
+      (parse-refuses F s 0 _ e f (λ v n. pick-refuses (eqb n (length s)) (refusal bytesAfterEnd n) _ e k (λ q. took-refused v n e q)))

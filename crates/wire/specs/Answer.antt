@@ -5,29 +5,29 @@ use mathlib.Core.List.{List}
 use lib.ListN.{replicate}
 use Rattle.wire.specs.Format.{Format, read, took}
 use Rattle.wire.specs.Fields.{blob}
-use Rattle.wire.specs.declared.Part.{Part}
-use Rattle.wire.specs.declared.Part.the-variants as P
-use Rattle.wire.specs.declared.Number.{Number}
-use Rattle.wire.specs.declared.Number.the-variants as N
+use Rattle.wire.specs.declared.End.{End}
+use Rattle.wire.specs.declared.End.the-variants as P
+use Rattle.wire.specs.declared.Integer.{Integer}
+use Rattle.wire.specs.declared.Integer.the-variants as N
 
 -- where a value ends
-abbrev pub ended : {A : Type 0} → Format A → List ℕ → ℕ → Part
-ended F s at = F .run s at P.Refused (λ v n. P.Next n)
+abbrev pub ended : {A : Type 0} → Format A → List ℕ → ℕ → End
+ended F s at = F .parse s at P.Refused (λ v n. P.At n)
 
 -- a number and where it ends
-abbrev pub valued : Format ℕ → List ℕ → ℕ → Number
-valued F s at = F .run s at N.Refused N.Value
+abbrev pub valued : Format ℕ → List ℕ → ℕ → Integer
+valued F s at = F .parse s at N.Refused N.Value
 
 -- the k bytes from at, or k zeros where they are not all there
 abbrev pub wholeAt : ℕ → List ℕ → ℕ → List ℕ
-wholeAt k s at = blob k .run s at (λ e. replicate k 0) (λ b n. b)
+wholeAt k s at = blob k .parse s at (λ e. replicate k 0) (λ b n. b)
 
 -- ---- what was read, passed by its lengths: a promise on bytes that the format has read, and on no others
 
 -- of what was read: the place behind it
-abbrev pub Passes : {A : Type 0} → Format A → List ℕ → ℕ → Part → Type 0
-Passes {A} F s at r = (v : A) (n : ℕ) → read F s at ≡ took v n → r ≡ P.Next n
+abbrev pub Passes : {A : Type 0} → Format A → List ℕ → ℕ → End → Type 0
+Passes {A} F s at r = (v : A) (n : ℕ) → read F s at ≡ took v n → r ≡ P.At n
 
 -- of what was read: a number that its value has, and the place behind it
-abbrev pub Tells : {A : Type 0} → Format A → (A → ℕ) → List ℕ → ℕ → Number → Type 0
+abbrev pub Tells : {A : Type 0} → Format A → (A → ℕ) → List ℕ → ℕ → Integer → Type 0
 Tells {A} F f s at r = (v : A) (n : ℕ) → read F s at ≡ took v n → r ≡ N.Value (f v) n

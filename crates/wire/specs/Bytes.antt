@@ -21,8 +21,8 @@ pick true a b = a
 pick false a b = b
 
 -- the bytes of s from a up to e
-abbrev pub part : ℕ → ℕ → List ℕ → List ℕ
-part a e s = take (e - a) (drop a s)
+abbrev pub between : ℕ → ℕ → List ℕ → List ℕ
+between a e s = take (e - a) (drop a s)
 
 -- the number that big-endian bytes are
 unfoldable pub value : List ℕ → ℕ

@@ -18,14 +18,14 @@ use Rattle.wire.specs.Sequence.{«as», guard, named}
 -- ---- n bytes
 
 module _ (n : ℕ) where
-  unfoldable pub blobRun : {R : Type 0} → List ℕ → ℕ → (Refusal → R) → (List ℕ → ℕ → R) → R
-  blobRun s at stop go = pick (leb n (length s - at)) (go (take n (drop at s)) (at + n)) (stop (cutAt n s at))
+  unfoldable pub blobParse : {R : Type 0} → List ℕ → ℕ → (Refusal → R) → (List ℕ → ℕ → R) → R
+  blobParse s at stop go = pick (leb n (length s - at)) (go (take n (drop at s)) (at + n)) (stop (cutAt n s at))
 
   abbrev pub Sized : List ℕ → Type 0
   Sized b = (length b ≡ n) × Bytes b
 
-  pub blob-sound : (s : List ℕ) (at : ℕ) (v : List ℕ) (next : ℕ) → Bytes s → blobRun s at refused took ≡ took v next → Sized v × Stands s at v next
-  unfolding blobRun
+  pub blob-sound : (s : List ℕ) (at : ℕ) (v : List ℕ) (next : ℕ) → Bytes s → blobParse s at refused took ≡ took v next → Sized v × Stands s at v next
+  unfolding blobParse
   blob-sound s at v next bs e =
       let (fits, e′) = pick-inv (leb n (length s - at)) (cutAt n s at) _ v next e in
       let len : length (take n (drop at s)) ≡ n = length-take-le n (drop at s) (rw length-drop (leb-true n (length s - at) fits)) in
@@ -35,39 +35,39 @@ module _ (n : ℕ) where
       )
 
   pub blob-complete : {R : Type 0} (s : List ℕ) (at : ℕ) (v t : List ℕ) (stop : Refusal → R) (go : List ℕ → ℕ → R) → Sized v → drop at s ≡ v ++ t
-      → blobRun s at stop go ≡ go v (at + length v)
-  unfolding blobRun
+      → blobParse s at stop go ≡ go v (at + length v)
+  unfolding blobParse
   blob-complete s at v t stop go h e =
       let fits : n ≤ length s - at = omega (arith, simp (length-drop, length-append) at (ap length e)) in
       rw (le-leb n (length s - at) fits, e, take-at v t n (h .0), h .0)
 
   pub blob-same : {R : Type 0} (s : List ℕ) (at : ℕ) (stop : Refusal → R) (go : List ℕ → ℕ → R)
-      → blobRun s at stop go ≡ onResult (blobRun s at refused took) stop go
-  unfolding blobRun
+      → blobParse s at stop go ≡ onResult (blobParse s at refused took) stop go
+  unfolding blobParse
   blob-same s at stop go = pick-same (leb n (length s - at)) (cutAt n s at) _ _ stop go
 
   -- it refuses as 2 only
-  pub blob-stable : (s t : List ℕ) (at : ℕ) (e : Refusal) → Bytes s → (e .rule ≡ ruleOf cutShort → ⊥) → blobRun s at refused took ≡ refused e
-      → blobRun (s ++ t) at refused took ≡ refused e
-  unfolding blobRun
+  pub blob-stable : (s t : List ℕ) (at : ℕ) (e : Refusal) → Bytes s → (e .rule ≡ ruleOf cutShort → ⊥) → blobParse s at refused took ≡ refused e
+      → blobParse (s ++ t) at refused took ≡ refused e
+  unfolding blobParse
   blob-stable s t at e bs ne q = go (leb n (length s - at)) q
     where
-      go : (b : Bool) → pick b (took (take n (drop at s)) (at + n)) (refused (cutAt n s at)) ≡ refused e → blobRun (s ++ t) at refused took ≡ refused e
+      go : (b : Bool) → pick b (took (take n (drop at s)) (at + n)) (refused (cutAt n s at)) ≡ refused e → blobParse (s ++ t) at refused took ≡ refused e
       go true q = took-refused (take n (drop at s)) (at + n) e q
       go false q = absurd (ne (refused-rule (cutAt n s at) e q))
 
-  pub blob-ruled : (s : List ℕ) (at : ℕ) (e : Refusal) → blobRun s at refused took ≡ refused e → Ruled (e .rule)
-  unfolding blobRun
+  pub blob-ruled : (s : List ℕ) (at : ℕ) (e : Refusal) → blobParse s at refused took ≡ refused e → Ruled (e .rule)
+  unfolding blobParse
   blob-ruled s at e = pick-ruled (leb n (length s - at)) cutShort at (take n (drop at s)) (at + n) e
 
-  pub blob-placed : (s : List ℕ) (at : ℕ) (e : Refusal) → Bytes s → at ≤ length s → blobRun s at refused took ≡ refused e → e .place ≤ length s
-  unfolding blobRun
+  pub blob-placed : (s : List ℕ) (at : ℕ) (e : Refusal) → Bytes s → at ≤ length s → blobParse s at refused took ≡ refused e → e .place ≤ length s
+  unfolding blobParse
   blob-placed s at e bs h = pick-placed (length s) (leb n (length s - at)) (cutAt n s at) (take n (drop at s)) (at + n) e h
 
   unfoldable pub blob : Format (List ℕ)
   blob =
       record {
-        run = blobRun;
+        parse = blobParse;
         write = λ b. b;
         Good = Sized;
         same = blob-same;
@@ -85,9 +85,9 @@ blob-sized n b h = h .0
 
 -- ---- a big-endian number of w bytes
 
-unfoldable pub number : ℕ → Format ℕ
+unfoldable pub integer : ℕ → Format ℕ
 unfolding blob «as»
-number w =
+integer w =
     «as» (blob w) (λ v. v < 256 ^ w)
     record {
       to = value;
@@ -98,13 +98,13 @@ number w =
       to-from = λ v h. value-digits w v h;
     }
 
-pub length-number : (w v : ℕ) → length (number w .write v) ≡ w
-unfolding number
-length-number w v = length-digits w v
+pub length-integer : (w v : ℕ) → length (integer w .write v) ≡ w
+unfolding integer
+length-integer w v = length-digits w v
 
 -- ---- a number of w bytes that has to be v; any other is refused by x, at its start
 
 unfoldable pub constant : ℕ → ℕ → ReadingRule → Format (Unit {0})
 unfolding named guard
 constant w v x =
-    named (guard (number w) (λ n. eqb n v) x) (λ n. tt) (λ u. v) (λ n h. sym (eqb-true n v (h .1))) (λ u. refl)
+    named (guard (integer w) (λ n. eqb n v) x) (λ n. tt) (λ u. v) (λ n h. sym (eqb-true n v (h .1))) (λ u. refl)

@@ -1,7 +1,7 @@
 -- A format: how a value is read at a place of a byte string, how it is written, and the laws that tie the two. Formats are made of smaller ones
 -- by combinators (Fields, Sequence, Series), and so are their laws.
 --
--- A reading goes on: `F .run s at stop go` is `go v next` where a value v stands in s from `at` up to `next`, and `stop e` where it is refused
+-- A reading goes on: `F .parse s at stop go` is `go v next` where a value v stands in s from `at` up to `next`, and `stop e` where it is refused
 -- by e. So one field behind another is one reading inside another: the chain of let .. else that the code is.
 -- Assumes nothing.
 use mathlib.Core.Path.{_≡_, refl, sym, ap, _∙_, subst, subst₂}
@@ -14,7 +14,7 @@ use mathlib.Core.List.{List, [], _∷_, _++_, append-assoc, append-nil}
 use lib.ListN.{length, take, drop, length-append, length-drop, take-append-drop, drop-of-length-le}
 use lib.Seq.{drop-append-le, take-at}
 use Rattle.wire.specs.declared.Refusal.{Refusal}
-use Rattle.wire.specs.Bytes.{Bytes, pick, part}
+use Rattle.wire.specs.Bytes.{Bytes, pick, between}
 use Rattle.wire.specs.Numbers.{ReadingRule, ruleOf, Ruled, by, cutShort, numberOf}
 
 -- what a reading comes to: a value and where it ends, or the refusal
@@ -33,30 +33,30 @@ pub record Stands (s : List ℕ) (at : ℕ) (w : List ℕ) (next : ℕ) : Type 0
 
 pub record Format (A : Type 0) : Type 1 where
   -- the reading, and where it goes on
-  pub run : {R : Type 0} → List ℕ → ℕ → (Refusal → R) → (A → ℕ → R) → R
+  pub parse : {R : Type 0} → List ℕ → ℕ → (Refusal → R) → (A → ℕ → R) → R
   pub write : A → List ℕ
   -- the values of the format
   pub Good : A → Type 0
   -- the reading is one thing, wherever it goes on
-  pub same : {R : Type 0} (s : List ℕ) (at : ℕ) (stop : Refusal → R) (go : A → ℕ → R) → run s at stop go ≡ onResult (run s at refused took) stop go
+  pub same : {R : Type 0} (s : List ℕ) (at : ℕ) (stop : Refusal → R) (go : A → ℕ → R) → parse s at stop go ≡ onResult (parse s at refused took) stop go
   -- what is read is a value of the format, and its writing stands where it was read
-  pub sound : (s : List ℕ) (at : ℕ) (v : A) (next : ℕ) → Bytes s → run s at refused took ≡ took v next → Good v × Stands s at (write v) next
+  pub sound : (s : List ℕ) (at : ℕ) (v : A) (next : ℕ) → Bytes s → parse s at refused took ≡ took v next → Good v × Stands s at (write v) next
   -- a value of the format is read wherever its writing stands
   pub complete : {R : Type 0} (s : List ℕ) (at : ℕ) (v : A) (t : List ℕ) (stop : Refusal → R) (go : A → ℕ → R) → Good v → drop at s ≡ write v ++ t
-      → run s at stop go ≡ go v (at + length (write v))
+      → parse s at stop go ≡ go v (at + length (write v))
   -- what is written is bytes
   pub bytes : (v : A) → Good v → Bytes (write v)
   -- a refusal other than 2, cut short, is kept when bytes are added behind
-  pub stable : (s t : List ℕ) (at : ℕ) (e : Refusal) → Bytes s → (e .rule ≡ ruleOf cutShort → ⊥) → run s at refused took ≡ refused e
-      → run (s ++ t) at refused took ≡ refused e
+  pub stable : (s t : List ℕ) (at : ℕ) (e : Refusal) → Bytes s → (e .rule ≡ ruleOf cutShort → ⊥) → parse s at refused took ≡ refused e
+      → parse (s ++ t) at refused took ≡ refused e
   -- a refusal's rule is one of reading
-  pub ruled : (s : List ℕ) (at : ℕ) (e : Refusal) → run s at refused took ≡ refused e → Ruled (e .rule)
+  pub ruled : (s : List ℕ) (at : ℕ) (e : Refusal) → parse s at refused took ≡ refused e → Ruled (e .rule)
   -- a refusal's place is inside the bytes, or at their end
-  pub placed : (s : List ℕ) (at : ℕ) (e : Refusal) → Bytes s → at ≤ length s → run s at refused took ≡ refused e → e .place ≤ length s
+  pub placed : (s : List ℕ) (at : ℕ) (e : Refusal) → Bytes s → at ≤ length s → parse s at refused took ≡ refused e → e .place ≤ length s
 
 -- the reading by itself
 abbrev pub read : {A : Type 0} → Format A → List ℕ → ℕ → Result A
-read F s at = F .run s at refused took
+read F s at = F .parse s at refused took
 
 -- the number and the place that are reported
 abbrev pub verdict : {A : Type 0} → Result A → ℕ × ℕ
@@ -84,9 +84,9 @@ result-inv (took a m) k b n q = (a, m, refl, q)
 result-inv (refused e) k b n q = refused-took e b n q
 
 -- what took something took its first part
-pub run-inv : {A B : Type 0} (F : Format A) (s : List ℕ) (at : ℕ) (k : A → ℕ → Result B) (b : B) (n : ℕ) → F .run s at refused k ≡ took b n
-    → (a : A) × (m : ℕ) × (F .run s at refused took ≡ took a m) × (k a m ≡ took b n)
-run-inv F s at k b n q = result-inv (F .run s at refused took) k b n (sym (F .same s at refused k) ∙ q)
+pub parse-inv : {A B : Type 0} (F : Format A) (s : List ℕ) (at : ℕ) (k : A → ℕ → Result B) (b : B) (n : ℕ) → F .parse s at refused k ≡ took b n
+    → (a : A) × (m : ℕ) × (F .parse s at refused took ≡ took a m) × (k a m ≡ took b n)
+parse-inv F s at k b n q = result-inv (F .parse s at refused took) k b n (sym (F .same s at refused k) ∙ q)
 
 -- two readings, one behind the other, that are each one thing
 pub result-same : {A B R : Type 0} (o : Result A) (k : A → ℕ → Result B) (h : A → ℕ → R) (stop : Refusal → R) (go : B → ℕ → R)
@@ -94,10 +94,10 @@ pub result-same : {A B R : Type 0} (o : Result A) (k : A → ℕ → Result B) (
 result-same (took a m) k h stop go q = q a m
 result-same (refused e) k h stop go q = refl
 
-pub run-same : {A B R : Type 0} (F : Format A) (s : List ℕ) (at : ℕ) (k : A → ℕ → Result B) (h : A → ℕ → R) (stop : Refusal → R) (go : B → ℕ → R)
-    → ((a : A) (m : ℕ) → h a m ≡ onResult (k a m) stop go) → F .run s at stop h ≡ onResult (F .run s at refused k) stop go
-run-same F s at k h stop go q =
-    F .same s at stop h ∙ result-same (F .run s at refused took) k h stop go q ∙ ap (λ o. onResult o stop go) (sym (F .same s at refused k))
+pub parse-same : {A B R : Type 0} (F : Format A) (s : List ℕ) (at : ℕ) (k : A → ℕ → Result B) (h : A → ℕ → R) (stop : Refusal → R) (go : B → ℕ → R)
+    → ((a : A) (m : ℕ) → h a m ≡ onResult (k a m) stop go) → F .parse s at stop h ≡ onResult (F .parse s at refused k) stop go
+parse-same F s at k h stop go q =
+    F .same s at stop h ∙ result-same (F .parse s at refused took) k h stop go q ∙ ap (λ o. onResult o stop go) (sym (F .same s at refused k))
 
 result-alike : {A R : Type 0} (o : Result A) (stop : Refusal → R) (go on : A → ℕ → R) → ((a : A) (m : ℕ) → o ≡ took a m → go a m ≡ on a m)
     → onResult o stop go ≡ onResult o stop on
@@ -105,13 +105,13 @@ result-alike (took a m) stop go on q = q a m refl
 result-alike (refused e) stop go on q = refl
 
 -- two readings that go on alike with what is read are alike
-pub run-alike-read : {A R : Type 0} (F : Format A) (s : List ℕ) (at : ℕ) (stop : Refusal → R) (go on : A → ℕ → R)
-    → ((a : A) (m : ℕ) → read F s at ≡ took a m → go a m ≡ on a m) → F .run s at stop go ≡ F .run s at stop on
-run-alike-read F s at stop go on q = F .same s at stop go ∙ result-alike (read F s at) stop go on q ∙ sym (F .same s at stop on)
+pub parse-alike-read : {A R : Type 0} (F : Format A) (s : List ℕ) (at : ℕ) (stop : Refusal → R) (go on : A → ℕ → R)
+    → ((a : A) (m : ℕ) → read F s at ≡ took a m → go a m ≡ on a m) → F .parse s at stop go ≡ F .parse s at stop on
+parse-alike-read F s at stop go on q = F .same s at stop go ∙ result-alike (read F s at) stop go on q ∙ sym (F .same s at stop on)
 
-pub run-alike : {A R : Type 0} (F : Format A) (s : List ℕ) (at : ℕ) (stop : Refusal → R) (go on : A → ℕ → R)
-    → ((a : A) (m : ℕ) → go a m ≡ on a m) → F .run s at stop go ≡ F .run s at stop on
-run-alike F s at stop go on q = run-alike-read F s at stop go on (λ a m e. q a m)
+pub parse-alike : {A R : Type 0} (F : Format A) (s : List ℕ) (at : ℕ) (stop : Refusal → R) (go on : A → ℕ → R)
+    → ((a : A) (m : ℕ) → go a m ≡ on a m) → F .parse s at stop go ≡ F .parse s at stop on
+parse-alike F s at stop go on q = parse-alike-read F s at stop go on (λ a m e. q a m)
 
 -- ---- a test behind a reading
 
@@ -135,7 +135,8 @@ pick-ruled false r p v n e q = (r, refused-rule (by r p) e q)
 pub refused-placed : {A : Type 0} (b : ℕ) (d e : Refusal) → d .place ≤ b → _≡_ {A = Result A} (refused d) (refused e) → e .place ≤ b
 refused-placed b d e h q = let z : d ≡ e = cc in subst (λ (r : Refusal). r .place ≤ b) z h
 
-pub pick-placed : {A : Type 0} (b : ℕ) (t : Bool) (d : Refusal) (v : A) (n : ℕ) (e : Refusal) → d .place ≤ b → pick t (took v n) (refused d) ≡ refused e → e .place ≤ b
+pub pick-placed : {A : Type 0} (b : ℕ) (t : Bool) (d : Refusal) (v : A) (n : ℕ) (e : Refusal) → d .place ≤ b → pick t (took v n) (refused d) ≡ refused e
+    → e .place ≤ b
 pick-placed b true d v n e h q = took-refused v n e q
 pick-placed {A} b false d v n e h q = refused-placed {A = A} b d e h q
 
@@ -148,7 +149,7 @@ stands-append s at a m b n h k =
       there = h .there ∙ ap (λ (r : List ℕ). a ++ r) (k .there) ∙ sym (append-assoc a b (drop n s));
     }
 
-pub stands-part : (s : List ℕ) (at : ℕ) (w : List ℕ) (next : ℕ) → Stands s at w next → w ≡ part at next s
+pub stands-part : (s : List ℕ) (at : ℕ) (w : List ℕ) (next : ℕ) → Stands s at w next → w ≡ between at next s
 stands-part s at w next h = rw (h .there) (sym (take-at w (drop next s) (next - at) (omega arith)))
 
 -- of a place inside s, the end is inside too
@@ -189,10 +190,10 @@ pub result-stable : {A B : Type 0} (o o′ : Result A) (k k′ : A → ℕ → R
 result-stable (took a m) o′ k k′ e f g h q = rw (f a m refl) (h a m refl q)
 result-stable (refused d) o′ k k′ e f g h q = let z : d ≡ e = cc in rw (g (ap refused z))
 
-pub run-stable : {A B : Type 0} (F : Format A) (s t : List ℕ) (at : ℕ) (k k′ : A → ℕ → Result B) (e : Refusal) → Bytes s → (e .rule ≡ ruleOf cutShort → ⊥)
+pub parse-stable : {A B : Type 0} (F : Format A) (s t : List ℕ) (at : ℕ) (k k′ : A → ℕ → Result B) (e : Refusal) → Bytes s → (e .rule ≡ ruleOf cutShort → ⊥)
     → ((a : A) (m : ℕ) → read F s at ≡ took a m → k a m ≡ refused e → k′ a m ≡ refused e)
-    → F .run s at refused k ≡ refused e → F .run (s ++ t) at refused k′ ≡ refused e
-run-stable F s t at k k′ e bs ne h q =
+    → F .parse s at refused k ≡ refused e → F .parse (s ++ t) at refused k′ ≡ refused e
+parse-stable F s t at k k′ e bs ne h q =
     F .same (s ++ t) at refused k′
     ∙ result-stable (read F s at) (read F (s ++ t) at) k k′ e (λ a m. kept F s t at a m bs) (F .stable s t at e bs ne) h (sym (F .same s at refused k) ∙ q)
 
@@ -203,9 +204,9 @@ pub result-ruled : {A B : Type 0} (o : Result A) (k : A → ℕ → Result B) (e
 result-ruled (took a m) k e f g q = g a m q
 result-ruled (refused d) k e f g q = let z : d ≡ e = cc in f e (ap refused z)
 
-pub run-ruled : {A B : Type 0} (F : Format A) (s : List ℕ) (at : ℕ) (k : A → ℕ → Result B) (e : Refusal)
-    → ((a : A) (m : ℕ) → k a m ≡ refused e → Ruled (e .rule)) → F .run s at refused k ≡ refused e → Ruled (e .rule)
-run-ruled F s at k e g q = result-ruled (read F s at) k e (F .ruled s at) g (sym (F .same s at refused k) ∙ q)
+pub parse-ruled : {A B : Type 0} (F : Format A) (s : List ℕ) (at : ℕ) (k : A → ℕ → Result B) (e : Refusal)
+    → ((a : A) (m : ℕ) → k a m ≡ refused e → Ruled (e .rule)) → F .parse s at refused k ≡ refused e → Ruled (e .rule)
+parse-ruled F s at k e g q = result-ruled (read F s at) k e (F .ruled s at) g (sym (F .same s at refused k) ∙ q)
 
 -- ---- the place of a refusal
 
@@ -215,10 +216,10 @@ result-placed b (took a m) k e f g q = g a m refl q
 result-placed b (refused d) k e f g q = let z : d ≡ e = cc in f e (ap refused z)
 
 -- what goes on is told what was read, and that it ends inside
-pub run-placed : {A B : Type 0} (F : Format A) (s : List ℕ) (at : ℕ) (k : A → ℕ → Result B) (e : Refusal) → Bytes s → at ≤ length s
+pub parse-placed : {A B : Type 0} (F : Format A) (s : List ℕ) (at : ℕ) (k : A → ℕ → Result B) (e : Refusal) → Bytes s → at ≤ length s
     → ((a : A) (m : ℕ) → F .Good a → Stands s at (F .write a) m → m ≤ length s → k a m ≡ refused e → e .place ≤ length s)
-    → F .run s at refused k ≡ refused e → e .place ≤ length s
-run-placed F s at k e bs h g q =
+    → F .parse s at refused k ≡ refused e → e .place ≤ length s
+parse-placed F s at k e bs h g q =
     result-placed (length s) (read F s at) k e (λ d. F .placed s at d bs h)
     (λ a m r. let (ga, sa) = F .sound s at a m bs r in g a m ga sa (stands-inside s at (F .write a) m sa h)) (sym (F .same s at refused k) ∙ q)
 

@@ -12,20 +12,21 @@ use borrow.Author.Tests.{leb-true, le-leb, eqb-true, eqb-false, eq-eqb, ne-eqb}
 use Rattle.wire.specs.declared.Refusal.{Refusal}
 use Rattle.wire.specs.Bytes.{Bytes, pick}
 use Rattle.wire.specs.Numbers.{ruleNumber, refusal, numberOf, ruleOf, cutShort, tooLong, bytesAfterEnd, ruled-range}
-use Rattle.wire.specs.Format.{Format, Result, took, refused, onResult, read, moved, run-inv, run-same, run-stable, run-placed, pick-inv, pick-same, pick-placed, stands-inside, refused-rule, refused-placed, took-refused}
+use Rattle.wire.specs.Format.{Format, Result, took, refused, onResult, read, moved, parse-inv, parse-same, parse-stable, parse-placed}
+use Rattle.wire.specs.Format.{pick-inv, pick-same, pick-placed, stands-inside, refused-rule, refused-placed, took-refused}
 
 module _ {A : Type 0} (F : Format A) (most : ℕ) where
   abbrev pub whole : {R : Type 0} → List ℕ → (Refusal → R) → (A → ℕ → R) → R
   whole s stop go =
       pick (leb (length s) most)
-      (F .run s 0 stop λ v n. pick (eqb n (length s)) (go v n) (stop (refusal bytesAfterEnd n)))
+      (F .parse s 0 stop λ v n. pick (eqb n (length s)) (go v n) (stop (refusal bytesAfterEnd n)))
       (stop (refusal tooLong 0))
 
   -- what is taken whole is a value of the format, its writing is the bytes, and these are not too many
   pub whole-sound : (s : List ℕ) (v : A) (n : ℕ) → Bytes s → whole s refused took ≡ took v n → F .Good v × (F .write v ≡ s) × (n ≡ length s) × (length s ≤ most)
   whole-sound s v n bs e =
       let (fits, e₁) = pick-inv (leb (length s) most) (refusal tooLong 0) _ v n e in
-      let (a, m, ea, e₂) = run-inv F s 0 _ v n e₁ in
+      let (a, m, ea, e₂) = parse-inv F s 0 _ v n e₁ in
       let (end, e₃) = pick-inv (eqb m (length s)) (refusal bytesAfterEnd m) _ v n e₂ in
       let (ga, sa) = F .sound s 0 a m bs ea in
       let len : m ≡ length s = eqb-true m (length s) end in
@@ -38,17 +39,24 @@ module _ {A : Type 0} (F : Format A) (most : ℕ) where
       → whole (F .write v) stop go ≡ go v (length (F .write v))
   whole-complete v stop go g h =
       let w : List ℕ = F .write v in
-      rw (le-leb (length w) most h, F .complete w 0 v [] stop (λ v n. pick (eqb n (length w)) (go v n) (stop (refusal bytesAfterEnd n))) g (sym (append-nil w)), zero-add, eq-eqb (length w) (length w) refl)
+      rw (
+        le-leb (length w) most h,
+        F .complete w 0 v [] stop (λ v n. pick (eqb n (length w)) (go v n) (stop (refusal bytesAfterEnd n))) g
+            (sym (append-nil w)),
+        zero-add,
+        eq-eqb (length w) (length w) refl,
+      )
 
   pub whole-same : {R : Type 0} (s : List ℕ) (stop : Refusal → R) (go : A → ℕ → R) → whole s stop go ≡ onResult (whole s refused took) stop go
   whole-same s stop go = fits (leb (length s) most)
     where
-      inner : F .run s 0 stop (λ v n. pick (eqb n (length s)) (go v n) (stop (refusal bytesAfterEnd n)))
-          ≡ onResult (F .run s 0 refused (λ v n. pick (eqb n (length s)) (took v n) (refused (refusal bytesAfterEnd n)))) stop go
-      inner = run-same F s 0 _ _ stop go (λ v n. pick-same (eqb n (length s)) (refusal bytesAfterEnd n) v n stop go)
+      inner : F .parse s 0 stop (λ v n. pick (eqb n (length s)) (go v n) (stop (refusal bytesAfterEnd n)))
+          ≡ onResult (F .parse s 0 refused (λ v n. pick (eqb n (length s)) (took v n) (refused (refusal bytesAfterEnd n)))) stop go
+      inner = parse-same F s 0 _ _ stop go (λ v n. pick-same (eqb n (length s)) (refusal bytesAfterEnd n) v n stop go)
 
-      fits : (b : Bool) → pick b (F .run s 0 stop (λ v n. pick (eqb n (length s)) (go v n) (stop (refusal bytesAfterEnd n)))) (stop (refusal tooLong 0))
-          ≡ onResult (pick b (F .run s 0 refused (λ v n. pick (eqb n (length s)) (took v n) (refused (refusal bytesAfterEnd n)))) (refused (refusal tooLong 0))) stop go
+      fits : (b : Bool) → pick b (F .parse s 0 stop (λ v n. pick (eqb n (length s)) (go v n) (stop (refusal bytesAfterEnd n)))) (stop (refusal tooLong 0))
+          ≡ onResult (pick b (F .parse s 0 refused (λ v n. pick (eqb n (length s)) (took v n) (refused (refusal bytesAfterEnd n))))
+          (refused (refusal tooLong 0))) stop go
       fits true = inner
       fits false = refl
 
@@ -58,8 +66,9 @@ module _ {A : Type 0} (F : Format A) (most : ℕ) where
   whole-stable s t e bs ne h q =
       let few : length s ≤ most = omega (arith, length-append s t) in
       rw (le-leb (length (s ++ t)) most h)
-      (run-stable F s t 0 _ _ e bs ne
-      (λ v n r. behind v n (eqb n (length s)) refl (stands-inside s 0 (F .write v) n (F .sound s 0 v n bs r .1) (omega arith))) (rw (le-leb (length s) most few) at q))
+      (parse-stable F s t 0 _ _ e bs ne
+      (λ v n r. behind v n (eqb n (length s)) refl (stands-inside s 0 (F .write v) n (F .sound s 0 v n bs r .1) (omega arith)))
+      (rw (le-leb (length s) most few) at q))
     where
       behind : (v : A) (n : ℕ) (b : Bool) → eqb n (length s) ≡ b → n ≤ length s
           → pick (eqb n (length s)) (took v n) (refused (refusal bytesAfterEnd n)) ≡ refused e
@@ -83,7 +92,8 @@ module _ {A : Type 0} (F : Format A) (most : ℕ) where
           let (a, b) = ruled-range (d .rule) (F .ruled s 0 d r) in
           (omega arith, omega arith)
 
-      fits : (b : Bool) → pick b (F .run s 0 refused (λ v n. pick (eqb n (length s)) (took v n) (refused (refusal bytesAfterEnd n)))) (refused (refusal tooLong 0)) ≡ refused e
+      fits : (b : Bool) → pick b (F .parse s 0 refused (λ v n. pick (eqb n (length s)) (took v n) (refused (refusal bytesAfterEnd n))))
+          (refused (refusal tooLong 0)) ≡ refused e
           → (1 ≤ numberOf e) × (numberOf e ≤ 13)
       fits true q = inside (read F s 0) refl (sym (F .same s 0 refused _) ∙ q)
       fits false q = let z = ap ruleNumber (refused-rule {A = A} (refusal tooLong 0) e q) in (omega arith, omega arith)
@@ -92,7 +102,8 @@ module _ {A : Type 0} (F : Format A) (most : ℕ) where
   pub whole-placed : (s : List ℕ) (e : Refusal) → Bytes s → whole s refused took ≡ refused e → e .place ≤ length s
   whole-placed s e bs = fits (leb (length s) most)
     where
-      fits : (b : Bool) → pick b (F .run s 0 refused (λ v n. pick (eqb n (length s)) (took v n) (refused (refusal bytesAfterEnd n)))) (refused (refusal tooLong 0)) ≡ refused e
+      fits : (b : Bool) → pick b (F .parse s 0 refused (λ v n. pick (eqb n (length s)) (took v n) (refused (refusal bytesAfterEnd n))))
+          (refused (refusal tooLong 0)) ≡ refused e
           → e .place ≤ length s
-      fits true = run-placed F s 0 _ e bs (omega arith) (λ v n g h i. pick-placed (length s) (eqb n (length s)) (refusal bytesAfterEnd n) v n e i)
+      fits true = parse-placed F s 0 _ e bs (omega arith) (λ v n g h i. pick-placed (length s) (eqb n (length s)) (refusal bytesAfterEnd n) v n e i)
       fits false = refused-placed {A = A} (length s) (refusal tooLong 0) e (omega arith)

@@ -5,9 +5,9 @@ ghost use Prim.Native.Nat.{_-_, _%_, _^_, _≤_, _<_, min};
 ghost use mathlib.Core.List.{_++_};
 ghost use lib.ListN.{length, take, drop};
 ghost use lib.Dec.{leb};
-ghost use Rattle.wire.specs.Bytes.{part, value, digits, below};
+ghost use Rattle.wire.specs.Bytes.{between, value, digits, below};
 ghost use Rattle.wire.specs.Numbers.{ruleNumber, refusal, cutAt};
-ghost use Rattle.wire.specs.Fields.{blob, number};
+ghost use Rattle.wire.specs.Fields.{blob, integer};
 ghost use Rattle.wire.specs.Order.{order, keyBelow};
 ghost use Rattle.wire.specs.Answer.{ended, valued, wholeAt};
 
@@ -36,7 +36,7 @@ pub enum Rule {
     NotASignature,
 }
 
-// Why a reading or a request ends: the rule that is broken, and the place. The place stands first, where `Part::Next` has its own: they would
+// Why a reading or a request ends: the rule that is broken, and the place. The place stands first, where `End::At` has its own: they would
 // otherwise be taken apart and put together byte by byte.
 pub struct Refusal {
     pub place: usize,
@@ -44,13 +44,13 @@ pub struct Refusal {
 }
 
 // A part that is wholly there, with the place behind it.
-pub enum Part {
-    Next(usize),
+pub enum End {
+    At(usize),
     Refused(Refusal),
 }
 
 // A number that is wholly there, with the place behind it.
-pub enum Number {
+pub enum Integer {
     Value(u64, usize),
     Refused(Refusal),
 }
@@ -127,13 +127,13 @@ fn are_there(s: &[u8], at: usize, width: usize) -> bool
     true
 }
 
-pub fn part_at(s: &[u8], at: usize, width: usize) -> Part
+pub fn field_at(s: &[u8], at: usize, width: usize) -> End
     ensures { λ r. ⌜ r ≡ ended (blob width) (now (s .entry)) at ⌝ }
 {
     if are_there(s, at, width) {
-        return Part::Next(at + width);
+        return End::At(at + width);
     }
-    Part::Refused(cut(s, at, width))
+    End::Refused(cut(s, at, width))
 }
 
 // The number that width bytes make, all of which are there.
@@ -152,43 +152,43 @@ fn value_at(s: &[u8], at: usize, width: usize) -> u64
 }
 
 // A number of any width that a u64 holds.
-fn number_at(s: &[u8], at: usize, width: usize) -> Number
+fn integer_at(s: &[u8], at: usize, width: usize) -> Integer
     requires { ⌜ width ≤ 8 ⌝ }
-    ensures { λ r. ⌜ r ≡ valued (number width) (now (s .entry)) at ⌝ }
+    ensures { λ r. ⌜ r ≡ valued (integer width) (now (s .entry)) at ⌝ }
 {
     if are_there(s, at, width) {
-        return Number::Value(value_at(s, at, width), at + width);
+        return Integer::Value(value_at(s, at, width), at + width);
     }
-    Number::Refused(cut(s, at, width))
+    Integer::Refused(cut(s, at, width))
 }
 
-pub fn u8_at(s: &[u8], at: usize) -> Number
-    ensures { λ r. ⌜ r ≡ valued (number 1) (now (s .entry)) at ⌝ }
+pub fn u8_at(s: &[u8], at: usize) -> Integer
+    ensures { λ r. ⌜ r ≡ valued (integer 1) (now (s .entry)) at ⌝ }
 {
-    number_at(s, at, 1)
+    integer_at(s, at, 1)
 }
 
-pub fn u16_at(s: &[u8], at: usize) -> Number
-    ensures { λ r. ⌜ r ≡ valued (number 2) (now (s .entry)) at ⌝ }
+pub fn u16_at(s: &[u8], at: usize) -> Integer
+    ensures { λ r. ⌜ r ≡ valued (integer 2) (now (s .entry)) at ⌝ }
 {
-    number_at(s, at, 2)
+    integer_at(s, at, 2)
 }
 
-pub fn u32_at(s: &[u8], at: usize) -> Number
-    ensures { λ r. ⌜ r ≡ valued (number 4) (now (s .entry)) at ⌝ }
+pub fn u32_at(s: &[u8], at: usize) -> Integer
+    ensures { λ r. ⌜ r ≡ valued (integer 4) (now (s .entry)) at ⌝ }
 {
-    number_at(s, at, 4)
+    integer_at(s, at, 4)
 }
 
-pub fn u64_at(s: &[u8], at: usize) -> Number
-    ensures { λ r. ⌜ r ≡ valued (number 8) (now (s .entry)) at ⌝ }
+pub fn u64_at(s: &[u8], at: usize) -> Integer
+    ensures { λ r. ⌜ r ≡ valued (integer 8) (now (s .entry)) at ⌝ }
 {
-    number_at(s, at, 8)
+    integer_at(s, at, 8)
 }
 
 // The bytes from a up to e, as far as they are there.
 pub fn between(s: &[u8], a: usize, e: usize) -> &[u8]
-    ensures { λ r. ⌜ now r ≡ part a e (now (s .entry)) ⌝ }
+    ensures { λ r. ⌜ now r ≡ between a e (now (s .entry)) ⌝ }
 {
     if s.len() < a {
         return &s[..0];
@@ -215,9 +215,9 @@ pub fn put_bytes(room: &mut [u8], from: &[u8])
 
 // Fills room, which has some, with the bytes from at, and leaves it where they are not all there. As many are taken as room has, so that the
 // compiler knows their number where it knows the room's: it copies them with no loop.
-fn put_part(room: &mut [u8], s: &[u8], at: usize)
+fn copy_field(room: &mut [u8], s: &[u8], at: usize)
     requires { ⌜ 0 < length (now room) ⌝ }
-    ensures { λ _. ⌜ now (room .exit) ≡ blob (length (now (room .entry))) .run (now (s .entry)) at (λ e. now (room .entry)) (λ b n. b) ⌝ }
+    ensures { λ _. ⌜ now (room .exit) ≡ blob (length (now (room .entry))) .parse (now (s .entry)) at (λ e. now (room .entry)) (λ b n. b) ⌝ }
 {
     if are_there(s, at, room.len()) {
         put_bytes(room, &s[at..at + room.len()]);
@@ -229,7 +229,7 @@ pub fn id_at(s: &[u8], at: usize) -> [u8; 32]
     ensures { λ r. ⌜ r ≡ wholeAt 32 (now (s .entry)) at ⌝ }
 {
     let mut id = [0u8; 32];
-    put_part(&mut id, s, at);
+    copy_field(&mut id, s, at);
     id
 }
 
@@ -238,7 +238,7 @@ pub fn address_at(s: &[u8], at: usize) -> [u8; 20]
     ensures { λ r. ⌜ r ≡ wholeAt 20 (now (s .entry)) at ⌝ }
 {
     let mut address = [0u8; 20];
-    put_part(&mut address, s, at);
+    copy_field(&mut address, s, at);
     address
 }
 
@@ -290,8 +290,8 @@ pub fn is_below(a: &[u8], b: &[u8]) -> bool
 }
 
 // Of two parts that stand next to each other, from a up to b and from b up to c: is the second strictly below the first?
-pub fn parts_below(s: &[u8], a: usize, b: usize, c: usize) -> bool
-    ensures { λ r. ⌜ r ≡ below (part b c (now (s .entry))) (part a b (now (s .entry))) ⌝ }
+pub fn next_below(s: &[u8], a: usize, b: usize, c: usize) -> bool
+    ensures { λ r. ⌜ r ≡ below (between b c (now (s .entry))) (between a b (now (s .entry))) ⌝ }
 {
     if s.len() < c {
         return is_below(between(s, b, c), between(s, a, b));
@@ -333,7 +333,7 @@ pub fn key_below(a: [u8; 32], i: u64, b: [u8; 32], j: u64) -> bool
 }
 
 // Fills room with the lowest bytes of value, the highest of them first.
-pub fn put_number(room: &mut [u8], value: u64)
+pub fn put_integer(room: &mut [u8], value: u64)
     ensures { λ _. ⌜ now (room .exit) ≡ digits (length (now (room .entry))) (value % 256 ^ length (now (room .entry))) ⌝ }
 {
     let mut i = room.len();

@@ -5,10 +5,10 @@ use mathlib.Core.Bool.{Bool, false}
 use mathlib.Core.List.{List, []}
 use lib.Dec.{ltb}
 use borrow.Author.Tests.{le-leb, lt-leb, ne-eqb}
-use Rattle.wire.specs.Bytes.{part}
+use Rattle.wire.specs.Bytes.{between}
 use Rattle.wire.specs.declared.Refusal.{Refusal}
-use Rattle.judge.specs.declared.Verdict.{Verdict}
-use Rattle.judge.specs.declared.Verdict.the-variants as J
+use Rattle.writer_rules.specs.declared.Verdict.{Verdict}
+use Rattle.writer_rules.specs.declared.Verdict.the-variants as J
 use Rattle.writer.specs.declared.Writer.{Writer}
 use Rattle.writer.specs.declared.Step.{Step}
 use Rattle.writer.specs.Steps.{answered, prev, sane}
@@ -21,7 +21,7 @@ module _ (w : Writer) (s : List ℕ) where
   unfolding prev
   no-last e = rw e
 
-  pub last-there : (t : List ℕ) → t ≡ part (w .last) (w .at) s → (w .count ≡ 0 → ⊥) → t ≡ prev w s
+  pub last-there : (t : List ℕ) → t ≡ between (w .last) (w .at) s → (w .count ≡ 0 → ⊥) → t ≡ prev w s
   unfolding prev
   last-there t h e = rw (ne-eqb (w .count) 0 e) h
 

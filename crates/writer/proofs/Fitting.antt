@@ -13,12 +13,12 @@ use Rattle.transaction.specs.declared.FieldName.{FieldName}
 use Rattle.transaction.specs.declared.FieldName.the-variants as F
 use Rattle.transaction.specs.declared.ListName.{ListName}
 use Rattle.transaction.specs.declared.ListName.the-variants as L
-use Rattle.judge.specs.declared.Verdict.{Verdict}
-use Rattle.judge.specs.Given.{Given}
-use Rattle.judge.specs.Judged.{barred, judged}
-use Rattle.judge.proofs.Verdicts.{both-true}
-use Rattle.due.specs.Plans.{fieldCode, listCode, tail, dueOf, isList, isField, isOpen}
-use Rattle.buffer.specs.Stores.{roomFor, overwrite, countOf}
+use Rattle.writer_rules.specs.declared.Verdict.{Verdict}
+use Rattle.writer_rules.specs.Given.{Given}
+use Rattle.writer_rules.specs.Judged.{refusedBy, judged}
+use Rattle.writer_rules.proofs.Verdicts.{both-true}
+use Rattle.plan.specs.Due.{fieldCode, listCode, tail, dueOf, isList, isField, isOpen}
+use Rattle.writer_buffer.specs.Stores.{roomFor, overwrite, countOf}
 use Rattle.writer.specs.declared.Writer.{Writer}
 use Rattle.writer.specs.declared.Step.{Step}
 use Rattle.writer.specs.Steps.{Turn, answered, guarded, prev, sane, grown, appended, opening, opened, sameField, sameList, putFieldAt, putElementAt}
@@ -47,19 +47,19 @@ module _ (last : List ℕ) (g : Given) (v : Verdict) where
   listJudged l = judged (elementsOf l .element last) g v
 
   -- by a list's number
-  abbrev numberJudged : ℕ → Verdict
-  numberJudged n = listJudged (pick (eqb n 0) L.Output (pick (eqb n 1) L.Input (pick (eqb n 2) L.State L.Operation)))
+  abbrev integerJudged : ℕ → Verdict
+  integerJudged n = listJudged (pick (eqb n 0) L.Output (pick (eqb n 1) L.Input (pick (eqb n 2) L.State L.Operation)))
 
-  number-judged : (l : ListName) → numberJudged (listCode l) ≡ listJudged l
-  number-judged L.Output = refl
-  number-judged L.Input = refl
-  number-judged L.State = refl
-  number-judged L.Operation = refl
-  number-judged L.Imported = refl
-  number-judged L.Exported = refl
+  integer-judged : (l : ListName) → integerJudged (listCode l) ≡ listJudged l
+  integer-judged L.Output = refl
+  integer-judged L.Input = refl
+  integer-judged L.State = refl
+  integer-judged L.Operation = refl
+  integer-judged L.Imported = refl
+  integer-judged L.Exported = refl
 
   pub same-list : (l m : ListName) → sameList l m ≡ true → listJudged m ≡ listJudged l
-  same-list l m e = sym (number-judged m) ∙ ap numberJudged (sym (eqb-true (listCode l) (listCode m) e)) ∙ number-judged l
+  same-list l m e = sym (integer-judged m) ∙ ap integerJudged (sym (eqb-true (listCode l) (listCode m) e)) ∙ integer-judged l
 
 pub opening-is : (q : Plan) → opening q ≡ countOf (isList (dueOf q))
 opening-is shut = refl
@@ -75,10 +75,10 @@ no e = absurd (false≢true e)
 module _ (most : ℕ) (w : Writer) (s : List ℕ) (f : FieldName) (g : Given) where
   pub other-field : (r : Step) → r ≡ notDueStep w → (q : Plan) → isField f (dueOf q) ≡ false → after r s ≡ putFieldAt most q w s f g
   unfolding putFieldAt
-  other-field r h shut e = kept-out w s (barred stepNotDue) w s _ refl r h
-  other-field r h end e = kept-out w s (barred stepNotDue) w s _ refl r h
+  other-field r h shut e = kept-out w s (refusedBy stepNotDue) w s _ refl r h
+  other-field r h end e = kept-out w s (refusedBy stepNotDue) w s _ refl r h
   other-field r h (field k q) e = kept-out w s _ _ _ _ (guarded-not (sameField f k) w s _ e) r h
-  other-field r h (many l least q) e = kept-out w s (barred stepNotDue) w s _ refl r h
+  other-field r h (many l least q) e = kept-out w s (refusedBy stepNotDue) w s _ refl r h
 
   -- what bars the field once it is due, where a list is next or not
   abbrev pub fieldVerdict : Bool → Verdict
@@ -89,7 +89,7 @@ module _ (most : ℕ) (w : Writer) (s : List ℕ) (f : FieldName) (g : Given) wh
   fieldStep v opens =
       answered v w s
       record {
-        kind = w .kind;
+        «type_id» = w .«type_id»;
         phase = suc (w .phase);
         at = w .at + length (g .bytes) + length (countOf opens);
         list = w .at + length (g .bytes);
@@ -103,11 +103,19 @@ module _ (most : ℕ) (w : Writer) (s : List ℕ) (f : FieldName) (g : Given) wh
   unfolding putFieldAt
   field-here q h e =
       ap (λ (c : List ℕ). answered (guarded true w s (judged (contentOf most f) g (roomFor (w .at + length (g .bytes ++ c)) s))) w s
-      (record { kind = w .kind; phase = suc (w .phase); at = w .at + length (g .bytes) + length c; list = w .at + length (g .bytes); count = 0; last = 0 })
+      (record {
+        «type_id» = w .«type_id»;
+        phase = suc (w .phase);
+        at = w .at + length (g .bytes) + length c;
+        list = w .at + length
+            (g .bytes);
+        count = 0;
+        last = 0;
+      })
       (overwrite s (w .at) (g .bytes ++ c))) (sym (opening-is q))
       ∙ ap₂ (λ (t : Bool) (k : FieldName).
       answered (guarded t w s (judged (contentOf most k) g (roomFor (w .at + length (g .bytes ++ opening q)) s))) w s
-      (opened (w .kind) (suc (w .phase)) (w .at + length (g .bytes)) q) (overwrite s (w .at) (g .bytes ++ opening q))) (sym e) (sym (same-field f h e))
+      (opened (w .«type_id») (suc (w .phase)) (w .at + length (g .bytes)) q) (overwrite s (w .at) (g .bytes ++ opening q))) (sym e) (sym (same-field f h e))
 
   pub field-put : (q : Plan) → isField f (dueOf q) ≡ true → (opens : Bool) → opens ≡ isList (dueOf (tail q))
       → fieldStep (fieldVerdict opens) opens ≡ putFieldAt most q w s f g
@@ -121,9 +129,9 @@ module _ (most : ℕ) (w : Writer) (s : List ℕ) (f : FieldName) (g : Given) wh
 module _ (w : Writer) (s : List ℕ) (l : ListName) (g : Given) where
   pub other-list : (r : Step) → r ≡ notDueStep w → (q : Plan) → (isOpen l (dueOf q) && sane w) ≡ false → after r s ≡ putElementAt q w s l g
   unfolding putElementAt
-  other-list r h shut e = kept-out w s (barred stepNotDue) w s _ refl r h
-  other-list r h end e = kept-out w s (barred stepNotDue) w s _ refl r h
-  other-list r h (field f q) e = kept-out w s (barred stepNotDue) w s _ refl r h
+  other-list r h shut e = kept-out w s (refusedBy stepNotDue) w s _ refl r h
+  other-list r h end e = kept-out w s (refusedBy stepNotDue) w s _ refl r h
+  other-list r h (field f q) e = kept-out w s (refusedBy stepNotDue) w s _ refl r h
   other-list r h (many m least q) e = kept-out w s _ _ _ _ (guarded-not (sameList l m && sane w) w s _ e) r h
 
   -- what bars the element once it is due

@@ -14,8 +14,8 @@ use Rattle.wire.specs.Numbers.{ruleOf, cutShort, badLength, emptyList}
 use Rattle.wire.specs.Fields.{blob}
 use Rattle.wire.specs.Series.{notBelow}
 use Rattle.wire.specs.declared.Refusal.{Refusal}
-use Rattle.wire.specs.declared.Part.{Part}
-use Rattle.wire.specs.declared.Part.the-variants as P
+use Rattle.wire.specs.declared.End.{End}
+use Rattle.wire.specs.declared.End.the-variants as P
 use Rattle.element.specs.Outputs.{transferableOutput}
 use Rattle.element.specs.Inputs.{input}
 use Rattle.element.specs.Operations.{operation, initialState}
@@ -26,32 +26,32 @@ use Rattle.transaction.specs.declared.FieldName.{FieldName}
 use Rattle.transaction.specs.declared.FieldName.the-variants as F
 use Rattle.transaction.specs.declared.ListName.{ListName}
 use Rattle.transaction.specs.declared.ListName.the-variants as L
-use Rattle.judge.specs.declared.Verdict.{Verdict}
-use Rattle.judge.specs.declared.Verdict.the-variants as J
-use Rattle.judge.specs.Given.{headBytes, given, outputGiven, inputGiven}
-use Rattle.judge.specs.Judged.{barred, judged, onFine}
-use Rattle.judge.specs.Elements.{outputFront, outputHead, inputHead, numbersBytes}
-use Rattle.judge.specs.Texts.{kindRules, listRules, memoRules, textRules, denominationRules}
-use Rattle.judge.proofs.Verdicts.{pick-fine, judged-read, judged-on}
-use Rattle.judge.proofs.Outputs.{built-written, output-bytes}
-use Rattle.judge.proofs.Inputs.{written-input, input-bytes, length-numbers}
-use Rattle.judge.proofs.FieldLaws.{string-write, text-write, string-judged, text-judged}
-use Rattle.judge.proofs.FieldLaws.{denomination-write, denomination-judged, id-judged, head-judged, front-is}
-use Rattle.due.specs.declared.Due.{Due}
-use Rattle.due.specs.declared.Due.the-variants as D
-use Rattle.due.specs.Plans.{tail, due, dueOf, isList, isField, isOpen, isEnd}
-use Rattle.due.proofs.Rows.{phase-small}
-use Rattle.blank.specs.Closing.{closing, closable}
+use Rattle.writer_rules.specs.declared.Verdict.{Verdict}
+use Rattle.writer_rules.specs.declared.Verdict.the-variants as J
+use Rattle.writer_rules.specs.Given.{headBytes, given, outputGiven, inputGiven}
+use Rattle.writer_rules.specs.Judged.{refusedBy, judged, onAllowed}
+use Rattle.writer_rules.specs.Elements.{outputFront, outputHead, inputHead, integersBytes}
+use Rattle.writer_rules.specs.Texts.{typeRules, listRules, memoRules, textRules, denominationRules}
+use Rattle.writer_rules.proofs.Verdicts.{pick-fine, judged-read, judged-on}
+use Rattle.writer_rules.proofs.Outputs.{built-written, output-bytes}
+use Rattle.writer_rules.proofs.Inputs.{written-input, input-bytes, length-integers}
+use Rattle.writer_rules.proofs.FieldLaws.{string-write, text-write, string-judged, text-judged}
+use Rattle.writer_rules.proofs.FieldLaws.{denomination-write, denomination-judged, id-judged, head-judged, front-is}
+use Rattle.plan.specs.declared.Due.{Due}
+use Rattle.plan.specs.declared.Due.the-variants as D
+use Rattle.plan.specs.Due.{tail, due, dueOf, isList, isField, isOpen, isFinish}
+use Rattle.plan.proofs.RowLaws.{phase-small}
+use Rattle.writer_blank.specs.Closing.{closing, closable}
 use Rattle.writer.specs.declared.Writer.{Writer}
 use Rattle.writer.specs.declared.Step.{Step}
 use Rattle.writer.specs.Steps.{Turn, answered, guarded, prev, sane, opened, closeAt, start, close, finish, finishAt}
 use Rattle.writer.specs.Fields.{addOutput, addInput, addOperation, addInitialState, putMemo, putName, putSymbol, putDenomination, putChain}
-use Rattle.writer.specs.Code.{after, refusedStep, notDueStep, noRoomStep, storedStep, dueAt, settled, partStep, opensNext, elementStep}
+use Rattle.writer.specs.Code.{after, refusedStep, notDueStep, noRoomStep, storedStep, dueAt, settled, segmentStep, opensNext, elementStep}
 use Rattle.writer.proofs.Laws.{guarded-fine, guarded-not, guarded-short}
 use Rattle.writer.proofs.Entering.{kept-out}
 use Rattle.writer.proofs.Fitting.{opening-is}
 use Rattle.writer.proofs.Naming.{next-opens, field-barred, field-is, element-barred, element-is}
-use Rattle.buffer.specs.Stores.{roomFor, overwrite, countOf, stored}
+use Rattle.writer_buffer.specs.Stores.{roomFor, overwrite, countOf, stored}
 use Rattle.writer.proofs.Settling.{store-refused, store-done}
 
 -- a number that fits its digits
@@ -59,7 +59,7 @@ fits-digits : (w n m : ℕ) → n ≤ m → m < 256 ^ w → digits w (n % 256 ^ 
 fits-digits w n m h k = ap (digits w) (mod-eq-of-lt (omega arith))
 
 -- where a text's rules hold, it is not longer than allowed
-text-short : (long : ℕ) (b : List ℕ) → textRules long b ≡ J.Fine → length b ≤ long
+text-short : (long : ℕ) (b : List ℕ) → textRules long b ≡ J.Allowed → length b ≤ long
 text-short long b e =
     let (_, e₁) = pick-fine (ltb 0 (length b)) _ (ruleOf badLength) e in
     leb-true (length b) long (pick-fine (leb (length b) long) _ (ruleOf badLength) e₁ .0)
@@ -73,81 +73,81 @@ module _ (most : ℕ) (w : Writer) (s : List ℕ) (t : Bool) (n : not t ≡ fals
 
   -- the bytes zs are put
   abbrev Puts : Step → List ℕ → List ℕ → Type 0
-  Puts r u zs = after r u ≡ partStep w s zs (opensNext w)
+  Puts r u zs = after r u ≡ segmentStep w s zs (opensNext w)
 
   module _ (b : List ℕ) where
     module _ (p : IsDue F.Memo) (hx : x ≡ memoRules most (length b)) where
-      memo-judged : x ≡ judged (contentOf most F.Memo) (given (contentOf most F.Memo .write b)) J.Fine
-      memo-judged = hx ∙ sym (string-judged most b) ∙ ap (λ (z : List ℕ). judged (contentOf most F.Memo) (given z) J.Fine) (sym (string-write 4 most b))
+      memo-judged : x ≡ judged (contentOf most F.Memo) (given (contentOf most F.Memo .write b)) J.Allowed
+      memo-judged = hx ∙ sym (string-judged most b) ∙ ap (λ (z : List ℕ). judged (contentOf most F.Memo) (given z) J.Allowed) (sym (string-write 4 most b))
 
       pub memo-barred : (d : Refusal) → x ≡ J.Refuse d → (r : Step) → r ≡ refusedStep w d → after r s ≡ putMemo most w s b
       memo-barred d e r h = field-barred w s F.Memo t p n most _ long x memo-judged d e r h
 
-      pub memo-is : most < 256 ^ 4 → x ≡ J.Fine → (c : List ℕ) → c ≡ digits 4 (length b % 256 ^ 4) → (r : Step) (u : List ℕ) → Puts r u (c ++ b)
+      pub memo-is : most < 256 ^ 4 → x ≡ J.Allowed → (c : List ℕ) → c ≡ digits 4 (length b % 256 ^ 4) → (r : Step) (u : List ℕ) → Puts r u (c ++ b)
           → after r u ≡ putMemo most w s b
       memo-is k e c hc r u h =
-          let short : length b ≤ most = leb-true (length b) most (pick-fine (leb (length b) most) J.Fine (ruleOf badLength) (sym hx ∙ e) .0) in
+          let short : length b ≤ most = leb-true (length b) most (pick-fine (leb (length b) most) J.Allowed (ruleOf badLength) (sym hx ∙ e) .0) in
           field-is w s F.Memo t p n most _ long x memo-judged e (c ++ b)
           (ap (λ (z : List ℕ). z ++ b) (hc ∙ fits-digits 4 (length b) most short k) ∙ sym (string-write 4 most b)) r u h
 
-    text-made : (m : ℕ) → m < 256 ^ 2 → x ≡ textRules m b → x ≡ J.Fine → (c : List ℕ) → c ≡ digits 2 (length b % 256 ^ 2)
+    text-made : (m : ℕ) → m < 256 ^ 2 → x ≡ textRules m b → x ≡ J.Allowed → (c : List ℕ) → c ≡ digits 2 (length b % 256 ^ 2)
         → c ++ b ≡ digits 2 (length b) ++ b
     text-made m k hx e c hc = ap (λ (z : List ℕ). z ++ b) (hc ∙ fits-digits 2 (length b) m (text-short m b (sym hx ∙ e)) k)
 
     module _ (p : IsDue F.Name) (hx : x ≡ textRules 128 b) where
-      name-judged : x ≡ judged (contentOf most F.Name) (given (contentOf most F.Name .write b)) J.Fine
-      name-judged = hx ∙ sym (text-judged 128 b) ∙ ap (λ (z : List ℕ). judged (contentOf most F.Name) (given z) J.Fine) (sym (text-write 128 b))
+      name-judged : x ≡ judged (contentOf most F.Name) (given (contentOf most F.Name .write b)) J.Allowed
+      name-judged = hx ∙ sym (text-judged 128 b) ∙ ap (λ (z : List ℕ). judged (contentOf most F.Name) (given z) J.Allowed) (sym (text-write 128 b))
 
       pub name-barred : (d : Refusal) → x ≡ J.Refuse d → (r : Step) → r ≡ refusedStep w d → after r s ≡ putName most w s b
       name-barred d e r h = field-barred w s F.Name t p n most _ long x name-judged d e r h
 
-      pub name-is : x ≡ J.Fine → (c : List ℕ) → c ≡ digits 2 (length b % 256 ^ 2) → (r : Step) (u : List ℕ) → Puts r u (c ++ b)
+      pub name-is : x ≡ J.Allowed → (c : List ℕ) → c ≡ digits 2 (length b % 256 ^ 2) → (r : Step) (u : List ℕ) → Puts r u (c ++ b)
           → after r u ≡ putName most w s b
       name-is e c hc r u h =
           field-is w s F.Name t p n most _ long x name-judged e (c ++ b) (text-made 128 (omega arith) hx e c hc ∙ sym (text-write 128 b)) r u h
 
     module _ (p : IsDue F.Symbol) (hx : x ≡ textRules 4 b) where
-      symbol-judged : x ≡ judged (contentOf most F.Symbol) (given (contentOf most F.Symbol .write b)) J.Fine
-      symbol-judged = hx ∙ sym (text-judged 4 b) ∙ ap (λ (z : List ℕ). judged (contentOf most F.Symbol) (given z) J.Fine) (sym (text-write 4 b))
+      symbol-judged : x ≡ judged (contentOf most F.Symbol) (given (contentOf most F.Symbol .write b)) J.Allowed
+      symbol-judged = hx ∙ sym (text-judged 4 b) ∙ ap (λ (z : List ℕ). judged (contentOf most F.Symbol) (given z) J.Allowed) (sym (text-write 4 b))
 
       pub symbol-barred : (d : Refusal) → x ≡ J.Refuse d → (r : Step) → r ≡ refusedStep w d → after r s ≡ putSymbol most w s b
       symbol-barred d e r h = field-barred w s F.Symbol t p n most _ long x symbol-judged d e r h
 
-      pub symbol-is : x ≡ J.Fine → (c : List ℕ) → c ≡ digits 2 (length b % 256 ^ 2) → (r : Step) (u : List ℕ) → Puts r u (c ++ b)
+      pub symbol-is : x ≡ J.Allowed → (c : List ℕ) → c ≡ digits 2 (length b % 256 ^ 2) → (r : Step) (u : List ℕ) → Puts r u (c ++ b)
           → after r u ≡ putSymbol most w s b
       symbol-is e c hc r u h =
           field-is w s F.Symbol t p n most _ long x symbol-judged e (c ++ b) (text-made 4 (omega arith) hx e c hc ∙ sym (text-write 4 b)) r u h
 
   module _ (p : IsDue F.Denomination) (v : ℕ) (hx : x ≡ denominationRules v) where
-    denomination-is-judged : x ≡ judged (contentOf most F.Denomination) (given (contentOf most F.Denomination .write v)) J.Fine
+    denomination-is-judged : x ≡ judged (contentOf most F.Denomination) (given (contentOf most F.Denomination .write v)) J.Allowed
     denomination-is-judged =
-        hx ∙ sym (denomination-judged v) ∙ ap (λ (z : List ℕ). judged (contentOf most F.Denomination) (given z) J.Fine) (sym (denomination-write v))
+        hx ∙ sym (denomination-judged v) ∙ ap (λ (z : List ℕ). judged (contentOf most F.Denomination) (given z) J.Allowed) (sym (denomination-write v))
 
     pub denomination-barred : (d : Refusal) → x ≡ J.Refuse d → (r : Step) → r ≡ refusedStep w d → after r s ≡ putDenomination most w s v
     denomination-barred d e r h = field-barred w s F.Denomination t p n most _ long x denomination-is-judged d e r h
 
-    pub denomination-is : x ≡ J.Fine → v < 256 → (c : List ℕ) → c ≡ digits 1 (v % 256 ^ 1) → (r : Step) (u : List ℕ) → Puts r u (c ++ [])
+    pub denomination-is : x ≡ J.Allowed → v < 256 → (c : List ℕ) → c ≡ digits 1 (v % 256 ^ 1) → (r : Step) (u : List ℕ) → Puts r u (c ++ [])
         → after r u ≡ putDenomination most w s v
     denomination-is e f c hc r u h =
         field-is w s F.Denomination t p n most _ long x denomination-is-judged e (c ++ [])
         (ap (λ (z : List ℕ). z ++ []) (hc ∙ ap (digits 1) (mod-eq-of-lt f)) ∙ sym (denomination-write v)) r u h
 
 pub chain-is : (most : ℕ) (w : Writer) (s : List ℕ) (t : Bool) → not t ≡ false → w .at ≤ length s → t ≡ isField F.Chain (dueAt w)
-    → (c : List ℕ) → length c ≡ 32 → (r : Step) (u : List ℕ) → after r u ≡ partStep w s c (opensNext w) → after r u ≡ putChain most w s c
+    → (c : List ℕ) → length c ≡ 32 → (r : Step) (u : List ℕ) → after r u ≡ segmentStep w s c (opensNext w) → after r u ≡ putChain most w s c
 unfolding blob
-chain-is most w s t n long p c e r u h = field-is w s F.Chain t p n most (given c) long J.Fine (sym (id-judged c e)) refl c refl r u h
+chain-is most w s t n long p c e r u h = field-is w s F.Chain t p n most (given c) long J.Allowed (sym (id-judged c e)) refl c refl r u h
 
 -- ---- closing a list
 
 module _ (w : Writer) (s : List ℕ) where
   -- what bars the close of a list that is due, where another is next or not
   abbrev closeVerdict : ℕ → Bool → Verdict
-  closeVerdict least opens = guarded true w s (pick (leb least (w .count)) (roomFor (w .at + length (countOf opens)) s) (barred (ruleOf emptyList)))
+  closeVerdict least opens = guarded true w s (pick (leb least (w .count)) (roomFor (w .at + length (countOf opens)) s) (refusedBy (ruleOf emptyList)))
 
   -- the close that is due
   abbrev closeStep : Verdict → Bool → Turn
   closeStep v opens =
-      answered v w s record { kind = w .kind; phase = suc (w .phase); at = w .at + length (countOf opens); list = w .at; count = 0; last = 0 }
+      answered v w s record { «type_id» = w .«type_id»; phase = suc (w .phase); at = w .at + length (countOf opens); list = w .at; count = 0; last = 0 }
       (overwrite s (w .at) (countOf opens))
 
   closed-at : (q : Plan) (m : ListName) (least : ℕ) → dueOf q ≡ D.List m least
@@ -159,15 +159,15 @@ module _ (w : Writer) (s : List ℕ) where
   closed-at (many l n q) m least e =
       let i : least ≡ n = cc in
       ap₂ (λ (k : ℕ) (c : List ℕ).
-      answered (guarded true w s (pick (leb k (w .count)) (roomFor (w .at + length c) s) (barred (ruleOf emptyList)))) w s
-      (record { kind = w .kind; phase = suc (w .phase); at = w .at + length c; list = w .at; count = 0; last = 0 }) (overwrite s (w .at) c))
+      answered (guarded true w s (pick (leb k (w .count)) (roomFor (w .at + length c) s) (refusedBy (ruleOf emptyList)))) w s
+      (record { «type_id» = w .«type_id»; phase = suc (w .phase); at = w .at + length c; list = w .at; count = 0; last = 0 }) (overwrite s (w .at) c))
       i (sym (opening-is q))
 
   module _ (x : Due) (p : x ≡ dueAt w) where
     -- no list is open
     pub close-not : (most : ℕ) (d : Due) → x ≡ d → isList d ≡ false → (r : Step) → r ≡ notDueStep w → after r s ≡ close (avm most) w s
     unfolding close closeAt answered
-    close-not most d e n r h = go (due (w .phase) (planOf (w .kind))) (ap isList (sym p ∙ e) ∙ n)
+    close-not most d e n r h = go (due (w .phase) (planOf (w .«type_id»))) (ap isList (sym p ∙ e) ∙ n)
       where
         go : (q : Plan) → isList (dueOf q) ≡ false → after r s ≡ closeAt q w s
         go shut e = ap (λ (y : Step). after y s) h
@@ -177,14 +177,14 @@ module _ (w : Writer) (s : List ℕ) where
 
     module _ (m : ListName) (least : ℕ) (e : x ≡ D.List m least) where
       pub close-small : w .phase ≤ 8
-      close-small = phase-small (w .kind) (w .phase) isList refl (ap isList (sym p ∙ e))
+      close-small = phase-small (w .«type_id») (w .phase) isList refl (ap isList (sym p ∙ e))
 
       module _ (most : ℕ) where
         close-here : closeStep (closeVerdict least (opensNext w)) (opensNext w) ≡ close (avm most) w s
         unfolding close
         close-here =
             ap (λ (b : Bool). closeStep (closeVerdict least b) b) (next-opens isList refl w (ap isList (sym p ∙ e)))
-            ∙ closed-at (due (w .phase) (planOf (w .kind))) m least (sym p ∙ e)
+            ∙ closed-at (due (w .phase) (planOf (w .«type_id»))) m least (sym p ∙ e)
 
         pub close-short : length s < w .at → (r : Step) → r ≡ noRoomStep w → after r s ≡ close (avm most) w s
         close-short k r h = kept-out w s _ _ _ _ (guarded-short true w s _ refl k) r h ∙ close-here
@@ -193,27 +193,27 @@ module _ (w : Writer) (s : List ℕ) where
           abbrev room : Verdict
           room = roomFor (w .at + length (countOf (opensNext w))) s
 
-          close-judged : (v : Verdict) → rules ≡ v → closeVerdict least (opensNext w) ≡ onFine v room
-          close-judged v i = guarded-fine true w s _ refl long ∙ go (leb least (w .count)) ∙ ap (λ (y : Verdict). onFine y room) (sym hr ∙ i)
+          close-judged : (v : Verdict) → rules ≡ v → closeVerdict least (opensNext w) ≡ onAllowed v room
+          close-judged v i = guarded-fine true w s _ refl long ∙ go (leb least (w .count)) ∙ ap (λ (y : Verdict). onAllowed y room) (sym hr ∙ i)
             where
-              go : (b : Bool) → pick b room (barred (ruleOf emptyList)) ≡ onFine (pick b J.Fine (barred (ruleOf emptyList))) room
+              go : (b : Bool) → pick b room (refusedBy (ruleOf emptyList)) ≡ onAllowed (pick b J.Allowed (refusedBy (ruleOf emptyList))) room
               go true = refl
               go false = refl
 
           pub close-barred : (d : Refusal) → rules ≡ J.Refuse d → (r : Step) → r ≡ refusedStep w d → after r s ≡ close (avm most) w s
           close-barred d i r h = kept-out w s _ _ _ d (close-judged (J.Refuse d) i) r h ∙ close-here
 
-          pub close-is : rules ≡ J.Fine → (r : Step) (u : List ℕ) → after r u ≡ partStep w s [] (opensNext w) → after r u ≡ close (avm most) w s
+          pub close-is : rules ≡ J.Allowed → (r : Step) (u : List ℕ) → after r u ≡ segmentStep w s [] (opensNext w) → after r u ≡ close (avm most) w s
           close-is i r u h =
               h ∙ ap (λ (k : ℕ). answered room w s
-              (record { kind = w .kind; phase = suc (w .phase); at = k + length (countOf (opensNext w)); list = k; count = 0; last = 0 })
+              (record { «type_id» = w .«type_id»; phase = suc (w .phase); at = k + length (countOf (opensNext w)); list = k; count = 0; last = 0 })
               (overwrite s (w .at) (countOf (opensNext w)))) (add-zero (w .at))
-              ∙ ap (λ (v : Verdict). closeStep v (opensNext w)) (sym (close-judged J.Fine i)) ∙ close-here
+              ∙ ap (λ (v : Verdict). closeStep v (opensNext w)) (sym (close-judged J.Allowed i)) ∙ close-here
 
 -- ---- the start
 
-module _ (most : ℕ) (w : Writer) (s : List ℕ) (kind network : ℕ) (chain : List ℕ) where
-  pub start-not : (w .phase ≡ 0 → ⊥) → (r : Step) → r ≡ notDueStep w → after r s ≡ start (avm most) w s kind network chain
+module _ (most : ℕ) (w : Writer) (s : List ℕ) («type_id» network : ℕ) (chain : List ℕ) where
+  pub start-not : (w .phase ≡ 0 → ⊥) → (r : Step) → r ≡ notDueStep w → after r s ≡ start (avm most) w s «type_id» network chain
   unfolding start
   start-not n r h = kept-out w s _ _ _ _ (guarded-not (eqb (w .phase) 0) w s _ (ne-eqb (w .phase) 0 n)) r h
 
@@ -221,40 +221,40 @@ module _ (most : ℕ) (w : Writer) (s : List ℕ) (kind network : ℕ) (chain : 
     isFresh : eqb (w .phase) 0 ≡ true
     isFresh = eq-eqb (w .phase) 0 e
 
-    pub start-short : length s < w .at → (r : Step) → r ≡ noRoomStep w → after r s ≡ start (avm most) w s kind network chain
+    pub start-short : length s < w .at → (r : Step) → r ≡ noRoomStep w → after r s ≡ start (avm most) w s «type_id» network chain
     unfolding start
     start-short k r h = kept-out w s _ _ _ _ (guarded-short (eqb (w .phase) 0) w s _ isFresh k) r h
 
-    module _ (long : w .at ≤ length s) (l : length chain ≡ 32) (rules : Verdict) (hr : rules ≡ kindRules kind) where
+    module _ (long : w .at ≤ length s) (l : length chain ≡ 32) (rules : Verdict) (hr : rules ≡ typeRules «type_id») where
       abbrev frontBytes : List ℕ
-      frontBytes = headBytes kind network chain
+      frontBytes = headBytes «type_id» network chain
 
       start-judged : (v : Verdict) → rules ≡ v → (R : Verdict)
-          → guarded (eqb (w .phase) 0) w s (judged (head (avm most)) (given frontBytes) R) ≡ onFine v R
+          → guarded (eqb (w .phase) 0) w s (judged (head (avm most)) (given frontBytes) R) ≡ onAllowed v R
       start-judged v i R =
           guarded-fine (eqb (w .phase) 0) w s _ isFresh long ∙ judged-on (head (avm most)) (given frontBytes) R
-          ∙ ap (λ (y : Verdict). onFine y R) (head-judged most kind network chain l ∙ sym hr ∙ i)
+          ∙ ap (λ (y : Verdict). onAllowed y R) (head-judged most «type_id» network chain l ∙ sym hr ∙ i)
 
-      pub start-barred : (d : Refusal) → rules ≡ J.Refuse d → (r : Step) → r ≡ refusedStep w d → after r s ≡ start (avm most) w s kind network chain
+      pub start-barred : (d : Refusal) → rules ≡ J.Refuse d → (r : Step) → r ≡ refusedStep w d → after r s ≡ start (avm most) w s «type_id» network chain
       unfolding start
       start-barred d i r h = kept-out w s _ _ _ d (start-judged (J.Refuse d) i _) r h
 
-      pub start-is : rules ≡ J.Fine → kind < 256 ^ 4 → network < 256 ^ 4
-          → (front : List ℕ) → front ≡ digits 10 ((kind * 4294967296 + network) % 256 ^ 10) → (r : Step) (u : List ℕ)
-          → after r u ≡ settled w s (front ++ chain) true record { kind = kind; phase = 1; at = 0; list = 0; count = 0; last = 0 }
-          → after r u ≡ start (avm most) w s kind network chain
+      pub start-is : rules ≡ J.Allowed → «type_id» < 256 ^ 4 → network < 256 ^ 4
+          → (front : List ℕ) → front ≡ digits 10 ((«type_id» * 4294967296 + network) % 256 ^ 10) → (r : Step) (u : List ℕ)
+          → after r u ≡ settled w s (front ++ chain) true record { «type_id» = «type_id»; phase = 1; at = 0; list = 0; count = 0; last = 0 }
+          → after r u ≡ start (avm most) w s «type_id» network chain
       unfolding start
       start-is i fk fn front hf r u h =
           let same : front ++ chain ≡ frontBytes =
-          ap (λ (z : List ℕ). z ++ chain) (hf ∙ front-is kind network fk fn)
-          ∙ append-assoc (digits 2 0) (digits 4 kind ++ digits 4 network) chain
-          ∙ ap (λ (z : List ℕ). digits 2 0 ++ z) (append-assoc (digits 4 kind) (digits 4 network) chain) in
-          h ∙ ap (λ (z : List ℕ). settled w s z true record { kind = kind; phase = 1; at = 0; list = 0; count = 0; last = 0 }) same
+          ap (λ (z : List ℕ). z ++ chain) (hf ∙ front-is «type_id» network fk fn)
+          ∙ append-assoc (digits 2 0) (digits 4 «type_id» ++ digits 4 network) chain
+          ∙ ap (λ (z : List ℕ). digits 2 0 ++ z) (append-assoc (digits 4 «type_id») (digits 4 network) chain) in
+          h ∙ ap (λ (z : List ℕ). settled w s z true record { «type_id» = «type_id»; phase = 1; at = 0; list = 0; count = 0; last = 0 }) same
           ∙ ap₂ (λ (i j : ℕ). answered (roomFor i s) w s
-          (record { kind = kind; phase = 1; at = j + length (digits 4 0); list = j; count = 0; last = 0 }) (overwrite s 0 (frontBytes ++ digits 4 0)))
+          (record { «type_id» = «type_id»; phase = 1; at = j + length (digits 4 0); list = j; count = 0; last = 0 }) (overwrite s 0 (frontBytes ++ digits 4 0)))
           (zero-add (length (frontBytes ++ digits 4 0))) (zero-add (length frontBytes))
-          ∙ ap (λ (x : Verdict). answered x w s (opened kind 1 (length frontBytes) (planOf kind)) (overwrite s 0 (frontBytes ++ digits 4 0)))
-          (sym (start-judged J.Fine i (roomFor (length (frontBytes ++ digits 4 0)) s)))
+          ∙ ap (λ (x : Verdict). answered x w s (opened «type_id» 1 (length frontBytes) (planOf «type_id»)) (overwrite s 0 (frontBytes ++ digits 4 0)))
+          (sym (start-judged J.Allowed i (roomFor (length (frontBytes ++ digits 4 0)) s)))
 
 -- ---- elements given as fields
 
@@ -284,14 +284,14 @@ head-long asset amount locktime threshold m n =
 
 module _ (most : ℕ) (w : Writer) (s : List ℕ) (asset : List ℕ) (amount locktime threshold : ℕ) (addresses : List ℕ) where
   abbrev outputRules : List ℕ → Verdict
-  outputRules last = judged (notBelow transferableOutput last) (outputGiven asset amount locktime threshold addresses) J.Fine
+  outputRules last = judged (notBelow transferableOutput last) (outputGiven asset amount locktime threshold addresses) J.Allowed
 
   -- where the rules hold the addresses are whole
-  whole-addresses : (last : List ℕ) → outputRules last ≡ J.Fine → length addresses % 20 ≡ 0
+  whole-addresses : (last : List ℕ) → outputRules last ≡ J.Allowed → length addresses % 20 ≡ 0
   whole-addresses last e =
       eqb-true (length addresses % 20) 0
       (pick-fine (eqb (length addresses % 20) 0) _ (ruleOf cutShort)
-      (sym (judged-read (notBelow transferableOutput last) (outputGiven asset amount locktime threshold addresses) J.Fine) ∙ e) .0)
+      (sym (judged-read (notBelow transferableOutput last) (outputGiven asset amount locktime threshold addresses) J.Allowed) ∙ e) .0)
 
   module _ (t : Bool) (ht : t ≡ (isOpen L.Output (dueAt w) && sane w)) (n : not t ≡ false) (long : w .at ≤ length s)
       (last : List ℕ) (hl : last ≡ prev w s) (x : Verdict) (hx : x ≡ outputRules last) where
@@ -302,7 +302,7 @@ module _ (most : ℕ) (w : Writer) (s : List ℕ) (asset : List ℕ) (amount loc
         → after r s ≡ addOutput most w s asset amount locktime threshold addresses
     output-barred d e r h = element-barred w s L.Output t ht n most _ long x output-judged d e r h
 
-    pub output-is : x ≡ J.Fine → (head : List ℕ) → head ≡ outputHead asset amount locktime threshold (length addresses / 20 % 256 ^ 4)
+    pub output-is : x ≡ J.Allowed → (head : List ℕ) → head ≡ outputHead asset amount locktime threshold (length addresses / 20 % 256 ^ 4)
         → (r : Step) (u : List ℕ) → after r u ≡ elementStep w s ((head ++ addresses) ++ [])
         → after r u ≡ addOutput most w s asset amount locktime threshold addresses
     output-is e head hh r u h =
@@ -329,7 +329,7 @@ input-head-long txid index asset amount m n =
 
 module _ (most : ℕ) (w : Writer) (s : List ℕ) (txid : List ℕ) (index : ℕ) (asset : List ℕ) (amount : ℕ) (indices : List ℕ) where
   abbrev inputRules : List ℕ → Verdict
-  inputRules last = judged (input last) (inputGiven txid index asset amount indices) J.Fine
+  inputRules last = judged (input last) (inputGiven txid index asset amount indices) J.Allowed
 
   module _ (t : Bool) (ht : t ≡ (isOpen L.Input (dueAt w) && sane w)) (n : not t ≡ false) (long : w .at ≤ length s)
       (last : List ℕ) (hl : last ≡ prev w s) (x : Verdict) (hx : x ≡ inputRules last) where
@@ -339,21 +339,21 @@ module _ (most : ℕ) (w : Writer) (s : List ℕ) (txid : List ℕ) (index : ℕ
     pub input-barred : (d : Refusal) → x ≡ J.Refuse d → (r : Step) → r ≡ refusedStep w d → after r s ≡ addInput most w s txid index asset amount indices
     input-barred d e r h = element-barred w s L.Input t ht n most _ long x input-judged d e r h
 
-    pub input-is : x ≡ J.Fine → (head : List ℕ) → head ≡ inputHead txid index asset amount (length indices % 256 ^ 4)
-        → (r : Step) (u : List ℕ) → after r u ≡ elementStep w s ((head ++ []) ++ numbersBytes indices)
+    pub input-is : x ≡ J.Allowed → (head : List ℕ) → head ≡ inputHead txid index asset amount (length indices % 256 ^ 4)
+        → (r : Step) (u : List ℕ) → after r u ≡ elementStep w s ((head ++ []) ++ integersBytes indices)
         → after r u ≡ addInput most w s txid index asset amount indices
     input-is e head hh r u h =
-        element-is w s L.Input t ht n most (inputGiven txid index asset amount indices) long x input-judged e (head ++ numbersBytes indices)
+        element-is w s L.Input t ht n most (inputGiven txid index asset amount indices) long x input-judged e (head ++ integersBytes indices)
         (omega (
           arith,
-          length-append head (numbersBytes indices),
+          length-append head (integersBytes indices),
           ap length hh,
           input-head-long txid index asset amount (length indices % 256 ^ 4) (length indices),
           ap length (written-input txid index asset amount indices),
-          length-append (inputHead txid index asset amount (length indices)) (numbersBytes indices),
+          length-append (inputHead txid index asset amount (length indices)) (integersBytes indices),
         ))
-        (λ k. sym (input-bytes txid index asset amount indices head hh (omega (arith, length-append head (numbersBytes indices), length-numbers indices))))
-        r u (h ∙ ap (λ (z : List ℕ). elementStep w s (z ++ numbersBytes indices)) (append-nil head))
+        (λ k. sym (input-bytes txid index asset amount indices head hh (omega (arith, length-append head (integersBytes indices), length-integers indices))))
+        r u (h ∙ ap (λ (z : List ℕ). elementStep w s (z ++ integersBytes indices)) (append-nil head))
 
 -- ---- elements given as bytes
 
@@ -361,33 +361,33 @@ module _ (most : ℕ) (w : Writer) (s b : List ℕ) (t : Bool) (n : not t ≡ fa
   abbrev IsNext : ListName → Type 0
   IsNext l = t ≡ (isOpen l (dueAt w) && sane w)
 
-  module _ (p : IsNext L.Operation) (hx : x ≡ judged operation (given b) J.Fine) where
+  module _ (p : IsNext L.Operation) (hx : x ≡ judged operation (given b) J.Allowed) where
     pub operation-barred : (d : Refusal) → x ≡ J.Refuse d → (r : Step) → r ≡ refusedStep w d → after r s ≡ addOperation most w s b
     operation-barred d e r h = element-barred w s L.Operation t p n most (given b) long x hx d e r h
 
-    pub operation-is : x ≡ J.Fine → (r : Step) (u : List ℕ) → after r u ≡ elementStep w s (b ++ []) → after r u ≡ addOperation most w s b
+    pub operation-is : x ≡ J.Allowed → (r : Step) (u : List ℕ) → after r u ≡ elementStep w s (b ++ []) → after r u ≡ addOperation most w s b
     operation-is e r u h =
         element-is w s L.Operation t p n most (given b) long x hx e b refl (λ k. refl) r u (h ∙ ap (elementStep w s) (append-nil b))
 
-  module _ (p : IsNext L.State) (last : List ℕ) (hl : last ≡ prev w s) (hx : x ≡ judged (initialState last) (given b) J.Fine) where
-    state-judged : x ≡ judged (initialState (prev w s)) (given b) J.Fine
-    state-judged = hx ∙ ap (λ (z : List ℕ). judged (initialState z) (given b) J.Fine) hl
+  module _ (p : IsNext L.State) (last : List ℕ) (hl : last ≡ prev w s) (hx : x ≡ judged (initialState last) (given b) J.Allowed) where
+    state-judged : x ≡ judged (initialState (prev w s)) (given b) J.Allowed
+    state-judged = hx ∙ ap (λ (z : List ℕ). judged (initialState z) (given b) J.Allowed) hl
 
     pub state-barred : (d : Refusal) → x ≡ J.Refuse d → (r : Step) → r ≡ refusedStep w d → after r s ≡ addInitialState most w s b
     state-barred d e r h = element-barred w s L.State t p n most (given b) long x state-judged d e r h
 
-    pub state-is : x ≡ J.Fine → (r : Step) (u : List ℕ) → after r u ≡ elementStep w s (b ++ []) → after r u ≡ addInitialState most w s b
+    pub state-is : x ≡ J.Allowed → (r : Step) (u : List ℕ) → after r u ≡ elementStep w s (b ++ []) → after r u ≡ addInitialState most w s b
     state-is e r u h =
         element-is w s L.State t p n most (given b) long x state-judged e b refl (λ k. refl) r u (h ∙ ap (elementStep w s) (append-nil b))
 
 -- ---- the finish
 
-module _ (w : Writer) (s : List ℕ) (t : Bool) (ht : t ≡ isEnd (dueAt w)) where
+module _ (w : Writer) (s : List ℕ) (t : Bool) (ht : t ≡ isFinish (dueAt w)) where
   pub finish-not : (most : ℕ) → t ≡ false → (r : Step) → r ≡ notDueStep w → after r s ≡ finish (avm most) w s
   unfolding finish finishAt answered
-  finish-not most e r h = go (due (w .phase) (planOf (w .kind))) (sym ht ∙ e)
+  finish-not most e r h = go (due (w .phase) (planOf (w .«type_id»))) (sym ht ∙ e)
     where
-      go : (q : Plan) → isEnd (dueOf q) ≡ false → after r s ≡ finishAt (avm most) q w s
+      go : (q : Plan) → isFinish (dueOf q) ≡ false → after r s ≡ finishAt (avm most) q w s
       go shut e = ap (λ (y : Step). after y s) h
       go end e = absurd (false≢true (sym e))
       go (field f q) e = ap (λ (y : Step). after y s) h
@@ -395,32 +395,32 @@ module _ (w : Writer) (s : List ℕ) (t : Bool) (ht : t ≡ isEnd (dueAt w)) whe
 
   module _ (e : t ≡ true) where
     pub finish-small : w .phase ≤ 8
-    finish-small = phase-small (w .kind) (w .phase) isEnd refl (sym ht ∙ e)
+    finish-small = phase-small (w .«type_id») (w .phase) isFinish refl (sym ht ∙ e)
 
     module _ (most : ℕ) where
       finish-end : finishAt (avm most) end w s ≡ finish (avm most) w s
       unfolding finish
-      finish-end = go (due (w .phase) (planOf (w .kind))) (sym ht ∙ e)
+      finish-end = go (due (w .phase) (planOf (w .«type_id»))) (sym ht ∙ e)
         where
-          go : (q : Plan) → isEnd (dueOf q) ≡ true → finishAt (avm most) end w s ≡ finishAt (avm most) q w s
+          go : (q : Plan) → isFinish (dueOf q) ≡ true → finishAt (avm most) end w s ≡ finishAt (avm most) q w s
           go shut e = absurd (false≢true e)
           go end e = refl
           go (field f q) e = absurd (false≢true e)
           go (many l least q) e = absurd (false≢true e)
 
-      module _ (x : Part) (u : List ℕ)
+      module _ (x : End) (u : List ℕ)
           (p : (x, u)
           ≡ stored (closable (avm most) (w .at) s) (w .at + length (closing (avm most) (w .at) s)) s (overwrite s (w .at) (closing (avm most) (w .at) s))) where
         pub finish-refused : (d : Refusal) → x ≡ P.Refused d → (r : Step) → r ≡ refusedStep w d → after r u ≡ finish (avm most) w s
         unfolding finishAt
         finish-refused d q r h = store-refused _ _ w s _ x u p _ r _ d q h ∙ finish-end
 
-        pub finish-done : (m : ℕ) → x ≡ P.Next m → (r : Step)
-            → r ≡ storedStep record { kind = w .kind; phase = w .phase + 1; at = m; list = m; count = 0; last = 0 }
+        pub finish-done : (m : ℕ) → x ≡ P.At m → (r : Step)
+            → r ≡ storedStep record { «type_id» = w .«type_id»; phase = w .phase + 1; at = m; list = m; count = 0; last = 0 }
             → after r u ≡ finish (avm most) w s
         unfolding finishAt
         finish-done m q r h =
             let n : ℕ = w .at + length (closing (avm most) (w .at) s) in
-            store-done _ _ w s _ x u p _ r (λ (a : ℕ). record { kind = w .kind; phase = w .phase + 1; at = a; list = a; count = 0; last = 0 }) m q h
-            (ap₂ (λ (a k : ℕ). record { kind = w .kind; phase = k; at = a; list = n; count = 0; last = 0 }) (sym (add-zero n)) (add-one (w .phase)))
+            store-done _ _ w s _ x u p _ r (λ (a : ℕ). record { «type_id» = w .«type_id»; phase = w .phase + 1; at = a; list = a; count = 0; last = 0 }) m q h
+            (ap₂ (λ (a k : ℕ). record { «type_id» = w .«type_id»; phase = k; at = a; list = n; count = 0; last = 0 }) (sym (add-zero n)) (add-one (w .phase)))
             ∙ finish-end

@@ -10,37 +10,37 @@ use lib.Dec.{leb, ltb}
 use borrow.Author.Tests.{leb-true, ltb-true}
 use Rattle.wire.specs.Bytes.{digits, length-digits, pick}
 use Rattle.wire.specs.declared.Refusal.{Refusal}
-use Rattle.wire.specs.declared.Part.{Part}
-use Rattle.wire.specs.declared.Part.the-variants as P
+use Rattle.wire.specs.declared.End.{End}
+use Rattle.wire.specs.declared.End.the-variants as P
 use Rattle.transaction.specs.Signed.{mostBytes}
 use Rattle.transaction.specs.Plan.{planOf}
-use Rattle.judge.specs.declared.Verdict.{Verdict}
-use Rattle.judge.specs.Elements.{numbersBytes}
-use Rattle.judge.proofs.Verdicts.{both-true}
-use Rattle.due.specs.Plans.{due, dueOf, isList}
-use Rattle.buffer.specs.Stores.{roomFor, overwrite, countOf, withNumber, stored}
-use Rattle.buffer.proofs.Stores.{room-inv, length-overwrite, number-put, told-refused, told-next}
+use Rattle.writer_rules.specs.declared.Verdict.{Verdict}
+use Rattle.writer_rules.specs.Elements.{integersBytes}
+use Rattle.writer_rules.proofs.Verdicts.{both-true}
+use Rattle.plan.specs.Due.{due, dueOf, isList}
+use Rattle.writer_buffer.specs.Stores.{roomFor, overwrite, countOf, withInteger, stored}
+use Rattle.writer_buffer.proofs.Stores.{room-inv, length-overwrite, integer-put, told-refused, told-next}
 use Rattle.writer.specs.declared.Writer.{Writer}
 use Rattle.writer.specs.declared.Step.{Step}
 use Rattle.writer.specs.Steps.{answered, sane, grown, appended}
-use Rattle.writer.specs.Code.{after, refusedStep, storedStep, settled, partStep, opensNext, elementStep}
+use Rattle.writer.specs.Code.{after, refusedStep, storedStep, settled, segmentStep, opensNext, elementStep}
 
 -- ---- what a store answered
 
-module _ (v : Verdict) (n : ℕ) (w : Writer) (s t : List ℕ) (x : Part) (u : List ℕ) (p : (x, u) ≡ stored v n s t) (w′ : Writer) (r : Step) where
+module _ (v : Verdict) (n : ℕ) (w : Writer) (s t : List ℕ) (x : End) (u : List ℕ) (p : (x, u) ≡ stored v n s t) (w′ : Writer) (r : Step) where
   pub store-refused : (t′ : List ℕ) (e : Refusal) → x ≡ P.Refused e → r ≡ refusedStep w e → after r u ≡ answered v w s w′ t′
   unfolding answered
   store-refused t′ e q h = let (i, j) = told-refused n s t x u v p e q in rw i (ap₂ after h j)
 
   -- f is the state behind a place
-  pub store-done : (f : ℕ → Writer) (m : ℕ) → x ≡ P.Next m → r ≡ storedStep (f m) → f n ≡ w′ → after r u ≡ answered v w s w′ t
+  pub store-done : (f : ℕ → Writer) (m : ℕ) → x ≡ P.At m → r ≡ storedStep (f m) → f n ≡ w′ → after r u ≡ answered v w s w′ t
   unfolding answered
   store-done f m q h g = let (i, k, j) = told-next n s t x u v p m q in rw i (ap₂ after (h ∙ ap (λ (a : ℕ). storedStep (f a)) k ∙ ap storedStep g) j)
 
 -- ---- a field
 
-counts-bytes : (opens : Bool) → numbersBytes (take (pick opens 1 0) (0 ∷ [])) ≡ countOf opens
-unfolding numbersBytes
+counts-bytes : (opens : Bool) → integersBytes (take (pick opens 1 0) (0 ∷ [])) ≡ countOf opens
+unfolding integersBytes
 counts-bytes true = append-nil (digits 4 0)
 counts-bytes false = refl
 
@@ -53,27 +53,27 @@ counts-long true = length-digits 4 0
 counts-long false = refl
 
 module _ (w : Writer) (s : List ℕ) (first second : List ℕ) (opens : Bool) (from : Writer) (k : ℕ) (hk : k ≡ pick opens 1 0)
-    (x : Part) (u : List ℕ) where
-  abbrev fieldOf : List ℕ → Part × List ℕ
+    (x : End) (u : List ℕ) where
+  abbrev fieldOf : List ℕ → End × List ℕ
   fieldOf c =
       stored (roomFor (from .at + length ((first ++ second) ++ c)) s)
       (from .at + length ((first ++ second) ++ c)) s (overwrite s (from .at) ((first ++ second) ++ c))
 
-  module _ (p : (x, u) ≡ fieldOf (numbersBytes (take k (0 ∷ [])))) where
+  module _ (p : (x, u) ≡ fieldOf (integersBytes (take k (0 ∷ [])))) where
     stores : (x, u) ≡ fieldOf (countOf opens)
-    stores = p ∙ ap (λ (i : ℕ). fieldOf (numbersBytes (take i (0 ∷ [])))) hk ∙ ap fieldOf (counts-bytes opens)
+    stores = p ∙ ap (λ (i : ℕ). fieldOf (integersBytes (take i (0 ∷ [])))) hk ∙ ap fieldOf (counts-bytes opens)
 
     pub settle-refused : (e : Refusal) → x ≡ P.Refused e → (r : Step) → r ≡ refusedStep w e → after r u ≡ settled w s (first ++ second) opens from
     settle-refused e q r h = store-refused _ _ w s _ x u stores _ r _ e q h
 
     -- the count is behind the field, and four bytes long
-    pub settle-place : (m : ℕ) → x ≡ P.Next m → 4 * k ≤ m
+    pub settle-place : (m : ℕ) → x ≡ P.At m → 4 * k ≤ m
     settle-place m q =
         let (_, i, _) = told-next _ s _ x u _ stores m q in
         omega (arith, i, length-append (first ++ second) (countOf opens), counts-long opens, hk)
 
-    pub settle-done : (m : ℕ) → x ≡ P.Next m → (r : Step)
-        → r ≡ storedStep record { kind = from .kind; phase = from .phase; at = m; list = m - 4 * k; count = 0; last = 0 }
+    pub settle-done : (m : ℕ) → x ≡ P.At m → (r : Step)
+        → r ≡ storedStep record { «type_id» = from .«type_id»; phase = from .phase; at = m; list = m - 4 * k; count = 0; last = 0 }
         → after r u ≡ settled w s (first ++ second) opens from
     settle-done m q r h =
         let n : ℕ = from .at + length ((first ++ second) ++ countOf opens) in
@@ -81,19 +81,20 @@ module _ (w : Writer) (s : List ℕ) (first second : List ℕ) (opens : Bool) (f
         length-append (first ++ second) (countOf opens) in
         let i : n ≡ from .at + length (first ++ second) + length (countOf opens) = omega arith in
         let j : n - 4 * k ≡ from .at + length (first ++ second) = omega (arith, long, counts-long opens, hk) in
-        store-done _ _ w s _ x u stores _ r (λ (a : ℕ). record { kind = from .kind; phase = from .phase; at = a; list = a - 4 * k; count = 0; last = 0 }) m q h
-        (ap₂ (λ (a b : ℕ). record { kind = from .kind; phase = from .phase; at = a; list = b; count = 0; last = 0 }) i j)
+        store-done _ _ w s _ x u stores _ r
+        (λ (a : ℕ). record { «type_id» = from .«type_id»; phase = from .phase; at = a; list = a - 4 * k; count = 0; last = 0 }) m q h
+        (ap₂ (λ (a b : ℕ). record { «type_id» = from .«type_id»; phase = from .phase; at = a; list = b; count = 0; last = 0 }) i j)
 
-pub part-settled : (w : Writer) (s : List ℕ) (ys : List ℕ) (opens : Bool) → opens ≡ isList (dueOf (due (w .phase + 1) (planOf (w .kind))))
+pub segment-settled : (w : Writer) (s : List ℕ) (ys : List ℕ) (opens : Bool) → opens ≡ isList (dueOf (due (w .phase + 1) (planOf (w .«type_id»))))
     → (r : Step) (u : List ℕ)
-    → after r u ≡ settled w s ys opens record { kind = w .kind; phase = w .phase + 1; at = w .at; list = 0; count = 0; last = 0 }
-    → after r u ≡ partStep w s ys (opensNext w)
-part-settled w s ys opens o r u h =
+    → after r u ≡ settled w s ys opens record { «type_id» = w .«type_id»; phase = w .phase + 1; at = w .at; list = 0; count = 0; last = 0 }
+    → after r u ≡ segmentStep w s ys (opensNext w)
+segment-settled w s ys opens o r u h =
     h ∙ ap (λ (b : Bool). settled w s ys b (from (w .phase + 1))) o
-    ∙ ap (λ (i : ℕ). settled w s ys (isList (dueOf (due i (planOf (w .kind))))) (from i)) (add-one (w .phase))
+    ∙ ap (λ (i : ℕ). settled w s ys (isList (dueOf (due i (planOf (w .«type_id»))))) (from i)) (add-one (w .phase))
   where
     from : ℕ → Writer
-    from i = record { kind = w .kind; phase = i; at = w .at; list = 0; count = 0; last = 0 }
+    from i = record { «type_id» = w .«type_id»; phase = i; at = w .at; list = 0; count = 0; last = 0 }
 
 -- ---- an element
 
@@ -104,13 +105,13 @@ sane-inv w e =
     let (_, c) = both-true (leb (w .last) (w .at)) (ltb (w .count) mostBytes) b in
     (leb-true (w .list + 4) (w .at) a, ltb-true (w .count) mostBytes c)
 
-module _ (w : Writer) (s ys : List ℕ) (x : Part) (u : List ℕ)
+module _ (w : Writer) (s ys : List ℕ) (x : End) (u : List ℕ)
     (p : (x, u) ≡ stored (roomFor (w .at + length ys) s) (w .at + length ys) s (overwrite s (w .at) ys)) where
   pub element-refused : (e : Refusal) → x ≡ P.Refused e → (r : Step) → r ≡ refusedStep w e → after r u ≡ elementStep w s ys
   element-refused e q r h = store-refused _ _ w s _ x u p _ r _ e q h
 
-  pub element-done : sane w ≡ true → (m : ℕ) → x ≡ P.Next m → (z : List ℕ) → z ≡ withNumber u (w .list) (w .count + 1) → (r : Step)
-      → r ≡ storedStep record { kind = w .kind; phase = w .phase; at = m; list = w .list; count = w .count + 1; last = w .at }
+  pub element-done : sane w ≡ true → (m : ℕ) → x ≡ P.At m → (z : List ℕ) → z ≡ withInteger u (w .list) (w .count + 1) → (r : Step)
+      → r ≡ storedStep record { «type_id» = w .«type_id»; phase = w .phase; at = m; list = w .list; count = w .count + 1; last = w .at }
       → after r z ≡ elementStep w s ys
   unfolding answered grown appended
   element-done t m q z hz r h =
@@ -118,5 +119,6 @@ module _ (w : Writer) (s ys : List ℕ) (x : Part) (u : List ℕ)
       let (i, k, j) = told-next (w .at + length ys) s (overwrite s (w .at) ys) x u (roomFor (w .at + length ys) s) p m q in
       let (f, _) = room-inv (w .at + length ys) s i in
       let l : length u ≡ length s = ap length j ∙ length-overwrite s ys (w .at) f in
-      rw i (ap₂ after (h ∙ ap (λ (n : ℕ). storedStep record { kind = w .kind; phase = w .phase; at = n; list = w .list; count = w .count + 1; last = w .at }) k)
-      (hz ∙ number-put u (w .list) (w .count + 1) (omega arith) (omega arith) ∙ ap (λ (y : List ℕ). overwrite y (w .list) (digits 4 (w .count + 1))) j))
+      rw i (ap₂ after (h ∙ ap
+      (λ (n : ℕ). storedStep record { «type_id» = w .«type_id»; phase = w .phase; at = n; list = w .list; count = w .count + 1; last = w .at }) k)
+      (hz ∙ integer-put u (w .list) (w .count + 1) (omega arith) (omega arith) ∙ ap (λ (y : List ℕ). overwrite y (w .list) (digits 4 (w .count + 1))) j))

@@ -6,13 +6,13 @@ use lib.ListN.{length}
 use Rattle.wire.specs.declared.Refusal.{Refusal}
 use Rattle.wire.specs.Numbers.{refusal, noRoom, stepNotDue}
 use Rattle.transaction.specs.Plan.{planOf}
-use Rattle.due.specs.declared.Due.{Due}
-use Rattle.due.specs.Plans.{due, dueOf, isList}
+use Rattle.plan.specs.declared.Due.{Due}
+use Rattle.plan.specs.Due.{due, dueOf, isList}
 use Rattle.writer.specs.declared.Writer.{Writer}
 use Rattle.writer.specs.declared.Step.{Step}
 use Rattle.writer.specs.declared.Written.the-variants as W
 use Rattle.writer.specs.Steps.{Turn, answered, grown, appended}
-use Rattle.buffer.specs.Stores.{roomFor, overwrite, countOf}
+use Rattle.writer_buffer.specs.Stores.{roomFor, overwrite, countOf}
 
 -- what code answers, and what the buffer holds then
 abbrev pub after : Step → List ℕ → Turn
@@ -31,7 +31,7 @@ abbrev pub storedStep : Writer → Step
 storedStep w = record { next = w; answer = W.Done (w .at) }
 
 abbrev pub dueAt : Writer → Due
-dueAt w = dueOf (due (w .phase) (planOf (w .kind)))
+dueAt w = dueOf (due (w .phase) (planOf (w .«type_id»)))
 
 -- ---- once the rules of a step are judged
 
@@ -39,16 +39,24 @@ dueAt w = dueOf (due (w .phase) (planOf (w .kind)))
 abbrev pub settled : Writer → List ℕ → List ℕ → Bool → Writer → Turn
 settled w s ys opens from =
     answered (roomFor (from .at + length (ys ++ countOf opens)) s) w s
-    record { kind = from .kind; phase = from .phase; at = from .at + length ys + length (countOf opens); list = from .at + length ys; count = 0; last = 0 }
+    record {
+      «type_id» = from .«type_id»;
+      phase = from .phase;
+      at = from .at + length ys + length
+          (countOf opens);
+      list = from .at + length ys;
+      count = 0;
+      last = 0;
+    }
     (overwrite s (from .at) (ys ++ countOf opens))
 
 -- the bytes ys of the part that is due
-abbrev pub partStep : Writer → List ℕ → List ℕ → Bool → Turn
-partStep w s ys opens = settled w s ys opens record { kind = w .kind; phase = suc (w .phase); at = w .at; list = 0; count = 0; last = 0 }
+abbrev pub segmentStep : Writer → List ℕ → List ℕ → Bool → Turn
+segmentStep w s ys opens = settled w s ys opens record { «type_id» = w .«type_id»; phase = suc (w .phase); at = w .at; list = 0; count = 0; last = 0 }
 
 -- is a list next behind that part?
 abbrev pub opensNext : Writer → Bool
-opensNext w = isList (dueOf (due (suc (w .phase)) (planOf (w .kind))))
+opensNext w = isList (dueOf (due (suc (w .phase)) (planOf (w .«type_id»))))
 
 -- an element of the bytes ys
 abbrev pub elementStep : Writer → List ℕ → List ℕ → Turn

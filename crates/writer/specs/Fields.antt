@@ -6,7 +6,7 @@ use Rattle.transaction.specs.Avm.{avm}
 use Rattle.transaction.specs.declared.FieldName.{FieldName}
 use Rattle.transaction.specs.declared.FieldName.the-variants as F
 use Rattle.transaction.specs.declared.ListName.the-variants as L
-use Rattle.judge.specs.Given.{given, outputGiven, inputGiven}
+use Rattle.writer_rules.specs.Given.{given, outputGiven, inputGiven}
 use Rattle.writer.specs.declared.Writer.{Writer}
 use Rattle.writer.specs.Steps.{Turn, putField, putElement}
 

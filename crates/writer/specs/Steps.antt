@@ -12,21 +12,21 @@ use Rattle.transaction.specs.Plan.{contentOf, elementsOf, Plan, shut, end, fiel
 use Rattle.transaction.specs.Family.{Family, head}
 use Rattle.transaction.specs.declared.FieldName.{FieldName}
 use Rattle.transaction.specs.declared.ListName.{ListName}
-use Rattle.judge.specs.declared.Verdict.{Verdict}
-use Rattle.judge.specs.declared.Verdict.the-variants as J
-use Rattle.judge.specs.Judged.{barred, judged}
-use Rattle.judge.specs.Given.{headBytes, Given}
-use Rattle.due.specs.Plans.{due, fieldCode, listCode}
-use Rattle.blank.specs.Closing.{closing, closable}
+use Rattle.writer_rules.specs.declared.Verdict.{Verdict}
+use Rattle.writer_rules.specs.declared.Verdict.the-variants as J
+use Rattle.writer_rules.specs.Judged.{refusedBy, judged}
+use Rattle.writer_rules.specs.Given.{headBytes, Given}
+use Rattle.plan.specs.Due.{due, fieldCode, listCode}
+use Rattle.writer_blank.specs.Closing.{closing, closable}
 use Rattle.writer.specs.declared.Writer.{Writer}
 use Rattle.writer.specs.declared.Step.{Step}
 use Rattle.writer.specs.declared.Written.{Written}
 use Rattle.writer.specs.declared.Written.the-variants as W
-use Rattle.buffer.specs.Stores.{roomFor, overwrite}
+use Rattle.writer_buffer.specs.Stores.{roomFor, overwrite}
 
 -- nothing is written yet
 abbrev pub fresh : Writer
-fresh = record { kind = 0; phase = 0; at = 0; list = 0; count = 0; last = 0 }
+fresh = record { «type_id» = 0; phase = 0; at = 0; list = 0; count = 0; last = 0 }
 
 -- a step's answer, and what the buffer holds then
 pub record Turn : Type 0 where
@@ -49,12 +49,12 @@ writtenPlace (W.Refused e) = e .place
 
 -- a step that is refused changes neither state nor buffer
 unfoldable pub answered : Verdict → Writer → List ℕ → Writer → List ℕ → Turn
-answered J.Fine w s w′ s′ = turn w′ (W.Done (w′ .at)) s′
+answered J.Allowed w s w′ s′ = turn w′ (W.Done (w′ .at)) s′
 answered (J.Refuse e) w s w′ s′ = turn w (W.Refused e) s
 
 -- 16 comes first; then 14, where the buffer is shorter than the bytes written
 abbrev pub guardedIn : Bool → Writer → ℕ → Verdict → Verdict
-guardedIn isDue w length v = pick isDue (pick (leb (w .at) length) v (barred noRoom)) (barred stepNotDue)
+guardedIn isDue w length v = pick isDue (pick (leb (w .at) length) v (refusedBy noRoom)) (refusedBy stepNotDue)
 
 abbrev pub guarded : Bool → Writer → List ℕ → Verdict → Verdict
 guarded isDue w s v = guardedIn isDue w (length s) v
@@ -71,7 +71,7 @@ sane w = leb (w .list + 4) (w .at) && (leb (w .last) (w .at) && ltb (w .count) m
 
 -- one element more, of n bytes
 unfoldable pub grown : Writer → ℕ → Writer
-grown w n = record { kind = w .kind; phase = w .phase; at = w .at + n; list = w .list; count = w .count + 1; last = w .at }
+grown w n = record { «type_id» = w .«type_id»; phase = w .phase; at = w .at + n; list = w .list; count = w .count + 1; last = w .at }
 
 -- the element stands behind the others, and the new count in its place
 unfoldable pub appended : Writer → List ℕ → List ℕ → List ℕ
@@ -88,12 +88,12 @@ opening (many l least q) = digits 4 0
 
 -- q is due, and what stands before it ends at `at`
 abbrev pub opened : ℕ → ℕ → ℕ → Plan → Writer
-opened kind phase at q = record { kind = kind; phase = phase; at = at + length (opening q); list = at; count = 0; last = 0 }
+opened «type_id» phase at q = record { «type_id» = «type_id»; phase = phase; at = at + length (opening q); list = at; count = 0; last = 0 }
 
 -- ---- the steps, by what is due
 
 abbrev pub notDue : Writer → List ℕ → Turn
-notDue w s = answered (barred stepNotDue) w s w s
+notDue w s = answered (refusedBy stepNotDue) w s w s
 
 abbrev pub sameField : FieldName → FieldName → Bool
 sameField f g = eqb (fieldCode f) (fieldCode g)
@@ -108,7 +108,7 @@ putFieldAt most shut w s f g = notDue w s
 putFieldAt most end w s f g = notDue w s
 putFieldAt most (field h q) w s f g =
     answered (guarded (sameField f h) w s (judged (contentOf most h) g (roomFor (w .at + length (g .bytes ++ opening q)) s)))
-    w s (opened (w .kind) (suc (w .phase)) (w .at + length (g .bytes)) q) (overwrite s (w .at) (g .bytes ++ opening q))
+    w s (opened (w .«type_id») (suc (w .phase)) (w .at + length (g .bytes)) q) (overwrite s (w .at) (g .bytes ++ opening q))
 putFieldAt most (many l least q) w s f g = notDue w s
 
 -- one element more of the open list, by its name
@@ -126,8 +126,8 @@ closeAt shut w s = notDue w s
 closeAt end w s = notDue w s
 closeAt (field f q) w s = notDue w s
 closeAt (many l least q) w s =
-    answered (guarded true w s (pick (leb least (w .count)) (roomFor (w .at + length (opening q)) s) (barred (ruleOf emptyList))))
-    w s (opened (w .kind) (suc (w .phase)) (w .at) q) (overwrite s (w .at) (opening q))
+    answered (guarded true w s (pick (leb least (w .count)) (roomFor (w .at + length (opening q)) s) (refusedBy (ruleOf emptyList))))
+    w s (opened (w .«type_id») (suc (w .phase)) (w .at) q) (overwrite s (w .at) (opening q))
 
 module _ (F : Family) where
   -- the blank credentials are written
@@ -135,7 +135,7 @@ module _ (F : Family) where
   finishAt shut w s = notDue w s
   finishAt end w s =
       answered (closable F (w .at) s)
-      w s (opened (w .kind) (suc (w .phase)) (w .at + length (closing F (w .at) s)) shut) (overwrite s (w .at) (closing F (w .at) s))
+      w s (opened (w .«type_id») (suc (w .phase)) (w .at + length (closing F (w .at) s)) shut) (overwrite s (w .at) (closing F (w .at) s))
   finishAt (field f q) w s = notDue w s
   finishAt (many l least q) w s = notDue w s
 
@@ -143,18 +143,18 @@ module _ (F : Family) where
 
   -- the plan of a type's number
   abbrev pub planFor : ℕ → Plan
-  planFor kind = F .plan (F .kind kind)
+  planFor «type_id» = F .plan (F .typeOf «type_id»)
 
   -- what is due by it
   abbrev pub dueFor : Writer → Plan
-  dueFor w = due (w .phase) (planFor (w .kind))
+  dueFor w = due (w .phase) (planFor (w .«type_id»))
 
   unfoldable pub start : Writer → List ℕ → ℕ → ℕ → List ℕ → Turn
-  start w s kind network chain =
-      let ys = headBytes kind network chain in
-      let q = planFor kind in
+  start w s «type_id» network chain =
+      let ys = headBytes «type_id» network chain in
+      let q = planFor «type_id» in
       answered (guarded (eqb (w .phase) 0) w s (judged (head F) record { whole = true; bytes = ys } (roomFor (length (ys ++ opening q)) s)))
-      w s (opened kind 1 (length ys) q) (overwrite s 0 (ys ++ opening q))
+      w s (opened «type_id» 1 (length ys) q) (overwrite s 0 (ys ++ opening q))
 
   unfoldable pub putField : Writer → List ℕ → FieldName → Given → Turn
   putField w s f g = putFieldAt (F .memoMost) (dueFor w) w s f g

@@ -8,22 +8,22 @@ ghost use Rattle.writer.specs.Code.{after};
 
 mod steps;
 
-use due::Due;
-use due::plans;
-use due::questions;
-use judge::Verdict;
-use judge::elements;
-use judge::rules;
-use judge::texts;
+use plan::Due;
+use plan::questions;
+use plan::rows;
 use transaction::FieldName;
 use transaction::ListName;
-use wire::Part;
+use wire::End;
 use wire::Refusal;
+use writer_rules::Verdict;
+use writer_rules::elements;
+use writer_rules::transfers;
+use writer_rules::values;
 
 // How far a transaction is written: its type, how many parts are begun, the bytes written; and of the list that is open, where its count stands,
 // how many elements it has, and where the last of them starts.
 pub struct Writer {
-    pub kind: u32,
+    pub type_id: u32,
     pub phase: u32,
     pub at: usize,
     pub list: usize,
@@ -50,7 +50,7 @@ impl Writer {
         ensures { λ r. ⌜ r ≡ fresh ⌝ }
     {
         Writer {
-            kind: 0,
+            type_id: 0,
             phase: 0,
             at: 0,
             list: 0,
@@ -60,8 +60,8 @@ impl Writer {
     }
 
     // Starts a transaction: codec, type, network and chain id, and the outputs' count.
-    pub fn start(self, buf: &mut [u8], kind: u32, network: u32, chain: [u8; 32]) -> Step
-        ensures { λ r. ⌜ after r (now (buf .exit)) ≡ start (avm memoMost) self (now (buf .entry)) kind network chain ⌝ }
+    pub fn start(self, buf: &mut [u8], type_id: u32, network: u32, chain: [u8; 32]) -> Step
+        ensures { λ r. ⌜ after r (now (buf .exit)) ≡ start (avm memoMost) self (now (buf .entry)) «type_id» network chain ⌝ }
     {
         if self.phase != 0 {
             return steps::not_due(self);
@@ -69,13 +69,13 @@ impl Writer {
         if buf.len() < self.at {
             return steps::no_room(self);
         }
-        if let Verdict::Refuse(refusal) = texts::kind_rules(kind) {
+        if let Verdict::Refuse(refusal) = values::type_rules(type_id) {
             return steps::refused(self, refusal);
         }
         let mut front = [0u8; 10];
-        wire::put_number(&mut front, kind as u64 * 4294967296 + network as u64);
+        wire::put_integer(&mut front, type_id as u64 * 4294967296 + network as u64);
         let from = Writer {
-            kind,
+            type_id,
             phase: 1,
             at: 0,
             list: 0,
@@ -89,20 +89,20 @@ impl Writer {
     pub fn close(self, buf: &mut [u8]) -> Step
         ensures { λ r. ⌜ after r (now (buf .exit)) ≡ close (avm memoMost) self (now (buf .entry)) ⌝ }
     {
-        match plans::due_at(self.kind, self.phase) {
+        match rows::due_at(self.type_id, self.phase) {
             Due::Nothing => steps::not_due(self),
-            Due::End => steps::not_due(self),
+            Due::Finish => steps::not_due(self),
             Due::Field(_) => steps::not_due(self),
             Due::List(_, least) => {
                 if buf.len() < self.at {
                     return steps::no_room(self);
                 }
-                if let Verdict::Refuse(refusal) = texts::list_rules(self.count, least) {
+                if let Verdict::Refuse(refusal) = values::list_rules(self.count, least) {
                     return steps::refused(self, refusal);
                 }
                 let none = [0u8; 1];
                 let nothing = [0u8; 1];
-                steps::put_part(self, buf, &none[..0], &nothing[..0])
+                steps::put_segment(self, buf, &none[..0], &nothing[..0])
             }
         }
     }
@@ -110,84 +110,84 @@ impl Writer {
     pub fn memo(self, buf: &mut [u8], bytes: &[u8]) -> Step
         ensures { λ r. ⌜ after r (now (buf .exit)) ≡ putMemo memoMost self (now (buf .entry)) (now (bytes .entry)) ⌝ }
     {
-        if !questions::field_at(self.kind, self.phase, FieldName::Memo) {
+        if !questions::field_at(self.type_id, self.phase, FieldName::Memo) {
             return steps::not_due(self);
         }
         if buf.len() < self.at {
             return steps::no_room(self);
         }
-        if let Verdict::Refuse(refusal) = texts::memo_rules(bytes.len(), transaction::MEMO_MOST) {
+        if let Verdict::Refuse(refusal) = values::memo_rules(bytes.len(), transaction::MEMO_MOST) {
             return steps::refused(self, refusal);
         }
         let mut count = [0u8; 4];
-        wire::put_number(&mut count, bytes.len() as u64);
-        steps::put_part(self, buf, &count, bytes)
+        wire::put_integer(&mut count, bytes.len() as u64);
+        steps::put_segment(self, buf, &count, bytes)
     }
 
     pub fn name(self, buf: &mut [u8], bytes: &[u8]) -> Step
         ensures { λ r. ⌜ after r (now (buf .exit)) ≡ putName memoMost self (now (buf .entry)) (now (bytes .entry)) ⌝ }
     {
-        if !questions::field_at(self.kind, self.phase, FieldName::Name) {
+        if !questions::field_at(self.type_id, self.phase, FieldName::Name) {
             return steps::not_due(self);
         }
         if buf.len() < self.at {
             return steps::no_room(self);
         }
-        if let Verdict::Refuse(refusal) = texts::text_rules(bytes, string::NAME_MOST as usize) {
+        if let Verdict::Refuse(refusal) = values::text_rules(bytes, string::NAME_MOST as usize) {
             return steps::refused(self, refusal);
         }
         let mut count = [0u8; 2];
-        wire::put_number(&mut count, bytes.len() as u64);
-        steps::put_part(self, buf, &count, bytes)
+        wire::put_integer(&mut count, bytes.len() as u64);
+        steps::put_segment(self, buf, &count, bytes)
     }
 
     pub fn symbol(self, buf: &mut [u8], bytes: &[u8]) -> Step
         ensures { λ r. ⌜ after r (now (buf .exit)) ≡ putSymbol memoMost self (now (buf .entry)) (now (bytes .entry)) ⌝ }
     {
-        if !questions::field_at(self.kind, self.phase, FieldName::Symbol) {
+        if !questions::field_at(self.type_id, self.phase, FieldName::Symbol) {
             return steps::not_due(self);
         }
         if buf.len() < self.at {
             return steps::no_room(self);
         }
-        if let Verdict::Refuse(refusal) = texts::text_rules(bytes, string::SYMBOL_MOST as usize) {
+        if let Verdict::Refuse(refusal) = values::text_rules(bytes, string::SYMBOL_MOST as usize) {
             return steps::refused(self, refusal);
         }
         let mut count = [0u8; 2];
-        wire::put_number(&mut count, bytes.len() as u64);
-        steps::put_part(self, buf, &count, bytes)
+        wire::put_integer(&mut count, bytes.len() as u64);
+        steps::put_segment(self, buf, &count, bytes)
     }
 
     pub fn denomination(self, buf: &mut [u8], value: u8) -> Step
         ensures { λ r. ⌜ after r (now (buf .exit)) ≡ putDenomination memoMost self (now (buf .entry)) value ⌝ }
     {
-        if !questions::field_at(self.kind, self.phase, FieldName::Denomination) {
+        if !questions::field_at(self.type_id, self.phase, FieldName::Denomination) {
             return steps::not_due(self);
         }
         if buf.len() < self.at {
             return steps::no_room(self);
         }
-        if let Verdict::Refuse(refusal) = texts::denomination_rules(value) {
+        if let Verdict::Refuse(refusal) = values::denomination_rules(value) {
             return steps::refused(self, refusal);
         }
         let mut byte = [0u8; 1];
-        wire::put_number(&mut byte, value as u64);
+        wire::put_integer(&mut byte, value as u64);
         let none = [0u8; 1];
-        steps::put_part(self, buf, &byte, &none[..0])
+        steps::put_segment(self, buf, &byte, &none[..0])
     }
 
     // The source of an import, or the destination of an export.
     pub fn chain(self, buf: &mut [u8], id: [u8; 32]) -> Step
         ensures { λ r. ⌜ after r (now (buf .exit)) ≡ putChain memoMost self (now (buf .entry)) id ⌝ }
     {
-        if !questions::field_at(self.kind, self.phase, FieldName::Chain) {
+        if !questions::field_at(self.type_id, self.phase, FieldName::Chain) {
             return steps::not_due(self);
         }
         if buf.len() < self.at {
             return steps::no_room(self);
         }
         let none = [0u8; 1];
-        steps::put_part(self, buf, &none[..0], &id)
+        steps::put_segment(self, buf, &none[..0], &id)
     }
 
     // A transferable output; its addresses stand one behind the other.
@@ -210,7 +210,7 @@ impl Writer {
         }
         let last = steps::last_of(self, &buf[..]);
         let mut head = [0u8; 60];
-        let rules = rules::output_rules(
+        let rules = transfers::output_rules(
             last,
             asset,
             amount,
@@ -246,7 +246,7 @@ impl Writer {
         }
         let last = steps::last_of(self, &buf[..]);
         let mut head = [0u8; 84];
-        let rules = rules::input_rules(last, txid, index, asset, amount, indices, &mut head);
+        let rules = transfers::input_rules(last, txid, index, asset, amount, indices, &mut head);
         if let Verdict::Refuse(refusal) = rules {
             return steps::refused(self, refusal);
         }
@@ -293,14 +293,14 @@ impl Writer {
     pub fn finish(self, buf: &mut [u8]) -> Step
         ensures { λ r. ⌜ after r (now (buf .exit)) ≡ finish (avm memoMost) self (now (buf .entry)) ⌝ }
     {
-        if !questions::end_at(self.kind, self.phase) {
+        if !questions::end_at(self.type_id, self.phase) {
             return steps::not_due(self);
         }
         let phase = self.phase + 1;
-        match blank::close(buf, self.at, transaction::MEMO_MOST) {
-            Part::Refused(refusal) => steps::refused(self, refusal),
-            Part::Next(end) => steps::stored(Writer {
-                kind: self.kind,
+        match writer_blank::append(buf, self.at, transaction::MEMO_MOST) {
+            End::Refused(refusal) => steps::refused(self, refusal),
+            End::At(end) => steps::stored(Writer {
+                type_id: self.type_id,
                 phase,
                 at: end,
                 list: end,

@@ -4,16 +4,16 @@ ghost use mathlib.Core.Path.{_≡_};
 ghost use mathlib.Core.Bool.{true, _&&_};
 ghost use mathlib.Core.List.{_++_};
 ghost use Rattle.wire.specs.Bytes.{pick};
-ghost use Rattle.due.specs.Plans.{isOpen};
-ghost use Rattle.judge.specs.Elements.{numbersBytes};
+ghost use Rattle.plan.specs.Due.{isOpen};
+ghost use Rattle.writer_rules.specs.Elements.{integersBytes};
 ghost use Rattle.writer.specs.Steps.{prev, sane};
-ghost use Rattle.writer.specs.Code.{after, refusedStep, notDueStep, noRoomStep, storedStep, dueAt, settled, partStep, opensNext, elementStep};
+ghost use Rattle.writer.specs.Code.{after, refusedStep, notDueStep, noRoomStep, storedStep, dueAt, settled, segmentStep, opensNext, elementStep};
 use crate::Step;
 use crate::Writer;
 use crate::Written;
-use due::questions;
+use plan::questions;
 use transaction::ListName;
-use wire::Part;
+use wire::End;
 use wire::Refusal;
 use wire::Rule;
 
@@ -80,7 +80,7 @@ pub fn last_of(w: Writer, buf: &[u8]) -> &[u8]
 pub fn is_element_due(w: Writer, list: ListName) -> bool
     ensures { λ r. ⌜ r ≡ isOpen list (dueAt w) && sane w ⌝ }
 {
-    if questions::open_at(w.kind, w.phase, list) {
+    if questions::open_at(w.type_id, w.phase, list) {
         return is_sane(w);
     }
     false
@@ -109,10 +109,10 @@ pub fn settle(
 {
     let zero = [0u32; 1];
     let counts = counts_of(opens);
-    match buffer::put(buf, from.at, first, second, &zero[..counts]) {
-        Part::Refused(refusal) => refused(w, refusal),
-        Part::Next(end) => stored(Writer {
-            kind: from.kind,
+    match writer_buffer::store(buf, from.at, first, second, &zero[..counts]) {
+        End::Refused(refusal) => refused(w, refusal),
+        End::At(end) => stored(Writer {
+            type_id: from.type_id,
             phase: from.phase,
             at: end,
             list: end - 4 * counts,
@@ -123,14 +123,14 @@ pub fn settle(
 }
 
 // The bytes of the part that is due, and the next list's count behind them: a field, or nothing where a list is closed.
-pub(crate) fn put_part(w: Writer, buf: &mut [u8], first: &[u8], second: &[u8]) -> Step
+pub(crate) fn put_segment(w: Writer, buf: &mut [u8], first: &[u8], second: &[u8]) -> Step
     requires { ⌜ w .phase ≤ 8 ⌝ }
-    ensures { λ r. ⌜ after r (now (buf .exit)) ≡ partStep w (now (buf .entry)) (now (first .entry) ++ now (second .entry)) (opensNext w) ⌝ }
+    ensures { λ r. ⌜ after r (now (buf .exit)) ≡ segmentStep w (now (buf .entry)) (now (first .entry) ++ now (second .entry)) (opensNext w) ⌝ }
 {
     let phase = w.phase + 1;
-    let opens = questions::list_at(w.kind, phase);
+    let opens = questions::list_at(w.type_id, phase);
     let from = Writer {
-        kind: w.kind,
+        type_id: w.type_id,
         phase,
         at: w.at,
         list: 0,
@@ -149,15 +149,16 @@ pub(crate) fn put_element(
     numbers: &[u32],
 ) -> Step
     requires { ⌜ sane w ≡ true ⌝ }
-    ensures { λ r. ⌜ after r (now (buf .exit)) ≡ elementStep w (now (buf .entry)) ((now (first .entry) ++ now (second .entry)) ++ numbersBytes (now (numbers .entry))) ⌝ }
+    ensures { λ r. ⌜ after r (now (buf .exit)) ≡ elementStep w (now (buf .entry))
+        ((now (first .entry) ++ now (second .entry)) ++ integersBytes (now (numbers .entry))) ⌝ }
 {
-    match buffer::put(buf, w.at, first, second, numbers) {
-        Part::Refused(refusal) => refused(w, refusal),
-        Part::Next(end) => {
+    match writer_buffer::store(buf, w.at, first, second, numbers) {
+        End::Refused(refusal) => refused(w, refusal),
+        End::At(end) => {
             let count = w.count + 1;
-            buffer::put_u32(buf, w.list, count as u64);
+            writer_buffer::put_u32(buf, w.list, count as u64);
             stored(Writer {
-                kind: w.kind,
+                type_id: w.type_id,
                 phase: w.phase,
                 at: end,
                 list: w.list,

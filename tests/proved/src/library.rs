@@ -1,5 +1,5 @@
 //! The functions of the static libraries: of `phone`, as `include/cellfacet.h` has them, and
-//! of `probe`, which is there for tests.
+//! of `test_exports`, which is there for tests.
 
 mod c {
     extern "C" {
@@ -12,7 +12,7 @@ mod c {
             output: *mut u8,
             room: usize,
         ) -> u64;
-        pub fn cellfacet_probe_fill(
+        pub fn cellfacet_test_fill(
             draft: *mut u8,
             length: usize,
             slot: u64,
@@ -20,13 +20,13 @@ mod c {
             signature_length: usize,
             answer: &mut [u64; 2],
         );
-        pub fn cellfacet_probe_table(
+        pub fn cellfacet_test_table(
             bytes: *const u8,
             length: usize,
             table: *mut u32,
             room: usize,
         ) -> u64;
-        pub fn cellfacet_probe_entry(
+        pub fn cellfacet_test_entry(
             bytes: *const u8,
             length: usize,
             n: u64,
@@ -72,7 +72,7 @@ pub fn probe_fill(draft: &mut [u8], slot: u64, signature: &[u8]) -> [u64; 2] {
     // SAFETY: the pointers and the lengths are those of slices, of which the draft is borrowed
     // mutably, so that it does not overlap the signature; the function asks for nothing else.
     unsafe {
-        c::cellfacet_probe_fill(draft, length, slot, signature, signature_length, &mut answer);
+        c::cellfacet_test_fill(draft, length, slot, signature, signature_length, &mut answer);
     }
     answer
 }
@@ -83,7 +83,7 @@ pub fn probe_table(bytes: &[u8], table: &mut [u32]) -> u64 {
     // SAFETY: the pointers and the lengths are those of two slices, of which the second is
     // borrowed mutably, so that they do not overlap; the function asks for nothing else.
     unsafe {
-        c::cellfacet_probe_table(bytes.as_ptr(), bytes.len(), table.as_mut_ptr(), table.len())
+        c::cellfacet_test_table(bytes.as_ptr(), bytes.len(), table.as_mut_ptr(), table.len())
     }
 }
 
@@ -101,7 +101,7 @@ pub fn probe_entry(
     // SAFETY: the pointers and the lengths are those of slices, of which all but the first
     // are borrowed mutably, so that none overlap; the function asks for nothing else.
     unsafe {
-        c::cellfacet_probe_entry(
+        c::cellfacet_test_entry(
             bytes.as_ptr(),
             bytes.len(),
             n,

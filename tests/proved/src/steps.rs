@@ -1,4 +1,4 @@
-//! The writer's steps of the static library `probe_writer`, which is there for tests.
+//! The writer's steps of the static library `test_writer_exports`, which is there for tests.
 
 use cellfacet_tests::lines::{Answer, Step};
 
@@ -12,8 +12,8 @@ mod c {
 
     // Behind the numbers each step takes the buffer, as pointer and length.
     extern "C" {
-        pub fn cellfacet_probe_fresh(numbers: &mut Numbers);
-        pub fn cellfacet_probe_start(
+        pub fn cellfacet_test_fresh(numbers: &mut Numbers);
+        pub fn cellfacet_test_start(
             numbers: &mut Numbers,
             buffer: *mut u8,
             room: usize,
@@ -21,7 +21,7 @@ mod c {
             network: u32,
             chain: &Id,
         );
-        pub fn cellfacet_probe_output(
+        pub fn cellfacet_test_output(
             numbers: &mut Numbers,
             buffer: *mut u8,
             room: usize,
@@ -32,7 +32,7 @@ mod c {
             addresses: *const u8,
             addresses_length: usize,
         );
-        pub fn cellfacet_probe_input(
+        pub fn cellfacet_test_input(
             numbers: &mut Numbers,
             buffer: *mut u8,
             room: usize,
@@ -43,55 +43,55 @@ mod c {
             indices: *const u32,
             indices_count: usize,
         );
-        pub fn cellfacet_probe_operation(
+        pub fn cellfacet_test_operation(
             numbers: &mut Numbers,
             buffer: *mut u8,
             room: usize,
             bytes: *const u8,
             length: usize,
         );
-        pub fn cellfacet_probe_state(
+        pub fn cellfacet_test_state(
             numbers: &mut Numbers,
             buffer: *mut u8,
             room: usize,
             bytes: *const u8,
             length: usize,
         );
-        pub fn cellfacet_probe_close(numbers: &mut Numbers, buffer: *mut u8, room: usize);
-        pub fn cellfacet_probe_memo(
+        pub fn cellfacet_test_close(numbers: &mut Numbers, buffer: *mut u8, room: usize);
+        pub fn cellfacet_test_memo(
             numbers: &mut Numbers,
             buffer: *mut u8,
             room: usize,
             bytes: *const u8,
             length: usize,
         );
-        pub fn cellfacet_probe_name(
+        pub fn cellfacet_test_name(
             numbers: &mut Numbers,
             buffer: *mut u8,
             room: usize,
             bytes: *const u8,
             length: usize,
         );
-        pub fn cellfacet_probe_symbol(
+        pub fn cellfacet_test_symbol(
             numbers: &mut Numbers,
             buffer: *mut u8,
             room: usize,
             bytes: *const u8,
             length: usize,
         );
-        pub fn cellfacet_probe_denomination(
+        pub fn cellfacet_test_denomination(
             numbers: &mut Numbers,
             buffer: *mut u8,
             room: usize,
             value: u8,
         );
-        pub fn cellfacet_probe_chain(
+        pub fn cellfacet_test_chain(
             numbers: &mut Numbers,
             buffer: *mut u8,
             room: usize,
             id: &Id,
         );
-        pub fn cellfacet_probe_finish(numbers: &mut Numbers, buffer: *mut u8, room: usize);
+        pub fn cellfacet_test_finish(numbers: &mut Numbers, buffer: *mut u8, room: usize);
     }
 }
 
@@ -104,7 +104,7 @@ impl Default for Writer {
     fn default() -> Self {
         let mut numbers = [u64::MAX; 8];
         // SAFETY: the numbers are borrowed mutably; the function asks for nothing else.
-        unsafe { c::cellfacet_probe_fresh(&mut numbers) };
+        unsafe { c::cellfacet_test_fresh(&mut numbers) };
         Writer(numbers)
     }
 }
@@ -130,26 +130,26 @@ impl Writer {
         unsafe {
             match step {
                 Step::Start { type_id, network, chain } => {
-                    c::cellfacet_probe_start(numbers, at, room, *type_id, *network, chain);
+                    c::cellfacet_test_start(numbers, at, room, *type_id, *network, chain);
                 }
                 Step::Output { asset, amount, locktime, threshold, addresses: list } => {
                     let (list, length) = (list.as_ptr(), list.len());
-                    c::cellfacet_probe_output(
+                    c::cellfacet_test_output(
                         numbers, at, room, asset, *amount, *locktime, *threshold, list, length,
                     );
                 }
                 Step::Input { txid, index, asset, amount, indices: list } => {
                     let (list, count) = (list.as_ptr(), list.len());
-                    c::cellfacet_probe_input(
+                    c::cellfacet_test_input(
                         numbers, at, room, txid, *index, asset, *amount, list, count,
                     );
                 }
                 Step::Denomination(value) => {
-                    c::cellfacet_probe_denomination(numbers, at, room, *value);
+                    c::cellfacet_test_denomination(numbers, at, room, *value);
                 }
-                Step::Chain(id) => c::cellfacet_probe_chain(numbers, at, room, id),
-                Step::Close => c::cellfacet_probe_close(numbers, at, room),
-                Step::Finish => c::cellfacet_probe_finish(numbers, at, room),
+                Step::Chain(id) => c::cellfacet_test_chain(numbers, at, room, id),
+                Step::Close => c::cellfacet_test_close(numbers, at, room),
+                Step::Finish => c::cellfacet_test_finish(numbers, at, room),
                 Step::Operation(bytes)
                 | Step::State(bytes)
                 | Step::Memo(bytes)
@@ -166,10 +166,10 @@ impl Writer {
 /// The function of a step that is given as bytes alone.
 fn of_bytes(step: &Step) -> OfBytes {
     match step {
-        Step::Operation(_) => c::cellfacet_probe_operation,
-        Step::State(_) => c::cellfacet_probe_state,
-        Step::Memo(_) => c::cellfacet_probe_memo,
-        Step::Name(_) => c::cellfacet_probe_name,
-        _ => c::cellfacet_probe_symbol,
+        Step::Operation(_) => c::cellfacet_test_operation,
+        Step::State(_) => c::cellfacet_test_state,
+        Step::Memo(_) => c::cellfacet_test_memo,
+        Step::Name(_) => c::cellfacet_test_name,
+        _ => c::cellfacet_test_symbol,
     }
 }

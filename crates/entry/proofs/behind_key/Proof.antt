@@ -8,7 +8,7 @@ pub behind-key-spec : {M : Type 1} → statement M
 behind-key-spec =
     tie.close
     (tie.spec
-    (λ c κs. search needs)  -- part-at-requires
+    (λ c κs. search needs)  -- field-at-requires
     (λ c. search needs)  -- enum-known-i
     (λ c. search needs)  -- enum-told
     (λ c. search passing depth 10)  -- returns

@@ -8,7 +8,7 @@ pub output-typed-spec : {M : Type 1} → statement M
 output-typed-spec =
     tie.close
     (tie.spec
-    (λ c κs. search needs)  -- part-at-requires
+    (λ c κs. search needs)  -- field-at-requires
     (λ c. search needs)  -- enum-known-o
     (λ c. search needs)  -- enum-told
     (λ c. search typing depth 12)  -- returns

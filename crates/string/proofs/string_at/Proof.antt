@@ -18,5 +18,5 @@ string-at-spec =
     (λ c. search reading depth 12)  -- returns
     (λ c κs. search needs)  -- refuse-requires
     (λ c. search reading depth 12)  -- returns-2
-    (λ c κs. search needs)  -- part-at-requires
+    (λ c κs. search needs)  -- field-at-requires
     (λ c. search reading depth 12))  -- returns-3

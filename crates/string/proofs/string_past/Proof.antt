@@ -17,5 +17,5 @@ string-past-spec =
     (λ c. search needs)  -- enum-told
     (λ c κs. search needs)  -- cut-requires
     (λ c. string-passed _ _ (search needs) _ (search reading depth 12))  -- returns
-    (λ c κs. search needs)  -- part-at-requires
+    (λ c κs. search needs)  -- field-at-requires
     (λ c. string-passed _ _ (search needs) _ (search reading depth 12)))  -- returns-2

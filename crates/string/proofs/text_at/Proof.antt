@@ -21,7 +21,7 @@ text-at-spec =
     (λ c. search (on-value, on-short, tests) depth 12)  -- returns-2
     (λ c κs. search needs)  -- refuse-requires-2
     (λ c. search (on-value, on-short, tests) depth 12)  -- returns-3
-    (λ c κs. search needs)  -- part-at-requires
+    (λ c κs. search needs)  -- field-at-requires
     (λ c. search needs)  -- enum-known-next
     (λ c. search needs)  -- enum-told-2
     (λ c κs. search needs)  -- cut-requires-2

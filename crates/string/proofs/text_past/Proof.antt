@@ -17,5 +17,5 @@ text-past-spec =
     (λ c. search needs)  -- enum-told
     (λ c κs. search needs)  -- cut-requires
     (λ c. text-passed _ _ (search needs) _ (search reading depth 12))  -- returns
-    (λ c κs. search needs)  -- part-at-requires
+    (λ c κs. search needs)  -- field-at-requires
     (λ c. text-passed _ _ (search needs) _ (search reading depth 12)))  -- returns-2

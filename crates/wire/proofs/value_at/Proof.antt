@@ -26,8 +26,14 @@ value-at-spec =
     (λ c. search needs)  -- add-byte
     (λ c. search needs)  -- shared-slice-read-byte
     (λ c. let l = c .before .before in omega (arith, c .shared-slice-known .given (l .before .args .at + l .loop .i)))  -- cast-byte
-    (λ c. let l = c .before .before in let a = l .before .args in omega (arith, value-room (a .s .now) (a .at) (c .shared-slice-known .given) (l .loop .i) (omega arith) (omega arith)))  -- mul-v
-    (λ c. let l = c .before .before in let a = l .before .args in omega (arith, c .shared-slice-known .given (a .at + l .loop .i), value-room (a .s .now) (a .at) (c .shared-slice-known .given) (l .loop .i) (omega arith) (omega arith)))  -- add-v
+    (λ c. let l = c .before .before in let a = l .before .args in omega
+    (arith, value-room (a .s .now) (a .at) (c .shared-slice-known .given) (l .loop .i) (omega arith) (omega arith)))  -- mul-v
+    (λ c. let l = c .before .before in let a = l .before .args in omega (
+      arith,
+      c .shared-slice-known .given (a .at + l .loop .i),
+      value-room (a .s .now) (a .at) (c .shared-slice-known .given) (l .loop .i) (omega arith)
+          (omega arith),
+    ))  -- add-v
     (λ c. search needs)  -- add-i
     (λ c. search needs)  -- loop-less
     (λ c. let l = c .before .before in let a = l .before .args in (omega arith, cc (value-more (a .s .now) (a .at) (l .loop .i) (omega arith))))  -- loop-again

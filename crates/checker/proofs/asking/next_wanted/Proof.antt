@@ -7,11 +7,11 @@ use Rattle.checker.proofs.asking.next_wanted.Statement.{statement}
 use Rattle.checker.proofs.asking.next_wanted.Tie as tie
 
 abbrev Inv-loop : tie.InvT-loop
-Inv-loop s kind phase₀ asks₀ at₀ left₀ phase asks at left =
-    Onward kind s record { phase = phase₀; asks = asks₀; at = at₀; left = left₀ } phase asks at left
+Inv-loop s «type_id» phase₀ asks₀ at₀ left₀ phase asks at left =
+    Onward «type_id» s record { phase = phase₀; asks = asks₀; at = at₀; left = left₀ } phase asks at left
 
 abbrev μ-loop : tie.MeasureT-loop
-μ-loop s kind phase₀ asks₀ at₀ left₀ phase asks at left = 9 - phase
+μ-loop s «type_id» phase₀ asks₀ at₀ left₀ phase asks at left = 9 - phase
 
 pub next-wanted-spec : {M : Type 1} → statement M
 next-wanted-spec =
@@ -26,36 +26,52 @@ next-wanted-spec =
     let a = c .before .before .before .before .before .before .args in
     let l = c .before .before .before .before .loop in
     let b = c .before .before .begun-at .ensures in
-    next-end (a .s .now) (a .kind) (a .from) (l .phase) (l .asks) (l .at) (l .left) (l .inv) (c .before .before .before .loop-test .taken) _ (b .0) (b .1) (c .enum-told .given .1))  -- returns
+    next-end (a .s .now) (a .type-id) (a .from) (l .phase) (l .asks) (l .at) (l .left) (l .inv) (c .before .before .before .loop-test .taken) _ (b .0)
+    (b .1) (c .enum-told .given .1))  -- returns
     (λ c. search needs)  -- enum-known-credential
     (λ c.
     let a = c .before .before .before .before .before .before .before .args in
     let l = c .before .before .before .before .before .loop in
     let b = c .before .before .before .begun-at .ensures in
-    omega (arith, asks-phase (a .s .now) (a .kind) (a .from) (l .phase) (l .asks) (l .at) (l .left) (l .inv) (c .before .before .before .before .loop-test .taken) _ (b .0) (b .1) _ _ _ (c .before .credential .given .1)))  -- add-t16
+    omega (
+      arith,
+      asks-phase (a .s .now) (a .type-id) (a .from) (l .phase) (l .asks) (l .at) (l .left) (l .inv)
+          (c .before .before .before .before .loop-test .taken) _ (b .0) (b .1) _ _ _ (c .before .credential .given .1),
+    ))  -- add-t16
     (λ c.
     let a = c .before .before .before .before .before .before .before .args in
     let l = c .before .before .before .before .before .loop in
     let b = c .before .before .before .begun-at .ensures in
-    next-asks (a .s .now) (a .kind) (a .from) (l .phase) (l .asks) (l .at) (l .left) (l .inv) (c .before .before .before .before .loop-test .taken) _ (b .0) (b .1) _ _ _ (c .before .credential .given .1))  -- returns-2
+    next-asks (a .s .now) (a .type-id) (a .from) (l .phase) (l .asks) (l .at) (l .left) (l .inv) (c .before .before .before .before .loop-test .taken) _
+    (b .0) (b .1) _ _ _ (c .before .credential .given .1))  -- returns-2
     (λ c. search needs)  -- enum-known-credential-2
     (λ c.
     let a = c .before .before .before .before .before .before .before .args in
     let l = c .before .before .before .before .before .loop in
     let b = c .before .before .before .begun-at .ensures in
-    omega (arith, into-phase (a .s .now) (a .kind) (a .from) (l .phase) (l .asks) (l .at) (l .left) (l .inv) (c .before .before .before .before .loop-test .taken) _ (b .0) (b .1) _ _ _ (c .before .credential2 .given .1)))  -- add-phase
+    omega (
+      arith,
+      into-phase (a .s .now) (a .type-id) (a .from) (l .phase) (l .asks) (l .at) (l .left) (l .inv)
+          (c .before .before .before .before .loop-test .taken) _ (b .0) (b .1) _ _ _ (c .before .credential2 .given .1),
+    ))  -- add-phase
     (λ c.
     let a = c .before .before .before .before .before .before .before .args in
     let l = c .before .before .before .before .before .loop in
     let b = c .before .before .before .begun-at .ensures in
-    omega (arith, into-phase (a .s .now) (a .kind) (a .from) (l .phase) (l .asks) (l .at) (l .left) (l .inv) (c .before .before .before .before .loop-test .taken) _ (b .0) (b .1) _ _ _ (c .before .credential2 .given .1)))  -- loop-less
+    omega (
+      arith,
+      into-phase (a .s .now) (a .type-id) (a .from) (l .phase) (l .asks) (l .at) (l .left) (l .inv)
+          (c .before .before .before .before .loop-test .taken) _ (b .0) (b .1) _ _ _ (c .before .credential2 .given .1),
+    ))  -- loop-less
     (λ c.
     let a = c .before .before .before .before .before .before .before .args in
     let l = c .before .before .before .before .before .loop in
     let b = c .before .before .before .begun-at .ensures in
-    next-into (a .s .now) (a .kind) (a .from) (l .phase) (l .asks) (l .at) (l .left) (l .inv) (c .before .before .before .before .loop-test .taken) _ (b .0) (b .1) _ _ _ (c .before .credential2 .given .1))  -- loop-again
+    next-into (a .s .now) (a .type-id) (a .from) (l .phase) (l .asks) (l .at) (l .left) (l .inv) (c .before .before .before .before .loop-test .taken) _
+    (b .0) (b .1) _ _ _ (c .before .credential2 .given .1))  -- loop-again
     (λ c κs. omega (arith, c .loop-test .left))  -- element-wanted-requires
     (λ c.
     let a = c .before .before .before .before .args in
     let l = c .before .before .loop in
-    next-element (a .s .now) (a .kind) (a .from) (l .phase) (l .asks) (l .at) (l .left) (l .inv) (c .element-wanted .result) (c .element-wanted .ensures)))  -- returns-3
+    next-element (a .s .now) (a .type-id) (a .from) (l .phase) (l .asks) (l .at) (l .left) (l .inv) (c .element-wanted .result)
+    (c .element-wanted .ensures)))  -- returns-3

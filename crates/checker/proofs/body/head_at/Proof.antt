@@ -31,7 +31,7 @@ head-at-spec =
     (λ c. search needs)  -- enum-told-3
     (λ c κs. search needs)  -- cut-requires-3
     (λ c. search heading depth 12)  -- returns-5
-    (λ c κs. search needs)  -- part-at-requires
+    (λ c κs. search needs)  -- field-at-requires
     (λ c. search needs)  -- enum-known-next
     (λ c. search needs)  -- enum-told-4
     (λ c κs. search needs)  -- cut-requires-4

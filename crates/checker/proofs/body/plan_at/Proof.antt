@@ -4,19 +4,19 @@ use Prim.Native.Nat.{_-_, _*_, _≤_}
 use mathlib.Core.Path.{_≡_, refl}
 use native.Mathlib.Omega.{arith}
 use Rattle.transaction.specs.Plan.{planOf}
-use Rattle.due.specs.Plans.{due}
+use Rattle.plan.specs.Due.{due}
 use Rattle.checker.specs.Segments.{planAt}
 use Rattle.checker.proofs.Planning.{turn-end, turn-refused, turn-past, past-phase, past-few}
 use Rattle.checker.proofs.body.plan_at.Statement.{statement}
 use Rattle.checker.proofs.body.plan_at.Tie as tie
 
 abbrev Inv-loop : tie.InvT-loop
-Inv-loop s start kind most phase₀ at₀ wanted₀ phase at wanted =
+Inv-loop s start «type_id» most phase₀ at₀ wanted₀ phase at wanted =
     (wanted ≤ phase * 4294967296)
-    × (planAt most kind start wanted (due phase (planOf kind)) s at ≡ planAt most kind start 0 (due 2 (planOf kind)) s start)
+    × (planAt most «type_id» start wanted (due phase (planOf «type_id»)) s at ≡ planAt most «type_id» start 0 (due 2 (planOf «type_id»)) s start)
 
 abbrev μ-loop : tie.MeasureT-loop
-μ-loop s start kind most phase₀ at₀ wanted₀ phase at wanted = 9 - phase
+μ-loop s start «type_id» most phase₀ at₀ wanted₀ phase at wanted = 9 - phase
 
 pub plan-at-spec : {M : Type 1} → statement M
 plan-at-spec =
@@ -31,7 +31,40 @@ plan-at-spec =
     (λ c. search needs)  -- enum-known-refusal
     (λ c. search turn-refused)  -- returns-2
     (λ c. search needs)  -- enum-known-count
-    (λ c. omega (arith, past-phase (c .before .before .before .before .before .before .args .most) (c .before .before .before .before .before .before .args .kind) (c .before .before .before .before .loop .phase) (c .before .before .before .before .before .before .args .s .now) (c .before .before .before .before .loop .at) _ _ _ (c .before .before .before .segment-at .ensures) (c .before .count .given .1), past-few (c .before .before .before .before .before .before .args .most) (c .before .before .before .before .before .before .args .kind) (c .before .before .before .before .loop .phase) (c .before .before .before .before .before .before .args .s .now) (c .before .before .before .before .loop .at) _ _ _ (c .before .before .before .segment-at .ensures) (c .before .count .given .1) (c .before .before .before .before .before .shared-slice-known .given)))  -- add-wanted
-    (λ c. omega (arith, past-phase (c .before .before .before .before .before .before .args .most) (c .before .before .before .before .before .before .args .kind) (c .before .before .before .before .loop .phase) (c .before .before .before .before .before .before .args .s .now) (c .before .before .before .before .loop .at) _ _ _ (c .before .before .before .segment-at .ensures) (c .before .count .given .1)))  -- add-phase
-    (λ c. omega (arith, past-phase (c .before .before .before .before .before .before .args .most) (c .before .before .before .before .before .before .args .kind) (c .before .before .before .before .loop .phase) (c .before .before .before .before .before .before .args .s .now) (c .before .before .before .before .loop .at) _ _ _ (c .before .before .before .segment-at .ensures) (c .before .count .given .1)))  -- loop-less
-    (λ c. (omega (arith, past-few (c .before .before .before .before .before .before .args .most) (c .before .before .before .before .before .before .args .kind) (c .before .before .before .before .loop .phase) (c .before .before .before .before .before .before .args .s .now) (c .before .before .before .before .loop .at) _ _ _ (c .before .before .before .segment-at .ensures) (c .before .count .given .1) (c .before .before .before .before .before .shared-slice-known .given)), search turn-past)))  -- loop-again
+    (λ c. omega (
+      arith,
+      past-phase (c .before .before .before .before .before .before .args .most)
+          (c .before .before .before .before .before .before .args .type-id) (c .before .before .before .before .loop .phase)
+          (c .before .before .before .before .before .before .args .s .now) (c .before .before .before .before .loop .at) _ _ _
+          (c .before .before .before .segment-at .ensures) (c .before .count .given .1),
+      past-few
+          (c .before .before .before .before .before .before .args .most) (c .before .before .before .before .before .before .args .type-id)
+          (c .before .before .before .before .loop .phase) (c .before .before .before .before .before .before .args .s .now)
+          (c .before .before .before .before .loop .at) _ _ _ (c .before .before .before .segment-at .ensures)
+          (c .before .count .given .1) (c .before .before .before .before .before .shared-slice-known .given),
+    ))  -- add-wanted
+    (λ c. omega (
+      arith,
+      past-phase (c .before .before .before .before .before .before .args .most)
+          (c .before .before .before .before .before .before .args .type-id) (c .before .before .before .before .loop .phase)
+          (c .before .before .before .before .before .before .args .s .now) (c .before .before .before .before .loop .at) _ _ _
+          (c .before .before .before .segment-at .ensures) (c .before .count .given .1),
+    ))  -- add-phase
+    (λ c. omega (
+      arith,
+      past-phase (c .before .before .before .before .before .before .args .most)
+          (c .before .before .before .before .before .before .args .type-id) (c .before .before .before .before .loop .phase)
+          (c .before .before .before .before .before .before .args .s .now) (c .before .before .before .before .loop .at) _ _ _
+          (c .before .before .before .segment-at .ensures) (c .before .count .given .1),
+    ))  -- loop-less
+    (λ c. (
+      omega (
+        arith,
+        past-few (c .before .before .before .before .before .before .args .most)
+            (c .before .before .before .before .before .before .args .type-id) (c .before .before .before .before .loop .phase)
+            (c .before .before .before .before .before .before .args .s .now) (c .before .before .before .before .loop .at) _ _ _
+            (c .before .before .before .segment-at .ensures) (c .before .count .given .1)
+            (c .before .before .before .before .before .shared-slice-known .given),
+      ),
+      search turn-past,
+    )))  -- loop-again

@@ -21,7 +21,7 @@ first-cut-spec =
     Inv-loop
     μ-loop
     (λ c. refl)  -- loop-holds
-    (λ c κs. search needs)  -- part-at-requires
+    (λ c κs. search needs)  -- field-at-requires
     (λ c. search needs)  -- enum-known-next
     (λ c. search needs)  -- enum-told
     (λ c κs. search needs)  -- cut-requires

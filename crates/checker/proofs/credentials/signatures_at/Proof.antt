@@ -9,7 +9,7 @@ signatures-at-spec =
     tie.close
     (tie.spec
     (λ c. search signatures-fit)  -- mul-part-at
-    (λ c κs. search needs)  -- part-at-requires
+    (λ c κs. search needs)  -- field-at-requires
     (λ c. search needs)  -- enum-known-next
     (λ c. search needs)  -- enum-told
     (λ c κs. search needs)  -- first-cut-requires

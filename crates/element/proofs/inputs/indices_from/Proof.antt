@@ -1,28 +1,29 @@
--- `element::inputs::indices_from` meets its contract. The invariant: the reading of what is left, from here, is the whole reading; what is kept of the index before is its bytes.
+-- `element::inputs::indices_from` meets its contract. The invariant: the reading of what is left, from here, is the whole reading; what is kept of
+-- the index before is its bytes.
 -- Assumes nothing.
 use borrow.Author.Needs.{needs}
 use Prim.Native.Nat.{_^_, _<_}
 use mathlib.Core.Path.{_≡_, refl}
 use mathlib.Core.List.{[]}
 use Rattle.wire.specs.Bytes.{digits, pick}
-use Rattle.wire.specs.Fields.{number}
+use Rattle.wire.specs.Fields.{integer}
 use Rattle.wire.specs.Sequence.{guard}
 use Rattle.wire.specs.Series.{above, seriesFrom, increasing}
 use Rattle.wire.specs.Answer.{ended}
 use Rattle.wire.proofs.Reading.{turn, list-end, value-small}
-use Rattle.element.proofs.Reading.{if-number-follows, if-number-not}
+use Rattle.element.proofs.Reading.{if-integer-follows, if-integer-not}
 use Rattle.element.proofs.inputs.indices_from.Statement.{statement}
 use Rattle.element.proofs.inputs.indices_from.Tie as tie
 
 abbrev Inv-loop : tie.InvT-loop
 Inv-loop s start count left₀ any₀ prev₀ at₀ left any prev at =
-    (prev < 256 ^ 4) × (ended (seriesFrom (above (number 4)) (pick any (digits 4 prev) []) left) s at ≡ ended (increasing (number 4) count) s start)
+    (prev < 256 ^ 4) × (ended (seriesFrom (above (integer 4)) (pick any (digits 4 prev) []) left) s at ≡ ended (increasing (integer 4) count) s start)
 
 abbrev μ-loop : tie.MeasureT-loop
 μ-loop s start count left₀ any₀ prev₀ at₀ left any prev at = left
 
 pub indices-from-spec : {M : Type 1} → statement M
-unfolding guard number
+unfolding guard integer
 indices-from-spec =
     tie.close
     (tie.spec
@@ -34,10 +35,10 @@ indices-from-spec =
     (λ c. search needs)  -- enum-told
     (λ c κs. search needs)  -- cut-requires
     (λ c. search turn depth 10)  -- returns
-    (λ c κs. search needs)  -- number-follows-requires
+    (λ c κs. search needs)  -- integer-follows-requires
     (λ c. search needs)  -- sub-left
     (λ c. search needs)  -- loop-less
-    (λ c. search (turn, value-small, if-number-follows) depth 10)  -- loop-again
+    (λ c. search (turn, value-small, if-integer-follows) depth 10)  -- loop-again
     (λ c κs. search needs)  -- refuse-requires
-    (λ c. search (turn, value-small, if-number-not) depth 10)  -- returns-2
+    (λ c. search (turn, value-small, if-integer-not) depth 10)  -- returns-2
     (λ c. search list-end))  -- returns-3

@@ -1,4 +1,5 @@
--- `element::inputs::inputs_from` meets its contract. The invariant: the reading of what is left, from here, is the whole reading; what is kept of the input before is the bytes of its key.
+-- `element::inputs::inputs_from` meets its contract. The invariant: the reading of what is left, from here, is the whole reading; what is kept of the
+-- input before is the bytes of its key.
 -- Assumes nothing.
 use borrow.Author.Needs.{needs}
 use Prim.Native.Nat.{_^_, _<_}
@@ -6,7 +7,7 @@ use mathlib.Core.Path.{_≡_, refl}
 use mathlib.Core.List.{[], _++_}
 use lib.ListN.{length}
 use Rattle.wire.specs.Bytes.{pick}
-use Rattle.wire.specs.Fields.{number}
+use Rattle.wire.specs.Fields.{integer}
 use Rattle.wire.specs.Sequence.{guard}
 use Rattle.wire.specs.Series.{series}
 use Rattle.wire.specs.Answer.{ended}
@@ -18,7 +19,7 @@ use Rattle.element.proofs.inputs.inputs_from.Tie as tie
 
 abbrev Inv-loop : tie.InvT-loop
 Inv-loop s start count left₀ any₀ prev₀ last₀ at₀ left any prev last at =
-    (length prev ≡ 32) × (last < 256 ^ 4) × (ended (inputsAfter (pick any (prev ++ number 4 .write last) []) left) s at ≡ ended (series input count) s start)
+    (length prev ≡ 32) × (last < 256 ^ 4) × (ended (inputsAfter (pick any (prev ++ integer 4 .write last) []) left) s at ≡ ended (series input count) s start)
 
 abbrev μ-loop : tie.MeasureT-loop
 μ-loop s start count left₀ any₀ prev₀ last₀ at₀ left any prev last at = left
@@ -31,7 +32,7 @@ inputs-from-spec =
     Inv-loop
     μ-loop
     (λ c. (refl, search needs, inputs-are _ (c .shared-slice-known .given) _ _))  -- loop-holds
-    (λ c κs. search needs)  -- part-at-requires
+    (λ c κs. search needs)  -- field-at-requires
     (λ c. search needs)  -- enum-known-i
     (λ c. search needs)  -- enum-told
     (λ c κs. search needs)  -- cut-requires
@@ -49,7 +50,12 @@ inputs-from-spec =
     (λ c. search needs)  -- enum-known-next
     (λ c. search needs)  -- sub-left
     (λ c. search needs)  -- loop-less
-    (λ c. (search id-length, search value-small, search (list-on, on-part-there, on-value, value-small, if-key-follows, on-spend, key-again) depth 10))  -- loop-again
+    (λ c. (
+      search id-length,
+      search value-small,
+      search
+          (list-on, on-part-there, on-value, value-small, if-key-follows, on-spend, key-again) depth 10,
+    ))  -- loop-again
     (λ c κs. search needs)  -- refuse-requires
     (λ c. search (list-on, on-part-there, on-value, value-small, if-key-not, part-made) depth 10)  -- returns-4
     (λ c. search list-end))  -- returns-5

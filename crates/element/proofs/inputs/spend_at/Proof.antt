@@ -10,7 +10,7 @@ unfolding spend
 spend-at-spec =
     tie.close
     (tie.spec
-    (λ c κs. search needs)  -- part-at-requires
+    (λ c κs. search needs)  -- field-at-requires
     (λ c. search needs)  -- enum-known-k
     (λ c. search needs)  -- enum-told
     (λ c κs. search needs)  -- cut-requires

@@ -13,7 +13,7 @@ input-past-spec =
     tie.close
     (tie.spec
     (λ c. search needs)  -- add-part-at
-    (λ c κs. search needs)  -- part-at-requires
+    (λ c κs. search needs)  -- field-at-requires
     (λ c. search needs)  -- enum-known-first
     (λ c. search needs)  -- enum-told
     (λ c. search needs)  -- add-cut
@@ -26,7 +26,7 @@ input-past-spec =
     (λ c κs. search needs)  -- cut-requires-2
     (λ c. input-told _ _ (search needs) _ (search passing depth 8))  -- returns-2
     (λ c. search (indices-fit, value-small))  -- mul-part-at
-    (λ c κs. search needs)  -- part-at-requires-2
+    (λ c κs. search needs)  -- field-at-requires-2
     (λ c. search needs)  -- enum-known-refusal
     (λ c. search needs)  -- enum-known-next
     (λ c. input-told _ _ (search needs) _ (search passing depth 8))  -- returns-3

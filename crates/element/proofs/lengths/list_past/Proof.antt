@@ -18,7 +18,7 @@ list-past-spec =
     (λ c κs. search needs)  -- cut-requires
     (λ c. list-told _ _ _ _ (search passing depth 8))  -- returns
     (λ c. search (product-fits, value-small))  -- mul-part-at
-    (λ c κs. search needs)  -- part-at-requires
+    (λ c κs. search needs)  -- field-at-requires
     (λ c. search needs)  -- enum-known-refusal
     (λ c. search needs)  -- enum-known-next
     (λ c. list-told _ _ _ _ (search passing depth 8))  -- returns-2

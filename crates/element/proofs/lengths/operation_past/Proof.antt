@@ -11,7 +11,7 @@ unfolding andThen
 operation-past-spec =
     tie.close
     (tie.spec
-    (λ c κs. search needs)  -- part-at-requires
+    (λ c κs. search needs)  -- field-at-requires
     (λ c. search needs)  -- enum-known-pairs
     (λ c. search needs)  -- enum-told
     (λ c κs. search needs)  -- cut-requires

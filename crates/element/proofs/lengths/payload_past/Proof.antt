@@ -11,7 +11,7 @@ unfolding andThen
 payload-past-spec =
     tie.close
     (tie.spec
-    (λ c κs. search needs)  -- part-at-requires
+    (λ c κs. search needs)  -- field-at-requires
     (λ c. search needs)  -- enum-known-payload
     (λ c. search needs)  -- enum-told
     (λ c κs. search needs)  -- cut-requires

@@ -11,7 +11,7 @@ unfolding andThen
 state-past-spec =
     tie.close
     (tie.spec
-    (λ c κs. search needs)  -- part-at-requires
+    (λ c κs. search needs)  -- field-at-requires
     (λ c. search needs)  -- enum-known-outputs
     (λ c. search needs)  -- enum-told
     (λ c κs. search needs)  -- cut-requires

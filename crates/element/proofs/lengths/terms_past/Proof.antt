@@ -14,7 +14,7 @@ terms-past-spec =
     (λ c κs. search needs)  -- list-past-requires
     (λ c. search needs)  -- enum-known-refusal
     (λ c. search needs)  -- enum-known-count
-    (λ c κs. search needs)  -- part-at-requires
+    (λ c κs. search needs)  -- field-at-requires
     (λ c. search needs)  -- enum-known-payload
     (λ c. search needs)  -- enum-told
     (λ c κs. search needs)  -- cut-requires

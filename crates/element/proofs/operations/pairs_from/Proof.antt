@@ -1,4 +1,5 @@
--- `element::operations::pairs_from` meets its contract. The invariant: the reading of what is left, from here, is the whole reading; what is kept of the pair before is its bytes.
+-- `element::operations::pairs_from` meets its contract. The invariant: the reading of what is left, from here, is the whole reading; what is kept of
+-- the pair before is its bytes.
 -- Assumes nothing.
 use borrow.Author.Needs.{needs}
 use Prim.Native.Nat.{_^_, _<_}
@@ -6,7 +7,7 @@ use mathlib.Core.Path.{_≡_, refl}
 use mathlib.Core.List.{[], _++_}
 use lib.ListN.{length}
 use Rattle.wire.specs.Bytes.{pick}
-use Rattle.wire.specs.Fields.{number}
+use Rattle.wire.specs.Fields.{integer}
 use Rattle.wire.specs.Sequence.{guard}
 use Rattle.wire.specs.Series.{above, seriesFrom, increasing}
 use Rattle.wire.specs.Answer.{ended}
@@ -18,7 +19,8 @@ use Rattle.element.proofs.operations.pairs_from.Tie as tie
 
 abbrev Inv-loop : tie.InvT-loop
 Inv-loop s start count left₀ any₀ prev₀ last₀ at₀ left any prev last at =
-    (length prev ≡ 32) × (last < 256 ^ 4) × (ended (seriesFrom (above key) (pick any (prev ++ number 4 .write last) []) left) s at ≡ ended (increasing key count) s start)
+    (length prev ≡ 32) × (last < 256 ^ 4) × (ended (seriesFrom (above key) (pick any (prev ++ integer 4 .write last) []) left) s at ≡ ended
+    (increasing key count) s start)
 
 abbrev μ-loop : tie.MeasureT-loop
 μ-loop s start count left₀ any₀ prev₀ last₀ at₀ left any prev last at = left
@@ -31,7 +33,7 @@ pairs-from-spec =
     Inv-loop
     μ-loop
     (λ c. (refl, search needs, refl))  -- loop-holds
-    (λ c κs. search needs)  -- part-at-requires
+    (λ c κs. search needs)  -- field-at-requires
     (λ c. search needs)  -- enum-known-i
     (λ c. search needs)  -- enum-told
     (λ c κs. search needs)  -- cut-requires

@@ -1,13 +1,13 @@
 -- `element::operations::recipients_at` meets its contract.
 -- Assumes nothing.
 use borrow.Author.Needs.{needs}
-use Rattle.wire.specs.Series.{counted}
+use Rattle.wire.specs.Series.{countPrefixed}
 use Rattle.element.proofs.Reading.{reading, if-mint, if-transfer}
 use Rattle.element.proofs.operations.recipients_at.Statement.{statement}
 use Rattle.element.proofs.operations.recipients_at.Tie as tie
 
 pub recipients-at-spec : {M : Type 1} → statement M
-unfolding counted
+unfolding countPrefixed
 recipients-at-spec =
     tie.close
     (tie.spec

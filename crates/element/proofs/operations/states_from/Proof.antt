@@ -1,23 +1,25 @@
--- `element::operations::states_from` meets its contract. The invariant: the reading of what is left, from here, is the whole reading; what is kept of the state before is the bytes of its FxID.
+-- `element::operations::states_from` meets its contract. The invariant: the reading of what is left, from here, is the whole reading; what is kept of
+-- the state before is the bytes of its FxID.
 -- Assumes nothing.
 use borrow.Author.Needs.{needs}
 use Prim.Native.Nat.{_≤_}
 use mathlib.Core.Path.{_≡_}
 use mathlib.Core.List.{[]}
 use Rattle.wire.specs.Bytes.{pick}
-use Rattle.wire.specs.Fields.{number}
+use Rattle.wire.specs.Fields.{integer}
 use Rattle.wire.specs.Sequence.{guard}
 use Rattle.wire.specs.Series.{series}
 use Rattle.wire.specs.Answer.{ended}
 use Rattle.wire.proofs.Reading.{list-on, list-end}
 use Rattle.element.specs.Operations.{initialStateAfter, initialState}
-use Rattle.element.proofs.Reading.{on-fx, on-fx-unknown, on-fx-short, if-fx-follows, if-fx-not, fx-again, statesAfter, states-are, on-state-outputs, on-state-outputs-refused}
+use Rattle.element.proofs.Reading.{on-fx, on-fx-unknown, on-fx-short, if-fx-follows, if-fx-not, fx-again, statesAfter, states-are}
+use Rattle.element.proofs.Reading.{on-state-outputs, on-state-outputs-refused}
 use Rattle.element.proofs.operations.states_from.Statement.{statement}
 use Rattle.element.proofs.operations.states_from.Tie as tie
 
 abbrev Inv-loop : tie.InvT-loop
 Inv-loop s start count left₀ any₀ last₀ at₀ left any last at =
-    (last ≤ 1) × (ended (statesAfter (pick any (number 4 .write last) []) left) s at ≡ ended (series initialState count) s start)
+    (last ≤ 1) × (ended (statesAfter (pick any (integer 4 .write last) []) left) s at ≡ ended (series initialState count) s start)
 
 abbrev μ-loop : tie.MeasureT-loop
 μ-loop s start count left₀ any₀ last₀ at₀ left any last at = left
@@ -37,7 +39,7 @@ states-from-spec =
     (λ c. search (list-on, on-fx, on-fx-unknown, on-fx-short) depth 10)  -- returns
     (λ c κs. search needs)  -- refuse-requires
     (λ c. search (list-on, on-fx, on-fx-unknown) depth 10)  -- returns-2
-    (λ c κs. search needs)  -- number-follows-requires
+    (λ c κs. search needs)  -- integer-follows-requires
     (λ c κs. search needs)  -- state-outputs-at-requires
     (λ c. search needs)  -- enum-known-refusal
     (λ c. search (list-on, on-fx, on-fx-unknown, on-fx-short, if-fx-follows, if-fx-not, on-state-outputs-refused) depth 10)  -- returns-3

@@ -11,7 +11,7 @@ in-order-spec =
     (tie.spec
     (λ c. search needs)  -- enum-known-refusal
     (λ c. search needs)  -- enum-known-next
-    (λ c κs. search needs)  -- parts-below-requires
+    (λ c κs. search needs)  -- next-below-requires
     (λ c κs. search needs)  -- refuse-requires
     (λ c. search comparing)  -- returns
     (λ c. search comparing)  -- returns-2

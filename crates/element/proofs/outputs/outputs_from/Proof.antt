@@ -1,8 +1,9 @@
--- `element::outputs::outputs_from` meets its contract. The invariant: the reading of what is left, from here, is the whole reading; what is kept of the output before is its bytes.
+-- `element::outputs::outputs_from` meets its contract. The invariant: the reading of what is left, from here, is the whole reading; what is kept of
+-- the output before is its bytes.
 -- Assumes nothing.
 use borrow.Author.Needs.{needs}
 use mathlib.Core.Path.{_≡_}
-use Rattle.wire.specs.Bytes.{part}
+use Rattle.wire.specs.Bytes.{between}
 use Rattle.wire.specs.Series.{notBelow, seriesFrom, nondecreasing}
 use Rattle.wire.specs.Answer.{ended}
 use Rattle.wire.proofs.Reading.{list-start, list-end}
@@ -13,7 +14,7 @@ use Rattle.element.proofs.outputs.outputs_from.Tie as tie
 
 abbrev Inv-loop : tie.InvT-loop
 Inv-loop s start count left₀ prev₀ at₀ left prev at =
-    ended (seriesFrom (notBelow transferableOutput) (part prev at s) left) s at ≡ ended (nondecreasing transferableOutput count) s start
+    ended (seriesFrom (notBelow transferableOutput) (between prev at s) left) s at ≡ ended (nondecreasing transferableOutput count) s start
 
 abbrev μ-loop : tie.MeasureT-loop
 μ-loop s start count left₀ prev₀ at₀ left prev at = left

@@ -1,13 +1,13 @@
 -- `writer::Writer::add_initial_state` meets its contract. Assumes nothing.
 use borrow.Author.Needs.{needs}
-use Rattle.judge.specs.Elements.{numbersBytes}
+use Rattle.writer_rules.specs.Elements.{integersBytes}
 use Rattle.writer.proofs.Naming.{element-not, element-sane, element-short}
 use Rattle.writer.proofs.Methods.{state-barred, state-is}
 use Rattle.writer.proofs.Writer.add_initial_state.Statement.{statement}
 use Rattle.writer.proofs.Writer.add_initial_state.Tie as tie
 
 pub add-initial-state-spec : {M : Type 1} → statement M
-unfolding numbersBytes
+unfolding integersBytes
 add-initial-state-spec =
     tie.close
     (tie.spec

@@ -1,13 +1,13 @@
 -- `writer::Writer::add_operation` meets its contract. Assumes nothing.
 use borrow.Author.Needs.{needs}
-use Rattle.judge.specs.Elements.{numbersBytes}
+use Rattle.writer_rules.specs.Elements.{integersBytes}
 use Rattle.writer.proofs.Naming.{element-not, element-sane, element-short}
 use Rattle.writer.proofs.Methods.{operation-barred, operation-is}
 use Rattle.writer.proofs.Writer.add_operation.Statement.{statement}
 use Rattle.writer.proofs.Writer.add_operation.Tie as tie
 
 pub add-operation-spec : {M : Type 1} → statement M
-unfolding numbersBytes
+unfolding integersBytes
 add-operation-spec =
     tie.close
     (tie.spec

@@ -1,13 +1,13 @@
 -- `writer::Writer::add_output` meets its contract. Assumes nothing.
 use borrow.Author.Needs.{needs}
-use Rattle.judge.specs.Elements.{numbersBytes}
+use Rattle.writer_rules.specs.Elements.{integersBytes}
 use Rattle.writer.proofs.Naming.{element-not, element-sane, element-short}
 use Rattle.writer.proofs.Methods.{output-head-wide, output-barred, output-is}
 use Rattle.writer.proofs.Writer.add_output.Statement.{statement}
 use Rattle.writer.proofs.Writer.add_output.Tie as tie
 
 pub add-output-spec : {M : Type 1} → statement M
-unfolding numbersBytes
+unfolding integersBytes
 add-output-spec =
     tie.close
     (tie.spec

@@ -17,6 +17,6 @@ chain-spec =
     (λ c. search needs)  -- array-share-prefix-none
     (λ c. search needs)  -- slice-aggregate-put-part
     (λ c. search needs)  -- slice-aggregate-put-part-2
-    (λ c κs. search field-small)  -- put-part-requires
+    (λ c κs. search field-small)  -- put-segment-requires
     (λ c. search needs)  -- same-length
     (λ c. search chain-is))  -- returns-3

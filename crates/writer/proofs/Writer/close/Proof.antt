@@ -27,7 +27,7 @@ close-spec =
     (λ c. search needs)  -- slice-aggregate-put-part
     (λ c. search needs)  -- array-share-prefix-nothing
     (λ c. search needs)  -- slice-aggregate-put-part-2
-    (λ c κs. search close-small)  -- put-part-requires
+    (λ c κs. search close-small)  -- put-segment-requires
     (λ c. search close-not)  -- returns-3
     (λ c. search close-not)  -- returns-4
     (λ c. search close-not)  -- returns-5

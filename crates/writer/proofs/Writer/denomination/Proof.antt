@@ -20,10 +20,10 @@ denomination-spec =
     (λ c. search denomination-barred)  -- returns-3
     (λ c. search needs)  -- enum-told
     (λ c. search needs)  -- slice-aggregate-put-number
-    (λ c κs. search needs)  -- put-number-requires
+    (λ c κs. search needs)  -- put-integer-requires
     (λ c. search needs)  -- slice-aggregate-put-part
     (λ c. search needs)  -- array-share-prefix-none
     (λ c. search needs)  -- slice-aggregate-put-part-2
-    (λ c κs. search field-small)  -- put-part-requires
+    (λ c κs. search field-small)  -- put-segment-requires
     (λ c. search needs)  -- same-length
     (λ c. search denomination-is))  -- returns-4

@@ -18,7 +18,7 @@ finish-spec =
     (c .not-due .ensures))  -- returns
     (λ c. let a = c .before .before .before .before .args in
     omega (arith, finish-small (a .self) (a .buf .now) _ (c .before .before .end-at .ensures) (not-false _ (c .before .if1 .left))))  -- add-phase
-    (λ c κs. search needs)  -- close-requires
+    (λ c κs. search needs)  -- append-requires
     (λ c. search needs)  -- enum-known-refusal
     (λ c κs. search needs)  -- refused-requires
     (λ c. search needs)  -- enum-known-end
@@ -27,10 +27,10 @@ finish-spec =
     (λ c. let a = c .before .before .before .before .before .before .before .before .before .before .before .before .args in
     finish-refused (a .self) (a .buf .now) _ (c .before .before .before .before .before .before .before .before .before .before .end-at .ensures)
     (not-false _ (c .before .before .before .before .before .before .before .before .before .if1 .left)) memoMost _ _
-    (c .before .before .before .before .before .before .close .ensures) _ (c .before .before .refusal .given .1) _
+    (c .before .before .before .before .before .before .append .ensures) _ (c .before .before .refusal .given .1) _
     (c .refused .ensures))  -- returns-2
     (λ c. search needs)  -- same-length-2
     (λ c. let a = c .before .before .before .before .before .before .before .before .before .before .before .before .args in
     finish-done (a .self) (a .buf .now) _ (c .before .before .before .before .before .before .before .before .before .before .end-at .ensures)
     (not-false _ (c .before .before .before .before .before .before .before .before .before .if1 .left)) memoMost _ _
-    (c .before .before .before .before .before .before .close .ensures) _ (c .before .before .end .given .1) _ (c .stored .ensures)))  -- returns-3
+    (c .before .before .before .before .before .before .append .ensures) _ (c .before .before .end .given .1) _ (c .stored .ensures)))  -- returns-3

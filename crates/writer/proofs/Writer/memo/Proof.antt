@@ -23,8 +23,8 @@ memo-spec =
     (λ c. search memo-barred)  -- returns-3
     (λ c. search needs)  -- enum-told
     (λ c. search needs)  -- slice-aggregate-put-number
-    (λ c κs. search needs)  -- put-number-requires
+    (λ c κs. search needs)  -- put-integer-requires
     (λ c. search needs)  -- slice-aggregate-put-part
-    (λ c κs. search field-small)  -- put-part-requires
+    (λ c κs. search field-small)  -- put-segment-requires
     (λ c. search needs)  -- same-length
     (λ c. let k : memoMost < 256 ^ 4 = omega arith in search (memo-is, k)))  -- returns-4

@@ -16,7 +16,7 @@ start-spec =
     (λ c. search start-not)  -- returns
     (λ c κs. search needs)  -- no-room-requires
     (λ c. search start-short)  -- returns-2
-    (λ c κs. search needs)  -- kind-rules-requires
+    (λ c κs. search needs)  -- type-rules-requires
     (λ c. search needs)  -- enum-known-refusal
     (λ c κs. search needs)  -- refused-requires
     (λ c. search (start-barred, c .before .before .before .before .before .before .before .before .before .before .good))  -- returns-3
@@ -24,14 +24,14 @@ start-spec =
     (λ c. search needs)  -- slice-aggregate-put-number
     (λ c. search needs)  -- mul-put-number
     (λ c. search needs)  -- add-put-number
-    (λ c κs. search needs)  -- put-number-requires
+    (λ c κs. search needs)  -- put-integer-requires
     (λ c. search needs)  -- slice-aggregate-settle
     (λ c. search needs)  -- slice-aggregate-settle-2
     (λ c κs. search needs)  -- settle-requires
     (λ c. search needs)  -- same-length
     (λ c.
     let b = c .before .before .before .before .before .before .before .before .before .before .before .before .before .before .before .before .before in
-    let k : b .args .kind < 256 ^ 4 = omega (arith, b .fits) in
+    let k : b .args .type-id < 256 ^ 4 = omega (arith, b .fits) in
     let n : b .args .network < 256 ^ 4 = omega (arith, b .fits) in
     let l : length (b .args .t5) ≡ 32 = b .good .1 .1 .1 .1 .0 .1 .0 .1 in
     search (start-is, l, k, n)))  -- returns-4

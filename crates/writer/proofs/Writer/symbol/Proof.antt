@@ -20,8 +20,8 @@ symbol-spec =
     (λ c. search symbol-barred)  -- returns-3
     (λ c. search needs)  -- enum-told
     (λ c. search needs)  -- slice-aggregate-put-number
-    (λ c κs. search needs)  -- put-number-requires
+    (λ c κs. search needs)  -- put-integer-requires
     (λ c. search needs)  -- slice-aggregate-put-part
-    (λ c κs. search field-small)  -- put-part-requires
+    (λ c κs. search field-small)  -- put-segment-requires
     (λ c. search needs)  -- same-length
     (λ c. search symbol-is))  -- returns-4

@@ -9,7 +9,7 @@ pub put-element-spec : {M : Type 1} → statement M
 put-element-spec =
     tie.close
     (tie.spec
-    (λ c κs. search needs)  -- put-requires
+    (λ c κs. search needs)  -- store-requires
     (λ c. search needs)  -- enum-known-refusal
     (λ c κs. search needs)  -- refused-requires
     (λ c. search needs)  -- enum-known-end

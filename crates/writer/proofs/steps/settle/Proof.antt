@@ -14,7 +14,7 @@ settle-spec =
     (λ c. omega (arith, counts-few (c .before .before .before .before .before .args .opens) _ (c .before .counts-of .ensures)))  -- array-share-prefix-zero
     (λ c. let f = counts-few (c .before .before .before .before .before .before .args .opens) _ (c .before .before .counts-of .ensures) in
     simp length-take (omega (arith, f)))  -- slice-aggregate-put
-    (λ c κs. search needs)  -- put-requires
+    (λ c κs. search needs)  -- store-requires
     (λ c. search needs)  -- enum-known-refusal
     (λ c κs. search needs)  -- refused-requires
     (λ c. search needs)  -- enum-known-end
@@ -24,7 +24,7 @@ settle-spec =
     omega (
       arith,
       settle-place (a .w) (a .buf .now) (a .first .now) (a .second .now) (a .opens) (a .from) _ (counted .counts-of .ensures) _ _
-          (c .before .before .before .before .before .put .ensures) _ (c .before .end .given .1),
+          (c .before .before .before .before .before .store .ensures) _ (c .before .end .given .1),
     ))  -- sub-t18
     (λ c κs. search needs)  -- stored-requires
     (λ c. search needs)  -- same-length

@@ -1,0 +1,60 @@
+-- In an accepted transaction the walk by the counts that stand there meets its slots. Assumes nothing.
+use Prim.Native.Nat.{ℕ, zero, suc, _+_, _*_}
+use mathlib.Core.Path.{_≡_, refl, sym, ap, ap₂, _∙_}
+use mathlib.Core.List.{List, [], _∷_, _++_, append-nil, map}
+use native.Mathlib.Omega.{arith}
+use lib.ListN.{length, drop}
+use lib.Seq.{drop-at}
+use Rattle.wire.specs.Format.{Format}
+use Rattle.wire.specs.Fields.{integer, length-integer}
+use Rattle.transaction.specs.Slots.{signatureWidth}
+use Rattle.transaction.specs.Credentials.{Want, credentialCode, signatures, credential, each, layout, pieces, credentials, places, size}
+use Rattle.transaction.specs.Signed.{assemble, Parts}
+use Rattle.transaction.proofs.Signed.{read-body}
+use Rattle.draft_slots.specs.Scan.{onRange}
+use Rattle.draft_slots.specs.declared.SlotRange.{SlotRange}
+use Rattle.draft.proofs.Walked.{Split, split, behind-integer, behind-signatures, range-there, regroup}
+use Rattle.draft_slot_table.specs.Slots.{Slot, slotIn, slotsFrom, slotsOf, slotList}
+use Rattle.draft_slot_table.specs.Scan.{slotsIn, scanFrom, scan}
+
+range-places : (k n p : ℕ) → slotsIn k n p ≡ map (slotIn k) (places p (signatures n []))
+unfolding slotsIn places signatures signatureWidth
+range-places k zero p = refl
+range-places k (suc n) p = ap (λ (l : List Slot). slotIn k p ∷ l) (range-places k n (p + 65))
+
+size-signatures : (n : ℕ) → size (signatures n []) ≡ 65 * n
+unfolding size signatures signatureWidth
+size-signatures zero = omega arith
+size-signatures (suc n) = omega (arith, size-signatures n)
+
+scan-each : (k : ℕ) (ws : List Want) (l : List (List ℕ)) (s : List ℕ) (q : ℕ) (rest : List ℕ) → pieces (each ws) .Good l
+    → drop q s ≡ pieces (each ws) .write l ++ rest → scanFrom k (length ws) s q ≡ slotsFrom k q ws
+unfolding each pieces scanFrom slotsFrom places size integer
+scan-each k [] l s q rest g h = refl
+scan-each k (w ∷ ws) l s q rest g h =
+    let n : ℕ = w .signatures in
+    let t : ℕ = credentialCode (w .type) in
+    let r : Split n (each ws) l = split n (each ws) l (g .1 .1) in
+    let y : List ℕ = pieces (each ws) .write (r .others) ++ rest in
+    let there : drop q s ≡ integer 4 .write t ++ (integer 4 .write n ++ (r .front ++ y)) =
+    h ∙ regroup (integer 4 .write t) (integer 4 .write n) (pieces (signatures n (each ws)) .write l) (r .front)
+    (pieces (each ws) .write (r .others)) rest (r .written) in
+    let next : q + 4 + 4 + 65 * n ≡ q + size (credential w []) = omega (arith, size-signatures n) in
+    ap (λ (u : SlotRange). onRange u [] (λ first c m. slotsIn k c first ++ scanFrom (suc k) (length ws) s m))
+    (range-there s q t n (r .front) y (g .0 .0) (g .1 .0 .0) (r .long) (r .bytes) there)
+    ∙ ap₂ (λ (a b : List Slot). a ++ b) (range-places k n (q + 4 + 4))
+    (scan-each (suc k) ws (r .others) s (q + 4 + 4 + 65 * n) rest (r .good)
+    (behind-signatures s q t n (r .front) y (g .0 .0) (g .1 .0 .0) (r .long) (r .bytes) there) ∙ ap (λ (i : ℕ). slotsFrom (suc k) i ws) next)
+
+module _ {U : Type 0} (body : Format U) (wants : U → List Want) (d : List ℕ) (u : U) (l : List (List ℕ)) (p : Parts body wants d u l) where
+  pub scanned-slots : scan d (length (body .write u)) ≡ slotList body wants d
+  unfolding scan assemble credentials layout pieces integer
+  scanned-slots =
+      let ws : List Want = wants u in
+      let at : ℕ = length (body .write u) in
+      let w : List ℕ = pieces (each ws) .write l in
+      let k : drop at d ≡ integer 4 .write (length ws) ++ w = ap (drop at) (p .same) ∙ drop-at (body .write u) (integer 4 .write (length ws) ++ w) at refl in
+      integer 4 .complete d at (length ws) w (λ e. []) (λ n q. scanFrom 0 n d q) (p .signatures-good .0 .0) k
+      ∙ ap (λ (i : ℕ). scanFrom 0 (length ws) d (at + i)) (length-integer 4 (length ws))
+      ∙ scan-each 0 ws l d (at + 4) [] (p .signatures-good .1) (behind-integer d at (length ws) w k ∙ sym (append-nil w))
+      ∙ sym (ap (slotsOf wants) (read-body body wants d u l p))

@@ -1,0 +1,42 @@
+-- `draft_slot_table::count` meets its contract. The invariant: the slots counted and those that are left are all. Assumes nothing.
+use borrow.Author.Needs.{needs}
+use Prim.Native.Nat.{_+_, _≤_}
+use mathlib.Core.Path.{_≡_}
+use native.Mathlib.Omega.{arith}
+use lib.ListN.{length}
+use Rattle.draft_slots.proofs.Walking.{range-inside}
+use Rattle.draft_slot_table.specs.Scan.{scanFrom, scan}
+use Rattle.draft_slot_table.proofs.Walking.{count-start, count-none, counting}
+use Rattle.draft_slot_table.proofs.count.Statement.{statement}
+use Rattle.draft_slot_table.proofs.count.Tie as tie
+
+abbrev Inv-loop : tie.InvT-loop
+Inv-loop s at credentials start left₀ q₀ slots₀ left q slots = (slots + length (scanFrom 0 left s q) ≡ length (scan s at)) × (slots ≤ q)
+
+abbrev μ-loop : tie.MeasureT-loop
+μ-loop s at credentials start left₀ q₀ slots₀ left q slots = left
+
+pub count-spec : {M : Type 1} → statement M
+count-spec =
+    tie.close
+    (tie.spec
+    Inv-loop
+    μ-loop
+    (λ c κs. search needs)  -- u32-at-requires
+    (λ c. search needs)  -- enum-known-credentials
+    (λ c. search needs)  -- enum-told
+    (λ c. search count-none)  -- returns
+    (λ c. (search count-start, omega arith))  -- loop-holds
+    (λ c κs. search needs)  -- range-at-requires
+    (λ c. search needs)  -- enum-known-n
+    (λ c. search needs)  -- enum-told-2
+    (λ c. search counting)  -- returns-2
+    (λ c.
+    let i = range-inside _ _ _ _ _ _ (c .before .before .before .range-at .ensures) (c .before .n .given .1) in
+    omega arith)  -- add-slots
+    (λ c. search needs)  -- sub-left
+    (λ c. search needs)  -- loop-less
+    (λ c.
+    let i = range-inside _ _ _ _ _ _ (c .before .before .before .range-at .ensures) (c .before .n .given .1) in
+    (search counting, omega arith))  -- loop-again
+    (λ c. search counting))  -- returns-3

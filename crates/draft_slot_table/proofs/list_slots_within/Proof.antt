@@ -1,0 +1,20 @@
+-- `draft_slot_table::list_slots_within` meets its contract. Assumes nothing.
+use borrow.Author.Needs.{needs}
+use Rattle.draft_slot_table.proofs.Listing.{short, room, listing}
+use Rattle.draft_slot_table.proofs.list_slots_within.Statement.{statement}
+use Rattle.draft_slot_table.proofs.list_slots_within.Tie as tie
+
+pub list-slots-within-spec : {M : Type 1} → statement M
+list-slots-within-spec =
+    tie.close
+    (tie.spec
+    (λ c κs. search needs)  -- check-requires
+    (λ c. search needs)  -- enum-known-refusal
+    (λ c. search needs)  -- enum-known-layout
+    (λ c κs. search needs)  -- count-requires
+    (λ c κs. search needs)  -- refuse-requires
+    (λ c. search listing)  -- returns
+    (λ c κs. (search short, search room))  -- put-slots-requires
+    (λ c. search listing)  -- returns-2
+    (λ c. search needs)  -- same-length
+    (λ c. search listing))  -- returns-3

@@ -1,0 +1,37 @@
+-- `draft_slot_table::put_range` meets its contract. The invariant: putting the rows that are left is putting them all. Assumes nothing.
+use borrow.Author.Needs.{needs}
+use Prim.Native.Nat.{_+_, _*_, _≤_}
+use mathlib.Core.Path.{_≡_, refl}
+use native.Mathlib.Omega.{arith}
+use lib.ListN.{length}
+use Rattle.draft_slot_table.specs.Slots.{rows}
+use Rattle.draft_slot_table.specs.Scan.{slotsIn, put}
+use Rattle.draft_slot_table.proofs.Walking.{same-length, running}
+use Rattle.draft_slot_table.proofs.put_range.Statement.{statement}
+use Rattle.draft_slot_table.proofs.put_range.Tie as tie
+
+abbrev Inv-loop : tie.InvT-loop
+Inv-loop s table₀ i credential at count left₀ p₀ j₀ table left p j =
+    (put table j (rows s (slotsIn credential left p)) ≡ put table₀ i (rows s (slotsIn credential count at)))
+    × (length table ≡ length table₀) × (j + 3 * left ≤ length table) × (p + 65 * left ≤ length s) × (credential ≤ p)
+
+abbrev μ-loop : tie.MeasureT-loop
+μ-loop s table₀ i credential at count left₀ p₀ j₀ table left p j = left
+
+pub put-range-spec : {M : Type 1} → statement M
+put-range-spec =
+    tie.close
+    (tie.spec
+    Inv-loop
+    μ-loop
+    (λ c. (refl, refl, omega arith, omega arith, omega arith))  -- loop-holds
+    (λ c κs. (omega arith, (omega arith, omega arith)))  -- put-row-requires
+    (λ c. search needs)  -- add-j
+    (λ c. search needs)  -- add-p
+    (λ c. search needs)  -- sub-left
+    (λ c. search needs)  -- loop-less
+    (λ c.
+    let same = same-length _ _ _ _ (c .before .before .put-row .ensures) in
+    (search running, omega arith, omega arith, omega arith, omega arith))  -- loop-again
+    (λ c. search needs)  -- same-length
+    (λ c. search running))  -- returns

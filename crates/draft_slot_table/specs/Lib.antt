@@ -1,0 +1,4 @@
+-- The table of a transaction's slots
+pub mod Slots
+pub mod Table
+pub mod Scan

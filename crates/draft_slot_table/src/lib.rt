@@ -1,0 +1,133 @@
+// The signature slots of a transaction, listed in a lent table.
+ghost use mathlib.Core.Path.{_≡_};
+ghost use Prim.Native.Nat.{_+_, _*_, _≤_};
+ghost use lib.ListN.{length};
+ghost use Rattle.transaction.specs.Answer.{memoMost};
+ghost use Rattle.entry_table.specs.Table.{filled};
+ghost use Rattle.draft_slot_table.specs.Slots.{slotIn, filledAt, row, rows};
+ghost use Rattle.draft_slot_table.specs.Table.{tabledSlots};
+ghost use Rattle.draft_slot_table.specs.Scan.{slotsIn, scan, put};
+use draft_slots::SlotRange;
+use entry_table::Tabled;
+use transaction::Checked;
+use wire::Integer;
+use wire::Rule;
+
+// The numbers of a row: credential, place, filled.
+const ROW: usize = 3;
+
+// Whether a slot holds a signature, as the third number of its row.
+const EMPTY: u32 = 0;
+
+const FILLED: u32 = 1;
+
+// How many slots there are. The credential count stands at `at`.
+fn count(s: &[u8], at: usize) -> usize
+    ensures { λ r. ⌜ r ≡ length (scan (now (s .entry)) at) ⌝ }
+{
+    let Integer::Value(credentials, start) = wire::u32_at(s, at) else {
+        return 0;
+    };
+    let mut left = credentials;
+    let mut q = start;
+    let mut slots: usize = 0;
+    while 0 < left {
+        let SlotRange::Slots(_, n, next) = draft_slots::ranges::range_at(s, q) else {
+            return slots;
+        };
+        slots += n as usize;
+        q = next;
+        left -= 1;
+    }
+    slots
+}
+
+// Does the slot that starts at `at` hold a signature? It is empty where it is 65 zero bytes.
+fn filled_at(s: &[u8], at: usize) -> u32
+    ensures { λ r. ⌜ r ≡ filledAt (now (s .entry)) at ⌝ }
+{
+    if draft_slots::compare::is_blank(draft_slots::compare::slot_of(s, at)) {
+        return EMPTY;
+    }
+    FILLED
+}
+
+// Puts the row of the slot that starts at `at` into three numbers of the table, from the i-th on.
+fn put_row(s: &[u8], table: &mut [u32], i: usize, credential: usize, at: usize)
+    requires { ⌜ i + 3 ≤ length (now table) ⌝ }
+    requires { ⌜ credential ≤ 65536 ⌝ }
+    requires { ⌜ at ≤ 65536 ⌝ }
+    ensures { λ _. ⌜ now (table .exit) ≡ put (now (table .entry)) i (row (now (s .entry)) (slotIn credential at)) ⌝ }
+{
+    table[i] = credential as u32;
+    table[i + 1] = at as u32;
+    table[i + 2] = filled_at(s, at);
+}
+
+// Puts the rows of a credential's slots. The first of them starts at `at`.
+fn put_range(s: &[u8], table: &mut [u32], i: usize, credential: usize, at: usize, count: u64)
+    requires { ⌜ length (now s) ≤ 65536 ⌝ }
+    requires { ⌜ i + 3 * count ≤ length (now table) ⌝ }
+    requires { ⌜ credential ≤ at ⌝ }
+    requires { ⌜ at + 65 * count ≤ length (now s) ⌝ }
+    ensures { λ _. ⌜ now (table .exit) ≡ put (now (table .entry)) i (rows (now (s .entry)) (slotsIn credential count at)) ⌝ }
+{
+    let mut left = count;
+    let mut p = at;
+    let mut j = i;
+    while 0 < left {
+        put_row(s, table, j, credential, p);
+        j += ROW;
+        p += transaction::SIGNATURE_WIDTH;
+        left -= 1;
+    }
+}
+
+// Puts the rows of all slots, for which there is room. The credential count stands at `at`.
+fn put_slots(s: &[u8], table: &mut [u32], at: usize)
+    requires { ⌜ length (now s) ≤ 65536 ⌝ }
+    requires { ⌜ 3 * length (scan (now s) at) ≤ length (now table) ⌝ }
+    ensures { λ _. ⌜ now (table .exit) ≡ put (now (table .entry)) 0 (rows (now (s .entry)) (scan (now (s .entry)) at)) ⌝ }
+{
+    let Integer::Value(credentials, start) = wire::u32_at(s, at) else {
+        return;
+    };
+    let mut left = credentials;
+    let mut q = start;
+    let mut credential: usize = 0;
+    let mut i: usize = 0;
+    while 0 < left {
+        let SlotRange::Slots(first, n, next) = draft_slots::ranges::range_at(s, q) else {
+            return;
+        };
+        put_range(s, table, i, credential, first, n);
+        i += ROW * n as usize;
+        credential += 1;
+        q = next;
+        left -= 1;
+    }
+}
+
+// Checks the bytes, and writes a row of three numbers for each slot: credential, place, filled. A memo has at most so many bytes.
+fn list_slots_within(s: &[u8], table: &mut [u32], most: u64) -> Tabled
+    ensures { λ r. ⌜ filled r (now (table .exit)) ≡ tabledSlots most (now (s .entry)) (now (table .entry)) ⌝ }
+{
+    match checker::check::check_within(s, most) {
+        Checked::Refused(refusal) => Tabled::Refused(refusal),
+        Checked::Accepted(layout, end) => {
+            let at = layout.credentials_at;
+            let slots = count(s, at);
+            if table.len() / ROW < slots {
+                return Tabled::Refused(wire::refuse(Rule::NoRoom, 0));
+            }
+            put_slots(s, table, at);
+            Tabled::Listed(slots, end)
+        }
+    }
+}
+
+pub fn list_slots(s: &[u8], table: &mut [u32]) -> Tabled
+    ensures { λ r. ⌜ filled r (now (table .exit)) ≡ tabledSlots memoMost (now (s .entry)) (now (table .entry)) ⌝ }
+{
+    list_slots_within(s, table, transaction::MEMO_MOST)
+}

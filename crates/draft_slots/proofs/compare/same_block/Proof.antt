@@ -1,0 +1,30 @@
+-- `draft_slots::compare::same_block` meets its contract. The invariant: what was found so far, and what is left to compare, is the whole. Assumes nothing.
+use borrow.Author.Needs.{needs}
+use mathlib.Core.Path.{_≡_}
+use mathlib.Core.Bool.{_&&_}
+use Prim.Native.Nat.{_-_}
+use lib.ListN.{length}
+use Rattle.draft_slots.specs.Joining.{same}
+use Rattle.draft_slots.proofs.Blocks.{sameFrom, same-all, same-on, same-end}
+use Rattle.draft_slots.proofs.compare.same_block.Statement.{statement}
+use Rattle.draft_slots.proofs.compare.same_block.Tie as tie
+
+abbrev Inv-loop : tie.InvT-loop
+Inv-loop a b all₀ i₀ all i = (all && sameFrom a b i) ≡ same a b
+
+abbrev μ-loop : tie.MeasureT-loop
+μ-loop a b all₀ i₀ all i = length a - i
+
+pub same-block-spec : {M : Type 1} → statement M
+same-block-spec =
+    tie.close
+    (tie.spec
+    Inv-loop
+    μ-loop
+    (λ c. same-all _ _)  -- loop-holds
+    (λ c. search needs)  -- shared-slice-read-all
+    (λ c. search needs)  -- shared-slice-read-all-2
+    (λ c. search needs)  -- add-i
+    (λ c. search needs)  -- loop-less
+    (λ c. search same-on)  -- loop-again
+    (λ c. search same-end))  -- returns

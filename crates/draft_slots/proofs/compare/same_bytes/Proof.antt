@@ -1,0 +1,52 @@
+-- `draft_slots::compare::same_bytes` meets its contract. The invariant: what is left to compare is the whole. Assumes nothing.
+use mathlib.Core.Path.{_≡_}
+use Prim.Native.Nat.{_-_, _≤_}
+use native.Mathlib.Omega.{arith}
+use lib.ListN.{length, length-take, length-drop}
+use Rattle.draft_slots.specs.Joining.{same}
+use Rattle.draft_slots.proofs.Blocks.{sameFrom, same-whole, differ-length, block-same, block-differs, block-last}
+use borrow.Author.Needs.{needs}
+use Rattle.draft_slots.proofs.compare.same_bytes.Statement.{statement}
+use Rattle.draft_slots.proofs.compare.same_bytes.Tie as tie
+
+abbrev Inv-loop : tie.InvT-loop
+Inv-loop a b i₀ i = (sameFrom a b i ≡ same a b) × (i ≤ length a)
+
+abbrev μ-loop : tie.MeasureT-loop
+μ-loop a b i₀ i = length a - i
+
+pub same-bytes-spec : {M : Type 1} → statement M
+same-bytes-spec =
+    tie.close
+    (tie.spec
+    Inv-loop
+    μ-loop
+    (λ c. search differ-length)  -- returns
+    (λ c. (same-whole _ _, omega arith))  -- loop-holds
+    (λ c. search needs)  -- sub-loop
+    (λ c. search needs)  -- add-same-run
+    (λ c. search needs)  -- sub-same-run
+    (λ c. search needs)  -- part-same-run-start
+    (λ c. search needs)  -- part-same-run-end
+    (λ c. search needs)  -- add-same-run-2
+    (λ c. search needs)  -- sub-same-run-2
+    (λ c. search needs)  -- part-same-run-start-2
+    (λ c. search needs)  -- part-same-run-end-2
+    (λ c κs. simp (length-take, length-drop) (omega arith))  -- same-block-requires
+    (λ c. search needs)  -- add-i
+    (λ c. search needs)  -- loop-less
+    (λ c. (
+      block-same _ _ _ _ (c .before .before .before .before .before .loop .inv .0) _ _ (c .before .same-block .ensures)
+          (c .before .before .before .before .loop-test .taken) (c .before .before .before .before .before .loop .inv .1)
+          (c .before .before .before .before .before .before .if1 .left) (c .if2 .taken),
+      omega arith,
+    ))  -- loop-again
+    (λ c. search block-differs)  -- returns-2
+    (λ c. search needs)  -- sub-same-run-3
+    (λ c. search needs)  -- part-same-run-start-3
+    (λ c. search needs)  -- part-same-run-end-3
+    (λ c. search needs)  -- sub-same-run-4
+    (λ c. search needs)  -- part-same-run-start-4
+    (λ c. search needs)  -- part-same-run-end-4
+    (λ c κs. simp (length-take, length-drop) (omega arith))  -- same-block-requires-2
+    (λ c. search block-last))  -- returns-3

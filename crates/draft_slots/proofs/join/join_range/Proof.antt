@@ -1,0 +1,33 @@
+-- `draft_slots::join::join_range` meets its contract. The invariant: joining what is left gives what joining all gives. Assumes nothing.
+use mathlib.Core.Path.{_≡_, refl}
+use Prim.Native.Nat.{_+_, _*_, _≤_}
+use native.Mathlib.Omega.{arith}
+use lib.ListN.{length}
+use Rattle.draft_slots.specs.Scan.{slotRange, joinAll}
+use Rattle.draft_slots.proofs.InPlace.{join-on, join-end}
+use borrow.Author.Needs.{needs}
+use Rattle.draft_slots.proofs.join.join_range.Statement.{statement}
+use Rattle.draft_slots.proofs.join.join_range.Tie as tie
+
+abbrev Inv-loop : tie.InvT-loop
+Inv-loop draft₀ other at count left₀ p₀ draft left p =
+    (joinAll (slotRange left p) other draft ≡ joinAll (slotRange count at) other draft₀) × (p + 65 * left ≤ length other) × (length draft ≡ length draft₀)
+
+abbrev μ-loop : tie.MeasureT-loop
+μ-loop draft₀ other at count left₀ p₀ draft left p = left
+
+pub join-range-spec : {M : Type 1} → statement M
+join-range-spec =
+    tie.close
+    (tie.spec
+    Inv-loop
+    μ-loop
+    (λ c. (refl, omega arith, refl))  -- loop-holds
+    (λ c κs. search needs)  -- slot-of-requires
+    (λ c κs. search needs)  -- join-at-requires
+    (λ c. search needs)  -- add-p
+    (λ c. search needs)  -- sub-left
+    (λ c. search needs)  -- loop-less
+    (λ c. (search join-on, omega arith, search needs))  -- loop-again
+    (λ c. search needs)  -- same-length
+    (λ c. search join-end))  -- returns

@@ -1,0 +1,40 @@
+-- `draft_slots::join::join_slots` meets its contract. The invariant: joining what is left gives what joining all gives. Assumes nothing.
+use mathlib.Core.Path.{_≡_, refl}
+use native.Mathlib.Omega.{arith}
+use lib.ListN.{length}
+use Rattle.draft_slots.specs.Scan.{scan, scanFrom, joinAll}
+use Rattle.draft_slots.proofs.Walking.{range-inside, joins-start, joins-absent, joining-walk}
+use borrow.Author.Needs.{needs}
+use Rattle.draft_slots.proofs.join.join_slots.Statement.{statement}
+use Rattle.draft_slots.proofs.join.join_slots.Tie as tie
+
+abbrev Inv-loop : tie.InvT-loop
+Inv-loop draft₀ other at count start left₀ q₀ draft left q =
+    (joinAll (scanFrom left other q) other draft ≡ joinAll (scan other at) other draft₀) × (length draft ≡ length draft₀)
+
+abbrev μ-loop : tie.MeasureT-loop
+μ-loop draft₀ other at count start left₀ q₀ draft left q = left
+
+pub join-slots-spec : {M : Type 1} → statement M
+join-slots-spec =
+    tie.close
+    (tie.spec
+    Inv-loop
+    μ-loop
+    (λ c κs. search needs)  -- u32-at-requires
+    (λ c. search needs)  -- enum-known-count
+    (λ c. search needs)  -- enum-told
+    (λ c. search joins-absent)  -- returns
+    (λ c. (search joins-start, refl))  -- loop-holds
+    (λ c κs. search needs)  -- range-at-requires
+    (λ c. search needs)  -- enum-known-p
+    (λ c. search needs)  -- enum-told-2
+    (λ c. search needs)  -- same-length
+    (λ c. search joining-walk)  -- returns-2
+    (λ c κs. let i = range-inside _ _ _ _ _ _ (c .before .before .before .before .range-at .ensures)
+    (c .before .before .p .given .1) in omega arith)  -- join-range-requires
+    (λ c. search needs)  -- sub-left
+    (λ c. search needs)  -- loop-less
+    (λ c. (search joining-walk, search needs))  -- loop-again
+    (λ c. search needs)  -- same-length-2
+    (λ c. search joining-walk))  -- returns-3

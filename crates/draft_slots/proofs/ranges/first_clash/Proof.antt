@@ -1,0 +1,44 @@
+-- `draft_slots::scan::first_clash` meets its contract. The invariant: the first clash of what is left is that of the whole. Assumes nothing.
+use mathlib.Core.Path.{_≡_}
+use Prim.Native.Nat.{_≤_}
+use native.Mathlib.Omega.{arith}
+use Rattle.draft_slots.specs.Scan.{scan, scanFrom}
+use Rattle.draft_slots.proofs.Walking.{range-inside, clashFrom, clash-is, clash-start, clash-absent, clashing-walk}
+use borrow.Author.Needs.{needs}
+use Rattle.draft_slots.proofs.ranges.first_clash.Statement.{statement}
+use Rattle.draft_slots.proofs.ranges.first_clash.Tie as tie
+
+abbrev Inv-loop : tie.InvT-loop
+Inv-loop first second at count start left₀ q₀ k₀ left q k =
+    (clashFrom first second k (scanFrom left first q) ≡ clashFrom first second 0 (scan first at)) × (k ≤ q)
+
+abbrev μ-loop : tie.MeasureT-loop
+μ-loop first second at count start left₀ q₀ k₀ left q k = left
+
+pub first-clash-spec : {M : Type 1} → statement M
+first-clash-spec =
+    tie.close
+    (tie.spec
+    Inv-loop
+    μ-loop
+    (λ c κs. search needs)  -- u32-at-requires
+    (λ c. search needs)  -- enum-known-count
+    (λ c. search needs)  -- enum-told
+    (λ c. search (clash-is, clash-absent))  -- returns
+    (λ c. (search clash-start, omega arith))  -- loop-holds
+    (λ c κs. search needs)  -- range-at-requires
+    (λ c. search needs)  -- enum-known-p
+    (λ c. search needs)  -- enum-told-2
+    (λ c. search (clash-is, clashing-walk))  -- returns-2
+    (λ c κs. let i = range-inside _ _ _ _ _ _ (c .before .before .before .range-at .ensures) (c .before .p .given .1) in
+    (omega arith, omega arith))  -- clash-in-requires
+    (λ c. search needs)  -- enum-known-slot
+    (λ c. search (clash-is, clashing-walk))  -- returns-3
+    (λ c. search needs)  -- enum-told-3
+    (λ c. let i = range-inside _ _ _ _ _ _ (c .before .before .before .before .before .before .range-at .ensures)
+    (c .before .before .before .before .p .given .1) in omega arith)  -- add-k
+    (λ c. search needs)  -- sub-left
+    (λ c. search needs)  -- loop-less
+    (λ c. let i = range-inside _ _ _ _ _ _ (c .before .before .before .before .before .before .range-at .ensures)
+    (c .before .before .before .before .p .given .1) in (search clashing-walk, omega arith))  -- loop-again
+    (λ c. search (clash-is, clashing-walk)))  -- returns-4

@@ -1,0 +1,38 @@
+-- `draft_slots::scan::place_of` meets its contract. The invariant: the slot among what is left is that of the whole. Assumes nothing.
+use mathlib.Core.Path.{_≡_}
+use native.Mathlib.Omega.{arith}
+use Rattle.draft_slots.specs.Scan.{scan, scanFrom}
+use Rattle.draft_slots.proofs.Walking.{range-inside, placeFrom, place-is, place-start, place-absent, placing-walk}
+use borrow.Author.Needs.{needs}
+use Rattle.draft_slots.proofs.ranges.place_of.Statement.{statement}
+use Rattle.draft_slots.proofs.ranges.place_of.Tie as tie
+
+abbrev Inv-loop : tie.InvT-loop
+Inv-loop s at k count start left₀ q₀ before₀ left q before = placeFrom (scanFrom left s q) before ≡ placeFrom (scan s at) k
+
+abbrev μ-loop : tie.MeasureT-loop
+μ-loop s at k count start left₀ q₀ before₀ left q before = left
+
+pub place-of-spec : {M : Type 1} → statement M
+place-of-spec =
+    tie.close
+    (tie.spec
+    Inv-loop
+    μ-loop
+    (λ c κs. search needs)  -- u32-at-requires
+    (λ c. search needs)  -- enum-known-count
+    (λ c. search needs)  -- enum-told
+    (λ c. search (place-is, place-absent))  -- returns
+    (λ c. search place-start)  -- loop-holds
+    (λ c κs. search needs)  -- range-at-requires
+    (λ c. search needs)  -- enum-known-p
+    (λ c. search needs)  -- enum-told-2
+    (λ c. search (place-is, placing-walk))  -- returns-2
+    (λ c. let i = range-inside _ _ _ _ _ _ (c .before .before .before .before .range-at .ensures) (c .before .before .p .given .1) in omega arith)  -- mul-t16
+    (λ c. let i = range-inside _ _ _ _ _ _ (c .before .before .before .before .range-at .ensures) (c .before .before .p .given .1) in omega arith)  -- add-t17
+    (λ c. search (place-is, placing-walk))  -- returns-3
+    (λ c. search needs)  -- sub-before
+    (λ c. search needs)  -- sub-left
+    (λ c. search needs)  -- loop-less
+    (λ c. search placing-walk)  -- loop-again
+    (λ c. search (place-is, placing-walk)))  -- returns-4

@@ -1,0 +1,30 @@
+-- `draft_slots::scan::range_at` meets its contract. Assumes nothing.
+use native.Mathlib.Omega.{arith}
+use Rattle.wire.proofs.Reading.{value-small}
+use Rattle.draft_slots.proofs.Walking.{running}
+use borrow.Author.Needs.{needs}
+use Rattle.draft_slots.proofs.ranges.range_at.Statement.{statement}
+use Rattle.draft_slots.proofs.ranges.range_at.Tie as tie
+
+pub range-at-spec : {M : Type 1} → statement M
+range-at-spec =
+    tie.close
+    (tie.spec
+    (λ c κs. search needs)  -- field-at-requires
+    (λ c. search needs)  -- enum-known-i
+    (λ c. search needs)  -- enum-told
+    (λ c. search running depth 10)  -- returns
+    (λ c κs. search needs)  -- u32-at-requires
+    (λ c. search needs)  -- enum-known-count
+    (λ c. search needs)  -- enum-told-2
+    (λ c. search running depth 10)  -- returns-2
+    (λ c. omega (
+      arith,
+      value-small 4 _ _ _ _ _ (c .before .before .before .u32-at .ensures) (c .before .count .given .1)
+          (c .before .before .before .before .before .before .before .before .shared-slice-known .given),
+    ))  -- mul-part-at
+    (λ c κs. search needs)  -- field-at-requires-2
+    (λ c. search needs)  -- enum-known-next
+    (λ c. search needs)  -- enum-told-3
+    (λ c. search running depth 10)  -- returns-3
+    (λ c. search running depth 10))  -- returns-4

@@ -1,0 +1,54 @@
+// Slots joined in place: an empty one takes what it is joined with.
+ghost use mathlib.Core.Path.{_≡_};
+ghost use Prim.Native.Nat.{_+_, _*_, _≤_};
+ghost use lib.ListN.{length};
+ghost use Rattle.draft_slots.specs.Scan.{slotRange, joinedAt, joinAll, joinedWith};
+use crate::SlotRange;
+use crate::compare;
+use crate::ranges;
+use wire::Integer;
+
+// Lends the slot at a place to the copying of what it is joined with. Nothing changes where either is not whole.
+pub fn join_at(draft: &mut [u8], at: usize, other: &[u8])
+    ensures { λ _. ⌜ now (draft .exit) ≡ joinedAt at (now (other .entry)) (now (draft .entry)) ⌝ }
+{
+    if other.len() != transaction::SIGNATURE_WIDTH {
+        return;
+    }
+    if compare::is_blank(compare::slot_of(draft, at)) {
+        wire::put_bytes(&mut draft[at..at + transaction::SIGNATURE_WIDTH], other);
+    }
+}
+
+// So many slots from at on.
+fn join_range(draft: &mut [u8], other: &[u8], at: usize, count: u64)
+    requires { ⌜ at + 65 * count ≤ length (now other) ⌝ }
+    ensures { λ _. ⌜ now (draft .exit) ≡ joinAll (slotRange count at) (now (other .entry)) (now (draft .entry)) ⌝ }
+{
+    let mut left = count;
+    let mut p = at;
+    while 0 < left {
+        join_at(draft, p, compare::slot_of(other, p));
+        p += transaction::SIGNATURE_WIDTH;
+        left -= 1;
+    }
+}
+
+// Every slot, where the other draft has it. Its credential count stands at a place.
+pub fn join_slots(draft: &mut [u8], other: &[u8], at: usize)
+    ensures { λ _. ⌜ now (draft .exit) ≡ joinedWith (now (other .entry)) at (now (draft .entry)) ⌝ }
+{
+    let Integer::Value(count, start) = wire::u32_at(other, at) else {
+        return;
+    };
+    let mut left = count;
+    let mut q = start;
+    while 0 < left {
+        let SlotRange::Slots(p, n, next) = ranges::range_at(other, q) else {
+            return;
+        };
+        join_range(draft, other, p, n);
+        q = next;
+        left -= 1;
+    }
+}

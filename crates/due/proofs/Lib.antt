@@ -1,3 +1,0 @@
--- What is proved of what is due
-pub mod Rows
-pub mod Passing

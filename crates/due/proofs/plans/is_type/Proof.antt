@@ -1,8 +1,0 @@
--- `due::plans::is_type` meets its contract. Assumes nothing.
-use mathlib.Core.Path.{refl}
-use Rattle.due.proofs.Rows.{is-below}
-use Rattle.due.proofs.plans.is_type.Statement.{statement}
-use Rattle.due.proofs.plans.is_type.Tie as tie
-
-pub is-type-spec : {M : Type 1} → statement M
-is-type-spec = tie.close (tie.spec (λ c. is-below (c .args .number) _ refl))  -- returns

@@ -1,2 +1,0 @@
--- What is due
-pub mod Plans

@@ -1,0 +1,81 @@
+-- What was found at its place, where it is known what the code found. Assumes nothing.
+use Prim.Native.Nat.{ℕ, _*_, _^_, _≤_, _<_}
+use mathlib.Core.Path.{_≡_, sym, ap, _∙_}
+use mathlib.Core.List.{List}
+use native.Mathlib.Omega.{arith}
+use native.Mathlib.Nat.{mul-le-mul-right}
+use Rattle.wire.specs.Fields.{integer}
+use Rattle.wire.specs.Answer.{valued}
+use Rattle.wire.specs.declared.Integer.{Integer}
+use Rattle.wire.specs.declared.Integer.the-variants as N
+use Rattle.wire.proofs.Bytes.{Slice, found}
+use Rattle.wire.proofs.Reading as L
+use Rattle.element.specs.declared.OwnersFields.{OwnersFields}
+use Rattle.element.specs.declared.OutputFields.{OutputFields}
+use Rattle.element.specs.declared.TermsFields.{TermsFields}
+use Rattle.element.specs.declared.Recipients.{Recipients}
+use Rattle.element.specs.declared.Recipients.the-variants as Q
+use Rattle.element.specs.declared.OperationFields.{OperationFields}
+use Rattle.wire.proofs.Reading.{value-small}
+use Rattle.entry_fields.specs.Found.{outputOf, transferTo, onTerms, onRecipients}
+use Rattle.entry_fields.specs.declared.OwnersFound.{OwnersFound}
+use Rattle.entry_fields.specs.declared.OwnersFound.the-variants as W
+use Rattle.entry_fields.specs.declared.OutputFound.the-variants as O
+use Rattle.entry_fields.specs.declared.TermsFound.{TermsFound}
+use Rattle.entry_fields.specs.declared.TermsFound.the-variants as M
+use Rattle.entry_fields.specs.declared.RecipientsFound.{RecipientsFound}
+use Rattle.entry_fields.specs.declared.RecipientsFound.the-variants as R
+use Rattle.entry_fields.specs.declared.OperationFound.{OperationFound}
+use Rattle.entry_fields.specs.declared.OperationFound.the-variants as Y
+
+-- owners, in an output or as who receives a transfer
+module _ (x y : OwnersFound) (p : x ≡ y) where
+  module _ (make : OwnersFields → OutputFields) where
+    pub output-of : (z : OutputFields) (o : OwnersFields) → x ≡ W.Fields o → z ≡ make o → O.Fields z ≡ outputOf y make
+    output-of z o q e = ap O.Fields e ∙ sym (ap (λ r. outputOf r make) (found p q))
+
+    pub no-output-of : x ≡ W.Missing → O.Missing ≡ outputOf y make
+    no-output-of q = sym (ap (λ r. outputOf r make) (found p q))
+
+  pub transfer-to : (o : OwnersFields) → x ≡ W.Fields o → R.Fields (Q.Transfer o) ≡ transferTo y
+  transfer-to o q = sym (ap transferTo (found p q))
+
+  pub no-transfer-to : x ≡ W.Missing → R.Missing ≡ transferTo y
+  no-transfer-to q = sym (ap transferTo (found p q))
+
+module _ (x y : TermsFound) (p : x ≡ y) (go : TermsFields → ℕ → OperationFound) (z : OperationFound) where
+  pub found-terms : (f : TermsFields) (n : ℕ) → x ≡ M.Fields f n → z ≡ go f n → z ≡ onTerms y go
+  found-terms f n q e = e ∙ sym (ap (λ r. onTerms r go) (found p q))
+
+  pub no-terms : x ≡ M.Missing → z ≡ Y.Missing → z ≡ onTerms y go
+  no-terms q e = e ∙ sym (ap (λ r. onTerms r go) (found p q))
+
+module _ (x y : RecipientsFound) (p : x ≡ y) (make : Recipients → OperationFields) where
+  pub found-recipients : (z : OperationFields) (f : Recipients) → x ≡ R.Fields f → z ≡ make f → Y.Fields z ≡ onRecipients y make
+  found-recipients z f q e = ap Y.Fields e ∙ sym (ap (λ r. onRecipients r make) (found p q))
+
+  pub no-recipients : x ≡ R.Missing → Y.Missing ≡ onRecipients y make
+  no-recipients q = sym (ap (λ r. onRecipients r make) (found p q))
+
+-- a count of 32 bits, of elements of k bytes: their bytes are a number of 64 bits
+pub span-fits : (k : ℕ) (s : List ℕ) (at : ℕ) (x : Integer) (v n : ℕ) → x ≡ valued (integer 4) s at → x ≡ N.Value v n → Slice s → k ≤ 65 → k * v < 2 ^ 64
+span-fits k s at x v n p q b h = le-lt (mul-le-mul-right v h) (omega (arith, value-small 4 s at x v n p q b))
+  where
+    le-lt : {a b c : ℕ} → a ≤ b → b < c → a < c
+    le-lt i j = omega arith
+
+pub ruleset finding = (
+  L.on-value,
+  L.on-integer-refused,
+  L.on-part,
+  L.on-part-refused,
+  L.tests,
+  output-of,
+  no-output-of,
+  transfer-to,
+  no-transfer-to,
+  found-terms,
+  no-terms,
+  found-recipients,
+  no-recipients,
+)

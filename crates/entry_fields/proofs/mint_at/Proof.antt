@@ -1,0 +1,15 @@
+-- `entry_fields::mint_at` meets its contract. Assumes nothing.
+use borrow.Author.Needs.{needs}
+use Rattle.entry_fields.proofs.Passing.{finding}
+use Rattle.entry_fields.proofs.mint_at.Statement.{statement}
+use Rattle.entry_fields.proofs.mint_at.Tie as tie
+
+pub mint-at-spec : {M : Type 1} → statement M
+mint-at-spec =
+    tie.close
+    (tie.spec
+    (λ c κs. search needs)  -- owners-at-requires
+    (λ c. search needs)  -- enum-told
+    (λ c. search needs)  -- enum-known-owners
+    (λ c. search finding depth 12)  -- returns
+    (λ c. search finding depth 12))  -- returns-2

@@ -1,0 +1,27 @@
+-- `entry_fields::nft_transfer_at` meets its contract. Assumes nothing.
+use borrow.Author.Needs.{needs}
+use Rattle.entry_fields.proofs.Passing.{finding}
+use Rattle.entry_fields.proofs.nft_transfer_at.Statement.{statement}
+use Rattle.entry_fields.proofs.nft_transfer_at.Tie as tie
+
+pub nft-transfer-at-spec : {M : Type 1} → statement M
+nft-transfer-at-spec =
+    tie.close
+    (tie.spec
+    (λ c κs. search needs)  -- u32-at-requires
+    (λ c. search needs)  -- enum-known-group
+    (λ c. search needs)  -- enum-told
+    (λ c. search finding depth 12)  -- returns
+    (λ c κs. search needs)  -- u32-at-requires-2
+    (λ c. search needs)  -- enum-known-payload-length
+    (λ c. search needs)  -- enum-told-2
+    (λ c. search finding depth 12)  -- returns-2
+    (λ c κs. search needs)  -- field-at-requires
+    (λ c. search needs)  -- enum-known-o
+    (λ c. search needs)  -- enum-told-3
+    (λ c. search finding depth 12)  -- returns-3
+    (λ c κs. search needs)  -- owners-at-requires
+    (λ c. search needs)  -- enum-told-4
+    (λ c. search needs)  -- enum-known-owners
+    (λ c. search finding depth 12)  -- returns-4
+    (λ c. search finding depth 12))  -- returns-5

@@ -1,0 +1,20 @@
+-- `entry_fields::recipients_at` meets its contract. Assumes nothing.
+use borrow.Author.Needs.{needs}
+use Rattle.entry_fields.proofs.Passing.{finding}
+use Rattle.entry_fields.proofs.recipients_at.Statement.{statement}
+use Rattle.entry_fields.proofs.recipients_at.Tie as tie
+
+pub recipients-at-spec : {M : Type 1} → statement M
+recipients-at-spec =
+    tie.close
+    (tie.spec
+    (λ c κs. search needs)  -- u32-at-requires
+    (λ c. search needs)  -- enum-known-owners-count
+    (λ c. search needs)  -- enum-told
+    (λ c. search finding depth 12)  -- returns
+    (λ c. search finding depth 12)  -- returns-2
+    (λ c κs. search needs)  -- owners-at-requires
+    (λ c. search needs)  -- enum-told-2
+    (λ c. search needs)  -- enum-known-owners
+    (λ c. search finding depth 12)  -- returns-3
+    (λ c. search finding depth 12))  -- returns-4

@@ -1,0 +1,19 @@
+-- `entry_fields::transfer_at` meets its contract. Assumes nothing.
+use borrow.Author.Needs.{needs}
+use Rattle.entry_fields.proofs.Passing.{finding}
+use Rattle.entry_fields.proofs.transfer_at.Statement.{statement}
+use Rattle.entry_fields.proofs.transfer_at.Tie as tie
+
+pub transfer-at-spec : {M : Type 1} → statement M
+transfer-at-spec =
+    tie.close
+    (tie.spec
+    (λ c κs. search needs)  -- u64-at-requires
+    (λ c. search needs)  -- enum-known-amount
+    (λ c. search needs)  -- enum-told
+    (λ c. search finding depth 12)  -- returns
+    (λ c κs. search needs)  -- owners-at-requires
+    (λ c. search needs)  -- enum-told-2
+    (λ c. search needs)  -- enum-known-owners
+    (λ c. search finding depth 12)  -- returns-2
+    (λ c. search finding depth 12))  -- returns-3

@@ -1,0 +1,263 @@
+// The typed fields of what stands at a place of an accepted transaction, found by their places alone: the check has judged them.
+ghost use mathlib.Core.Path.{_≡_};
+ghost use Rattle.entry_fields.specs.Found.{ownersFound, mintFound, transferFound, nftMintFound, nftTransferFound, outputFound, inputFound};
+ghost use Rattle.entry_fields.specs.Found.{termsFound, recipientsFound, actionFound, operationFound};
+use element::InputFields;
+use element::OperationFields;
+use element::OutputFields;
+use element::OwnersFields;
+use element::Recipients;
+use element::TermsFields;
+use wire::End;
+use wire::Integer;
+
+// The fields of what stands at a place, if they are all there.
+enum OwnersFound {
+    Fields(OwnersFields),
+    Missing,
+}
+
+pub enum OutputFound {
+    Fields(OutputFields),
+    Missing,
+}
+
+pub enum InputFound {
+    Fields(InputFields),
+    Missing,
+}
+
+// With the place behind them.
+enum TermsFound {
+    Fields(TermsFields, usize),
+    Missing,
+}
+
+enum RecipientsFound {
+    Fields(Recipients),
+    Missing,
+}
+
+pub enum OperationFound {
+    Fields(OperationFields),
+    Missing,
+}
+
+fn owners_at(s: &[u8], at: usize) -> OwnersFound
+    ensures { λ r. ⌜ r ≡ ownersFound (now (s .entry)) at ⌝ }
+{
+    let Integer::Value(locktime, t) = wire::u64_at(s, at) else {
+        return OwnersFound::Missing;
+    };
+    let Integer::Value(threshold, n) = wire::u32_at(s, t) else {
+        return OwnersFound::Missing;
+    };
+    let Integer::Value(addresses_count, addresses_at) = wire::u32_at(s, n) else {
+        return OwnersFound::Missing;
+    };
+    OwnersFound::Fields(OwnersFields {
+        locktime,
+        threshold,
+        addresses_at,
+        addresses_count,
+    })
+}
+
+// Type 6 behind its type: owners.
+fn mint_at(s: &[u8], at: usize) -> OutputFound
+    ensures { λ r. ⌜ r ≡ mintFound (now (s .entry)) at ⌝ }
+{
+    match owners_at(s, at) {
+        OwnersFound::Missing => OutputFound::Missing,
+        OwnersFound::Fields(owners) => OutputFound::Fields(OutputFields::SecpMint(owners)),
+    }
+}
+
+// Type 7: amount, owners.
+fn transfer_at(s: &[u8], at: usize) -> OutputFound
+    ensures { λ r. ⌜ r ≡ transferFound (now (s .entry)) at ⌝ }
+{
+    let Integer::Value(amount, o) = wire::u64_at(s, at) else {
+        return OutputFound::Missing;
+    };
+    match owners_at(s, o) {
+        OwnersFound::Missing => OutputFound::Missing,
+        OwnersFound::Fields(owners) => OutputFound::Fields(OutputFields::SecpTransfer {
+            amount,
+            owners,
+        }),
+    }
+}
+
+// Type 10: group, owners.
+fn nft_mint_at(s: &[u8], at: usize) -> OutputFound
+    ensures { λ r. ⌜ r ≡ nftMintFound (now (s .entry)) at ⌝ }
+{
+    let Integer::Value(group, o) = wire::u32_at(s, at) else {
+        return OutputFound::Missing;
+    };
+    match owners_at(s, o) {
+        OwnersFound::Missing => OutputFound::Missing,
+        OwnersFound::Fields(owners) => OutputFound::Fields(OutputFields::NftMint { group, owners }),
+    }
+}
+
+// Type 11: group, payload, owners.
+fn nft_transfer_at(s: &[u8], at: usize) -> OutputFound
+    ensures { λ r. ⌜ r ≡ nftTransferFound (now (s .entry)) at ⌝ }
+{
+    let Integer::Value(group, p) = wire::u32_at(s, at) else {
+        return OutputFound::Missing;
+    };
+    let Integer::Value(payload_length, payload_at) = wire::u32_at(s, p) else {
+        return OutputFound::Missing;
+    };
+    let End::At(o) = wire::field_at(s, payload_at, payload_length as usize) else {
+        return OutputFound::Missing;
+    };
+    match owners_at(s, o) {
+        OwnersFound::Missing => OutputFound::Missing,
+        OwnersFound::Fields(owners) => OutputFound::Fields(OutputFields::NftTransfer {
+            group,
+            payload_at,
+            payload_length,
+            owners,
+        }),
+    }
+}
+
+// An output of any of the four types.
+pub fn output_at(s: &[u8], at: usize) -> OutputFound
+    ensures { λ r. ⌜ r ≡ outputFound (now (s .entry)) at ⌝ }
+{
+    let Integer::Value(type_id, b) = wire::u32_at(s, at) else {
+        return OutputFound::Missing;
+    };
+    if type_id == 6 {
+        return mint_at(s, b);
+    }
+    if type_id == 7 {
+        return transfer_at(s, b);
+    }
+    if type_id == 10 {
+        return nft_mint_at(s, b);
+    }
+    nft_transfer_at(s, b)
+}
+
+// An input: transaction id, index, asset id, type, amount, address indices.
+pub fn input_at(s: &[u8], at: usize) -> InputFound
+    ensures { λ r. ⌜ r ≡ inputFound (now (s .entry)) at ⌝ }
+{
+    let End::At(i) = wire::field_at(s, at, 32) else {
+        return InputFound::Missing;
+    };
+    let Integer::Value(index, a) = wire::u32_at(s, i) else {
+        return InputFound::Missing;
+    };
+    let End::At(k) = wire::field_at(s, a, 32) else {
+        return InputFound::Missing;
+    };
+    let Integer::Value(_, m) = wire::u32_at(s, k) else {
+        return InputFound::Missing;
+    };
+    let Integer::Value(amount, n) = wire::u64_at(s, m) else {
+        return InputFound::Missing;
+    };
+    let Integer::Value(indices_count, indices_at) = wire::u32_at(s, n) else {
+        return InputFound::Missing;
+    };
+    InputFound::Fields(InputFields {
+        index,
+        amount,
+        indices_at,
+        indices_count,
+    })
+}
+
+// An operation's address indices, group and payload, and the place behind them.
+fn terms_at(s: &[u8], at: usize) -> TermsFound
+    ensures { λ r. ⌜ r ≡ termsFound (now (s .entry)) at ⌝ }
+{
+    let Integer::Value(indices_count, indices_at) = wire::u32_at(s, at) else {
+        return TermsFound::Missing;
+    };
+    let End::At(g) = wire::field_at(s, indices_at, 4 * indices_count as usize) else {
+        return TermsFound::Missing;
+    };
+    let Integer::Value(group, p) = wire::u32_at(s, g) else {
+        return TermsFound::Missing;
+    };
+    let Integer::Value(payload_length, payload_at) = wire::u32_at(s, p) else {
+        return TermsFound::Missing;
+    };
+    let End::At(next) = wire::field_at(s, payload_at, payload_length as usize) else {
+        return TermsFound::Missing;
+    };
+    TermsFound::Fields(
+        TermsFields {
+            indices_at,
+            indices_count,
+            group,
+            payload_at,
+            payload_length,
+        },
+        next,
+    )
+}
+
+// Behind the terms: a mint (12) has a list of owners, a transfer (13) has owners.
+fn recipients_at(s: &[u8], at: usize, type_id: u64) -> RecipientsFound
+    ensures { λ r. ⌜ r ≡ recipientsFound «type_id» (now (s .entry)) at ⌝ }
+{
+    if type_id == 12 {
+        let Integer::Value(owners_count, owners_at) = wire::u32_at(s, at) else {
+            return RecipientsFound::Missing;
+        };
+        return RecipientsFound::Fields(Recipients::Mint {
+            owners_at,
+            owners_count,
+        });
+    }
+    match owners_at(s, at) {
+        OwnersFound::Missing => RecipientsFound::Missing,
+        OwnersFound::Fields(owners) => RecipientsFound::Fields(Recipients::Transfer(owners)),
+    }
+}
+
+// What follows an operation's pairs.
+fn action_at(s: &[u8], at: usize, outputs_at: usize, outputs_count: u64) -> OperationFound
+    ensures { λ r. ⌜ r ≡ actionFound «outputs_at» «outputs_count» (now (s .entry)) at ⌝ }
+{
+    let Integer::Value(type_id, i) = wire::u32_at(s, at) else {
+        return OperationFound::Missing;
+    };
+    match terms_at(s, i) {
+        TermsFound::Missing => OperationFound::Missing,
+        TermsFound::Fields(terms, o) => match recipients_at(s, o, type_id) {
+            RecipientsFound::Missing => OperationFound::Missing,
+            RecipientsFound::Fields(recipients) => OperationFound::Fields(OperationFields {
+                outputs_at,
+                outputs_count,
+                terms,
+                recipients,
+            }),
+        },
+    }
+}
+
+// An operation: asset id, (id, index) pairs, and what follows them.
+pub fn operation_at(s: &[u8], at: usize) -> OperationFound
+    ensures { λ r. ⌜ r ≡ operationFound (now (s .entry)) at ⌝ }
+{
+    let End::At(p) = wire::field_at(s, at, 32) else {
+        return OperationFound::Missing;
+    };
+    let Integer::Value(outputs_count, outputs_at) = wire::u32_at(s, p) else {
+        return OperationFound::Missing;
+    };
+    let End::At(t) = wire::field_at(s, outputs_at, 36 * outputs_count as usize) else {
+        return OperationFound::Missing;
+    };
+    action_at(s, t, outputs_at, outputs_count)
+}

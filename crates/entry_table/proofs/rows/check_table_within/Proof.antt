@@ -1,0 +1,22 @@
+-- `entry_table::rows::check_table_within` meets its contract. Assumes nothing.
+use borrow.Author.Needs.{needs}
+use Rattle.entry_table.proofs.Tabling.{on-refused, on-too-many, rows-fit, on-rows}
+use Rattle.entry_table.proofs.rows.check_table_within.Statement.{statement}
+use Rattle.entry_table.proofs.rows.check_table_within.Tie as tie
+
+pub check-table-within-spec : {M : Type 1} → statement M
+check-table-within-spec =
+    tie.close
+    (tie.spec
+    (λ c κs. search needs)  -- check-within-requires
+    (λ c. search needs)  -- enum-known-refusal
+    (λ c. search needs)  -- enum-known-layout
+    (λ c κs. search needs)  -- count-requires
+    (λ c. search needs)  -- enum-told
+    (λ c κs. search needs)  -- refuse-requires
+    (λ c. search needs)  -- enum-known-n
+    (λ c κs. search rows-fit)  -- put-rows-requires
+    (λ c. search on-refused)  -- returns
+    (λ c. search on-too-many)  -- returns-2
+    (λ c. search needs)  -- same-length
+    (λ c. search on-rows))  -- returns-3

@@ -1,0 +1,32 @@
+-- `entry_table::rows::find` meets its contract. The invariant: the one that is looked for is the one of that number ahead. Assumes nothing.
+use borrow.Author.Needs.{needs}
+use Rattle.entry_walk.specs.Walk.{ahead}
+use Rattle.entry_table.proofs.Looping.{Looked, finding, moved-less, found-less}
+use Rattle.entry_table.proofs.rows.find.Statement.{statement}
+use Rattle.entry_table.proofs.rows.find.Tie as tie
+
+abbrev Inv-loop : tie.InvT-loop
+Inv-loop s «type_id» n cursor₀ left₀ cursor left = Looked n «type_id» s cursor left
+
+abbrev μ-loop : tie.MeasureT-loop
+μ-loop s «type_id» n cursor₀ left₀ cursor left = ahead cursor
+
+pub find-spec : {M : Type 1} → statement M
+find-spec =
+    tie.close
+    (tie.spec
+    Inv-loop
+    μ-loop
+    (λ c κs. search needs)  -- first-requires
+    (λ c. search finding)  -- loop-holds
+    (λ c κs. search needs)  -- advance-requires
+    (λ c. search needs)  -- enum-told
+    (λ c. search finding)  -- returns
+    (λ c. search needs)  -- enum-known-next
+    (λ c. search moved-less)  -- loop-less
+    (λ c. search finding)  -- loop-again
+    (λ c. search needs)  -- enum-known-row
+    (λ c. search finding)  -- returns-2
+    (λ c. search needs)  -- sub-left
+    (λ c. search found-less)  -- loop-less-2
+    (λ c. search finding))  -- loop-again-2

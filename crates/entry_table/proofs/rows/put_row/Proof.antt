@@ -1,0 +1,32 @@
+-- `entry_table::rows::put_row` meets its contract.
+-- Assumes nothing.
+use borrow.Author.Needs.{needs}
+use Prim.Native.Nat.{_*_}
+use native.Mathlib.Omega.{arith}
+use lib.ListN.{length-set}
+use Rattle.entry_table.specs.Rows.{putRow}
+use Rattle.entry_table.proofs.Looping.{three-stored}
+use Rattle.entry_table.proofs.rows.put_row.Statement.{statement}
+use Rattle.entry_table.proofs.rows.put_row.Tie as tie
+
+pub put-row-spec : {M : Type 1} → statement M
+unfolding putRow
+put-row-spec =
+    tie.close
+    (tie.spec
+    (λ c. search needs)  -- mul-at
+    (λ c. search needs)  -- mul-table
+    (λ c. search needs)  -- slice-write-table
+    (λ c. search needs)  -- cast-table
+    (λ c. search needs)  -- add-table
+    (λ c. search needs)  -- mul-table-2
+    (λ c. simp length-set (omega arith))  -- slice-write-table-2
+    (λ c κs. search needs)  -- span-requires
+    (λ c. search needs)  -- cast-table-2
+    (λ c. search needs)  -- add-table-2
+    (λ c. search needs)  -- mul-table-3
+    (λ c. simp length-set (omega arith))  -- slice-write-table-3
+    (λ c. search needs)  -- same-length
+    (λ c.
+    let a = c .before .before .before .args in
+    rw (c .span .ensures) (three-stored (a .table .now) (3 * (a .i)) _ _ _ (omega arith))))  -- returns

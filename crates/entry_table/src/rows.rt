@@ -1,0 +1,140 @@
+// The rows of the table: counted, written, and found by their number; and the check with a lent table.
+ghost use mathlib.Core.Path.{_≡_};
+ghost use Prim.Native.Nat.{_+_, _-_, _*_, _≤_};
+ghost use lib.ListN.{length};
+ghost use Rattle.transaction.specs.Answer.{memoMost};
+ghost use Rattle.entry_table.specs.Table.{filled, tabled};
+ghost use Rattle.entry_table.specs.Rows.{putRow, Counts, Finds, Puts};
+use crate::Count;
+use crate::Nth;
+use crate::ROW_NUMBERS;
+use crate::Tabled;
+use entry_walk::Advance;
+use entry_walk::Row;
+use entry_walk::steps;
+use transaction::Checked;
+use wire::Rule;
+
+// How many entries there are, if there is room for them.
+fn count(s: &[u8], type_id: u32, room: usize) -> Count
+    ensures { λ r. ⌜ Counts room «type_id» (now (s .entry)) r ⌝ }
+{
+    let mut cursor = steps::first();
+    let mut n: usize = 0;
+    loop {
+        match steps::advance(s, type_id, cursor) {
+            Advance::Done => {
+                return Count::Rows(n);
+            }
+            Advance::Moved(next) => {
+                cursor = next;
+            }
+            Advance::Found(_, next) => {
+                if n == room {
+                    return Count::TooMany;
+                }
+                n += 1;
+                cursor = next;
+            }
+        }
+    }
+}
+
+// The n-th entry, from 0.
+pub fn find(s: &[u8], type_id: u32, n: u64) -> Nth
+    ensures { λ r. ⌜ Finds n «type_id» (now (s .entry)) r ⌝ }
+{
+    let mut cursor = steps::first();
+    let mut left = n;
+    loop {
+        match steps::advance(s, type_id, cursor) {
+            Advance::Done => {
+                return Nth::Missing;
+            }
+            Advance::Moved(next) => {
+                cursor = next;
+            }
+            Advance::Found(row, next) => {
+                if left == 0 {
+                    return Nth::Entry(row);
+                }
+                left -= 1;
+                cursor = next;
+            }
+        }
+    }
+}
+
+// The bytes of an entry.
+fn span(row: Row) -> usize
+    ensures { λ r. ⌜ r ≡ row .end - row .start ⌝ }
+{
+    if row.end < row.start {
+        return 0;
+    }
+    row.end - row.start
+}
+
+// Puts a row into its three numbers.
+fn put_row(table: &mut [u32], i: usize, row: Row)
+    requires { ⌜ 3 * i + 3 ≤ length (now table) ⌝ }
+    ensures { λ _. ⌜ now (table .exit) ≡ putRow i row (now (table .entry)) ⌝ }
+{
+    let at = ROW_NUMBERS * i;
+    table[at] = row.kind;
+    table[at + 1] = (row.start % 4294967296) as u32;
+    table[at + 2] = (span(row) % 4294967296) as u32;
+}
+
+// Puts n rows, for which there is room.
+fn put_rows(s: &[u8], type_id: u32, n: usize, table: &mut [u32])
+    requires { ⌜ 3 * n ≤ length (now table) ⌝ }
+    ensures { λ _. ⌜ Puts n «type_id» (now (s .entry)) (now (table .entry)) (now (table .exit)) ⌝ }
+{
+    let mut cursor = steps::first();
+    let mut i: usize = 0;
+    loop {
+        match steps::advance(s, type_id, cursor) {
+            Advance::Done => {
+                return;
+            }
+            Advance::Moved(next) => {
+                cursor = next;
+            }
+            Advance::Found(row, next) => {
+                if i == n {
+                    return;
+                }
+                put_row(table, i, row);
+                i += 1;
+                cursor = next;
+            }
+        }
+    }
+}
+
+// Checks the bytes, where a memo has at most so many of them, and writes a row of three numbers for each entry.
+fn check_table_within(s: &[u8], table: &mut [u32], most: u64) -> Tabled
+    ensures { λ r. ⌜ filled r (now (table .exit)) ≡ tabled most (now (s .entry)) (now (table .entry)) ⌝ }
+{
+    match checker::check::check_within(s, most) {
+        Checked::Refused(refusal) => Tabled::Refused(refusal),
+        Checked::Accepted(layout, end) => match count(
+            s,
+            layout.type_id,
+            table.len() / ROW_NUMBERS,
+        ) {
+            Count::TooMany => Tabled::Refused(wire::refuse(Rule::NoRoom, 0)),
+            Count::Rows(n) => {
+                put_rows(s, layout.type_id, n, table);
+                Tabled::Listed(n, end)
+            }
+        },
+    }
+}
+
+pub fn check_table(s: &[u8], table: &mut [u32]) -> Tabled
+    ensures { λ r. ⌜ filled r (now (table .exit)) ≡ tabled memoMost (now (s .entry)) (now (table .entry)) ⌝ }
+{
+    check_table_within(s, table, transaction::MEMO_MOST)
+}

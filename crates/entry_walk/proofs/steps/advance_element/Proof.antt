@@ -1,0 +1,20 @@
+-- `entry_walk::steps::advance_element` meets its contract. Assumes nothing.
+use borrow.Author.Needs.{needs}
+use Rattle.entry_walk.proofs.Walking.{entering}
+use native.Mathlib.Omega.{arith}
+use Rattle.entry_walk.proofs.steps.advance_element.Statement.{statement}
+use Rattle.entry_walk.proofs.steps.advance_element.Tie as tie
+
+pub advance-element-spec : {M : Type 1} → statement M
+advance-element-spec =
+    tie.close
+    (tie.spec
+    (λ c κs. search needs)  -- entry-of-requires
+    (λ c κs. search needs)  -- advance-state-requires
+    (λ c. (search entering, search needs))  -- returns
+    (λ c κs. search needs)  -- element-past-requires
+    (λ c. search needs)  -- enum-told
+    (λ c. search needs)  -- enum-known-end
+    (λ c. search needs)  -- sub-t10
+    (λ c. (search entering, tt))  -- returns-2
+    (λ c. (search entering, omega arith)))  -- returns-3

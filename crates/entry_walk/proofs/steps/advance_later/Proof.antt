@@ -1,0 +1,25 @@
+-- `entry_walk::steps::advance_later` meets its contract. Assumes nothing.
+use borrow.Author.Needs.{needs}
+use native.Mathlib.Omega.{arith}
+use Rattle.entry_walk.proofs.Walking.{leading, later-shorter}
+use Rattle.entry_walk.proofs.steps.advance_later.Statement.{statement}
+use Rattle.entry_walk.proofs.steps.advance_later.Tie as tie
+
+pub advance-later-spec : {M : Type 1} → statement M
+advance-later-spec =
+    tie.close
+    (tie.spec
+    (λ c. (search leading, tt))  -- returns
+    (λ c. search needs)  -- add-phase
+    (λ c κs. search needs)  -- due-at-requires
+    (λ c. search needs)  -- enum-told
+    (λ c. search needs)  -- enum-told-2
+    (λ c κs. search needs)  -- advance-counted-requires
+    (λ c. search needs)  -- enum-told-3
+    (λ c κs. search needs)  -- advance-counted-requires-2
+    (λ c. search needs)  -- enum-known-field
+    (λ c κs. search needs)  -- field-past-requires
+    (λ c. (search leading, tt))  -- returns-2
+    (λ c. (search leading, search later-shorter))  -- returns-3
+    (λ c. (search leading, search later-shorter))  -- returns-4
+    (λ c. (search leading, omega arith)))  -- returns-5

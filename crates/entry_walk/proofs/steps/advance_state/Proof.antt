@@ -1,0 +1,20 @@
+-- `entry_walk::steps::advance_state` meets its contract. Assumes nothing.
+use borrow.Author.Needs.{needs}
+use Rattle.entry_walk.proofs.Walking.{entering, state-shorter}
+use Rattle.entry_walk.proofs.steps.advance_state.Statement.{statement}
+use Rattle.entry_walk.proofs.steps.advance_state.Tie as tie
+
+pub advance-state-spec : {M : Type 1} → statement M
+advance-state-spec =
+    tie.close
+    (tie.spec
+    (λ c κs. search needs)  -- u32-at-requires
+    (λ c. search needs)  -- enum-known-outputs
+    (λ c. search needs)  -- enum-told
+    (λ c. (search entering, tt))  -- returns
+    (λ c κs. search needs)  -- u32-at-requires-2
+    (λ c. search needs)  -- enum-known-inner
+    (λ c. search needs)  -- enum-told-2
+    (λ c. (search entering, tt))  -- returns-2
+    (λ c. search needs)  -- sub-t8
+    (λ c. (search entering, search state-shorter)))  -- returns-3

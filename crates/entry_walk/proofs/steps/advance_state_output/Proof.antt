@@ -1,0 +1,17 @@
+-- `entry_walk::steps::advance_state_output` meets its contract. Assumes nothing.
+use borrow.Author.Needs.{needs}
+use Rattle.entry_walk.proofs.Walking.{crediting}
+use native.Mathlib.Omega.{arith}
+use Rattle.entry_walk.proofs.steps.advance_state_output.Statement.{statement}
+use Rattle.entry_walk.proofs.steps.advance_state_output.Tie as tie
+
+pub advance-state-output-spec : {M : Type 1} → statement M
+advance-state-output-spec =
+    tie.close
+    (tie.spec
+    (λ c κs. search needs)  -- output-past-requires
+    (λ c. search needs)  -- enum-told
+    (λ c. search needs)  -- enum-known-end
+    (λ c. search needs)  -- sub-t7
+    (λ c. (search crediting, tt))  -- returns
+    (λ c. (search crediting, omega arith)))  -- returns-2

@@ -1,0 +1,202 @@
+// From one entry of an accepted transaction to the next. On other bytes the steps come to an end, with no promise.
+ghost use mathlib.Core.Path.{_≡_};
+ghost use Prim.Native.Nat.{_<_};
+ghost use Rattle.wire.specs.Answer.{ended};
+ghost use Rattle.transaction.specs.declared.ListName.the-variants as L;
+ghost use Rattle.entry_walk.specs.Walk.{start, credentialBytes, Entered, Shorter};
+ghost use Rattle.entry_walk.specs.Walk.{CountedAdvance, LaterAdvance, ElementAdvance, StateOutputAdvance, CredentialAdvance, AdvanceAhead};
+use crate::Advance;
+use crate::CREDENTIAL;
+use crate::Cursor;
+use crate::HEAD_WIDTH;
+use crate::LAST_PHASE;
+use crate::Row;
+use crate::STATE_OUTPUT;
+use plan::Due;
+use plan::rows;
+use transaction::ListName;
+use wire::End;
+use wire::Integer;
+
+// Before the first segment.
+pub fn first() -> Cursor
+    ensures { λ r. ⌜ r ≡ start ⌝ }
+{
+    Cursor {
+        phase: 0,
+        at: HEAD_WIDTH,
+        left: 0,
+        inner: 0,
+    }
+}
+
+// Into the list whose count is at hand.
+fn advance_counted(s: &[u8], phase: u32, at: usize) -> Advance
+    ensures { λ r. ⌜ CountedAdvance phase (now (s .entry)) at r ⌝ }
+    ensures { λ r. ⌜ Entered phase r ⌝ }
+{
+    let Integer::Value(left, first) = wire::u32_at(s, at) else {
+        return Advance::Done;
+    };
+    Advance::Moved(Cursor {
+        phase,
+        at: first,
+        left,
+        inner: 0,
+    })
+}
+
+// Into the next segment, or past it if it is a field.
+fn advance_later(s: &[u8], type_id: u32, c: Cursor) -> Advance
+    ensures { λ r. ⌜ LaterAdvance «type_id» (now (s .entry)) c r ⌝ }
+    ensures { λ r. ⌜ Shorter c r ⌝ }
+{
+    if LAST_PHASE < c.phase {
+        return Advance::Done;
+    }
+    let phase = c.phase + 1;
+    match rows::due_at(type_id, phase) {
+        Due::Nothing => Advance::Done,
+        Due::Finish => advance_counted(s, phase, c.at),
+        Due::List(_, _) => advance_counted(s, phase, c.at),
+        Due::Field(field) => Advance::Moved(Cursor {
+            phase,
+            at: rows::field_past(s, c.at, field),
+            left: 0,
+            inner: 0,
+        }),
+    }
+}
+
+// Into an initial state: behind its FxID and the count of its outputs.
+fn advance_state(s: &[u8], c: Cursor) -> Advance
+    requires { ⌜ 0 < c .left ⌝ }
+    ensures { λ r. ⌜ ElementAdvance L.State (now (s .entry)) c r ⌝ }
+    ensures { λ r. ⌜ Shorter c r ⌝ }
+{
+    let Integer::Value(_, outputs) = wire::u32_at(s, c.at) else {
+        return Advance::Done;
+    };
+    let Integer::Value(inner, first) = wire::u32_at(s, outputs) else {
+        return Advance::Done;
+    };
+    Advance::Moved(Cursor {
+        phase: c.phase,
+        at: first,
+        left: c.left - 1,
+        inner,
+    })
+}
+
+// An element: an entry, or an initial state, whose outputs are entries.
+fn advance_element(s: &[u8], list: ListName, c: Cursor) -> Advance
+    requires { ⌜ 0 < c .left ⌝ }
+    ensures { λ r. ⌜ ElementAdvance list (now (s .entry)) c r ⌝ }
+    ensures { λ r. ⌜ Shorter c r ⌝ }
+{
+    let entry_kind = rows::entry_of(list);
+    if entry_kind == STATE_OUTPUT {
+        return advance_state(s, c);
+    }
+    match rows::element_past(s, c.at, list) {
+        Integer::Refused(_) => Advance::Done,
+        Integer::Value(_, end) => Advance::Found(
+            Row {
+                kind: entry_kind,
+                start: c.at,
+                end,
+            },
+            Cursor {
+                phase: c.phase,
+                at: end,
+                left: c.left - 1,
+                inner: 0,
+            },
+        ),
+    }
+}
+
+fn advance_state_output(s: &[u8], c: Cursor) -> Advance
+    requires { ⌜ 0 < c .inner ⌝ }
+    ensures { λ r. ⌜ StateOutputAdvance (now (s .entry)) c r ⌝ }
+    ensures { λ r. ⌜ Shorter c r ⌝ }
+{
+    match element::lengths::output_past(s, c.at) {
+        End::Refused(_) => Advance::Done,
+        End::At(end) => Advance::Found(
+            Row {
+                kind: STATE_OUTPUT,
+                start: c.at,
+                end,
+            },
+            Cursor {
+                phase: c.phase,
+                at: end,
+                left: c.left,
+                inner: c.inner - 1,
+            },
+        ),
+    }
+}
+
+// The place behind a credential: its type, the count of its signatures, and these.
+fn credential_past(s: &[u8], at: usize) -> End
+    ensures { λ r. ⌜ r ≡ ended credentialBytes (now (s .entry)) at ⌝ }
+{
+    let Integer::Value(_, count_at) = wire::u32_at(s, at) else {
+        return End::Refused(wire::cut(s, at, 4));
+    };
+    let Integer::Value(signatures, first) = wire::u32_at(s, count_at) else {
+        return End::Refused(wire::cut(s, count_at, 4));
+    };
+    wire::field_at(s, first, transaction::SIGNATURE_WIDTH * signatures as usize)
+}
+
+fn advance_credential(s: &[u8], c: Cursor) -> Advance
+    requires { ⌜ 0 < c .left ⌝ }
+    ensures { λ r. ⌜ CredentialAdvance (now (s .entry)) c r ⌝ }
+    ensures { λ r. ⌜ Shorter c r ⌝ }
+{
+    match credential_past(s, c.at) {
+        End::Refused(_) => Advance::Done,
+        End::At(end) => Advance::Found(
+            Row {
+                kind: CREDENTIAL,
+                start: c.at,
+                end,
+            },
+            Cursor {
+                phase: c.phase,
+                at: end,
+                left: c.left - 1,
+                inner: 0,
+            },
+        ),
+    }
+}
+
+// The entry at a cursor and the cursor behind it; or, where a segment is at its end, the cursor in the next one.
+pub fn advance(s: &[u8], type_id: u32, c: Cursor) -> Advance
+    ensures { λ r. ⌜ AdvanceAhead «type_id» (now (s .entry)) c r ⌝ }
+    ensures { λ r. ⌜ Shorter c r ⌝ }
+{
+    match rows::due_at(type_id, c.phase) {
+        Due::Nothing => advance_later(s, type_id, c),
+        Due::Field(_) => advance_later(s, type_id, c),
+        Due::Finish => {
+            if c.left == 0 {
+                return Advance::Done;
+            }
+            advance_credential(s, c)
+        }
+        Due::List(list, _) => {
+            if 0 < c.inner {
+                return advance_state_output(s, c);
+            }
+            if 0 < c.left {
+                return advance_element(s, list, c);
+            }
+            advance_later(s, type_id, c)
+        }
+    }
+}

@@ -1,0 +1,3 @@
+-- What is proved of what is due
+pub mod RowLaws
+pub mod Passing

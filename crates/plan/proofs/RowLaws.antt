@@ -1,0 +1,173 @@
+-- What the code finds due is what the plan has there. Assumes nothing.
+use Prim.Native.Nat.{ℕ, zero, suc, _+_, _-_, _≤_}
+use mathlib.Core.Path.{_≡_, refl, sym, ap, _∙_, subst, subst₂}
+use mathlib.Core.Bool.{Bool, true, false, false≢true}
+use native.Mathlib.Omega.{arith}
+use native.Mathlib.Numerals.{add-one}
+use mathlib.Core.List.{List}
+use lib.Dec.{eqb, leb, ltb}
+use borrow.Author.Tests.{ne-eqb, le-ltb, leb-true, leb-false}
+use Rattle.wire.specs.declared.End.{End}
+use Rattle.wire.specs.Series.{series}
+use Rattle.wire.specs.Answer.{ended}
+use Rattle.wire.proofs.Bytes.{found}
+use Rattle.transaction.specs.Plan.{contentOf, elementsOf, Plan, shut, end, field, many, ownPlan, plan, typeOf, isType, planOf}
+use Rattle.transaction.specs.declared.FieldName.{FieldName}
+use Rattle.transaction.specs.declared.ListName.{ListName}
+use Rattle.transaction.specs.declared.TransactionType.{TransactionType}
+use Rattle.transaction.specs.declared.TransactionType.the-variants as K
+use Rattle.plan.specs.declared.Due.{Due}
+use Rattle.plan.specs.declared.Due.the-variants as D
+use Rattle.plan.specs.Due.{tail, behind, due, Live, dueOf}
+
+-- the part of a number, and none behind the last
+module _ (p : Plan) (begun : ℕ) where
+  pub at-part : (z : Due) (i : ℕ) → begun ≡ i → z ≡ dueOf (behind i p) → z ≡ dueOf (behind begun p)
+  at-part z i e h = rw e h
+
+  pub past : (n : ℕ) → behind n p ≡ shut → n ≤ begun → D.Nothing ≡ dueOf (behind begun p)
+  past n e h =
+      let j : begun ≡ begun - n + n = omega arith in
+      sym (ap (λ (i : ℕ). dueOf (behind i p)) j ∙ ap dueOf (beyond (begun - n)))
+    where
+      beyond : (k : ℕ) → behind (k + n) p ≡ shut
+      beyond zero = let j : 0 + n ≡ n = omega arith in ap (λ (i : ℕ). behind i p) j ∙ e
+      beyond (suc k) =
+          let j : suc k + n ≡ suc (k + n) = omega arith in
+          ap (λ (i : ℕ). behind i p) j ∙ ap tail (beyond k)
+
+pub of-type : (z : Due) (begun «type_id» i : ℕ) → «type_id» ≡ i → z ≡ dueOf (behind begun (ownPlan (typeOf i)))
+    → z ≡ dueOf (behind begun (ownPlan (typeOf «type_id»)))
+of-type z begun «type_id» i e h = rw e h
+
+pub of-export : (z : Due) (begun «type_id» : ℕ) → («type_id» ≡ 0 → ⊥) → («type_id» ≡ 1 → ⊥) → («type_id» ≡ 2 → ⊥) → («type_id» ≡ 3 → ⊥)
+    → z ≡ dueOf (behind begun (ownPlan K.Export))
+    → z ≡ dueOf (behind begun (ownPlan (typeOf «type_id»)))
+of-export z begun «type_id» a b c d h = rw (ne-eqb «type_id» 0 a, ne-eqb «type_id» 1 b, ne-eqb «type_id» 2 c, ne-eqb «type_id» 3 d) h
+
+behind-tail : (k : ℕ) (p : Plan) → behind (suc k) p ≡ behind k (tail p)
+behind-tail zero p = refl
+behind-tail (suc k) p = ap tail (behind-tail k p)
+
+module _ (z : Due) («type_id» phase : ℕ) where
+  pub at-phase : (i : ℕ) → phase ≡ i → z ≡ dueOf (due i (planOf «type_id»)) → z ≡ dueOf (due phase (planOf «type_id»))
+  at-phase i e h = rw e h
+
+  pub in-own : 4 ≤ phase → z ≡ dueOf (behind (phase - 4) (ownPlan (typeOf «type_id»))) → z ≡ dueOf (due phase (planOf «type_id»))
+  in-own f h =
+      let p : Plan = planOf «type_id» in
+      let k : ℕ = phase - 4 in
+      let j : phase ≡ suc (suc (suc (suc k))) = omega arith in
+      h ∙ sym (ap (λ (i : ℕ). dueOf (due i p)) j ∙ ap dueOf (behind-tail (suc (suc k)) p ∙ behind-tail (suc k) (tail p) ∙ behind-tail k (tail (tail p))))
+
+-- what is asked of it
+module _ (x y : Due) (p : x ≡ y) {R : Type 0} (f : Due → R) where
+  pub on-due : (z : R) (d : Due) → x ≡ d → z ≡ f d → z ≡ f y
+  on-due z d q h = h ∙ sym (ap f (found p q))
+
+pub same-names : (a b c d : ℕ) → a ≡ c → b ≡ d → eqb a b ≡ eqb c d
+same-names a b c d h k = rw (h, k)
+
+-- the longest plan has eight parts
+eight : (k : TransactionType) → behind 8 (plan k) ≡ shut
+eight K.Base = refl
+eight K.CreateAsset = refl
+eight K.Operation = refl
+eight K.Import = refl
+eight K.Export = refl
+
+pub phase-small : («type_id» phase : ℕ) (f : Due → Bool) → f D.Nothing ≡ false → f (dueOf (due phase (planOf «type_id»))) ≡ true → phase ≤ 8
+phase-small «type_id» phase f none h = go (leb phase 8) refl
+  where
+    beyond : (k : ℕ) → 8 ≤ k → f (dueOf (behind k (planOf «type_id»))) ≡ true → ⊥
+    beyond k e h = false≢true (sym none ∙ ap f (past (planOf «type_id») k 8 (eight (typeOf «type_id»)) e) ∙ h)
+
+    go : (b : Bool) → leb phase 8 ≡ b → phase ≤ 8
+    go true e = leb-true phase 8 e
+    go false e =
+        let k : ℕ = phase - 1 in
+        let l = leb-false phase 8 e in
+        let j : phase ≡ suc k = omega arith in
+        absurd (beyond k (omega arith) (subst (λ (i : ℕ). f (dueOf (due i (planOf «type_id»))) ≡ true) j h))
+
+pub due-next : (k : ℕ) (p q : Plan) → Live q → due k p ≡ q → due (suc k) p ≡ tail q
+due-next zero p q live e = absurd (subst Live (sym e) live)
+due-next (suc k) p q live e = ap tail e
+
+-- a phase with something due is one of the eight
+abbrev isMore : Due → Bool
+isMore D.Nothing = false
+isMore D.Finish = true
+isMore (D.Field f) = true
+isMore (D.List l n) = true
+
+pub live-phase : («type_id» phase : ℕ) → Live (due phase (planOf «type_id»)) → phase ≤ 8
+live-phase «type_id» phase h = phase-small «type_id» phase isMore refl (more (due phase (planOf «type_id»)) h)
+  where
+    more : (p : Plan) → Live p → isMore (dueOf p) ≡ true
+    more shut h = absurd h
+    more end h = refl
+    more (field f p) h = refl
+    more (many l least p) h = refl
+
+pub live-next : («type_id» phase : ℕ) → Live (due phase (planOf «type_id»)) → due (phase + 1) (planOf «type_id») ≡ tail (due phase (planOf «type_id»))
+live-next «type_id» phase h = rw add-one (due-next phase (planOf «type_id») (due phase (planOf «type_id»)) h refl)
+
+-- ---- what is due tells the plan
+
+module _ (x : Due) (T : Plan → Type 0) where
+  pub if-nothing : (p : Plan) → x ≡ dueOf p → x ≡ D.Nothing → T shut → T p
+  if-nothing shut h q t = t
+  if-nothing end h q t = let z : _≡_ {A = ℕ} 0 1 = cc in absurd (omega arith)
+  if-nothing (field f p) h q t = let z : _≡_ {A = ℕ} 0 1 = cc in absurd (omega arith)
+  if-nothing (many l least p) h q t = let z : _≡_ {A = ℕ} 0 1 = cc in absurd (omega arith)
+
+  pub if-end : (p : Plan) → x ≡ dueOf p → x ≡ D.Finish → T end → T p
+  if-end shut h q t = let z : _≡_ {A = ℕ} 0 1 = cc in absurd (omega arith)
+  if-end end h q t = t
+  if-end (field f p) h q t = let z : _≡_ {A = ℕ} 0 1 = cc in absurd (omega arith)
+  if-end (many l least p) h q t = let z : _≡_ {A = ℕ} 0 1 = cc in absurd (omega arith)
+
+  pub if-field : (p : Plan) → x ≡ dueOf p → (f : FieldName) → x ≡ D.Field f → ((q : Plan) → T (field f q)) → T p
+  if-field shut h f q t = let z : _≡_ {A = ℕ} 0 1 = cc in absurd (omega arith)
+  if-field end h f q t = let z : _≡_ {A = ℕ} 0 1 = cc in absurd (omega arith)
+  if-field (field g p) h f q t = let e : f ≡ g = cc in subst (λ (j : FieldName). T (field j p)) e (t p)
+  if-field (many l least p) h f q t = let z : _≡_ {A = ℕ} 0 1 = cc in absurd (omega arith)
+
+  pub if-list : (p : Plan) → x ≡ dueOf p → (l : ListName) (n : ℕ) → x ≡ D.List l n → ((q : Plan) → T (many l n q)) → T p
+  if-list shut h l n q t = let z : _≡_ {A = ℕ} 0 1 = cc in absurd (omega arith)
+  if-list end h l n q t = let z : _≡_ {A = ℕ} 0 1 = cc in absurd (omega arith)
+  if-list (field f p) h l n q t = let z : _≡_ {A = ℕ} 0 1 = cc in absurd (omega arith)
+  if-list (many m k p) h l n q t =
+      let e : l ≡ m = cc in
+      let i : n ≡ k = cc in
+      subst₂ (λ (m : ListName) (k : ℕ). T (many m k p)) e i (t p)
+
+-- ---- by name
+
+pub by-field : (most : ℕ) (f g : FieldName) (s : List ℕ) (at : ℕ) (z : End) → f ≡ g → z ≡ ended (contentOf most g) s at → z ≡ ended (contentOf most f) s at
+by-field most f g s at z h e = rw h e
+
+pub by-list : (l m : ListName) (n : ℕ) (s : List ℕ) (at : ℕ) (z : End) → l ≡ m → z ≡ ended (series (elementsOf m .element) n) s at
+    → z ≡ ended (series (elementsOf l .element) n) s at
+by-list l m n s at z h e = rw h e
+
+pub is-below : (n : ℕ) (b : Bool) → b ≡ ltb n 5 → b ≡ isType n
+is-below n b h = h ∙ go n
+  where
+    go : (n : ℕ) → ltb n 5 ≡ isType n
+    go zero = refl
+    go (suc zero) = refl
+    go (suc (suc zero)) = refl
+    go (suc (suc (suc zero))) = refl
+    go (suc (suc (suc (suc zero)))) = refl
+    go (suc (suc (suc (suc (suc n))))) =
+        let k = suc (suc (suc (suc (suc n)))) in
+        rw (
+          le-ltb k 5 (omega arith),
+          ne-eqb k 0 (λ e. omega arith),
+          ne-eqb k 1 (λ e. omega arith),
+          ne-eqb k 2 (λ e. omega arith),
+          ne-eqb k 3 (λ e. omega arith),
+          ne-eqb k 4 (λ e. omega arith),
+        )

@@ -1,0 +1,25 @@
+-- `plan::questions::field_at` meets its contract. Assumes nothing.
+use mathlib.Core.Path.{refl}
+use borrow.Author.Needs.{needs}
+use Rattle.plan.specs.Due.{isField}
+use Rattle.plan.proofs.RowLaws.{on-due, same-names}
+use Rattle.plan.proofs.questions.field_at.Statement.{statement}
+use Rattle.plan.proofs.questions.field_at.Tie as tie
+
+pub field-at-spec : {M : Type 1} → statement M
+field-at-spec =
+    tie.close
+    (tie.spec
+    (λ c κs. search needs)  -- due-at-requires
+    (λ c. search needs)  -- enum-told
+    (λ c. search needs)  -- enum-told-2
+    (λ c. search needs)  -- enum-told-3
+    (λ c. search needs)  -- enum-known-name
+    (λ c κs. search needs)  -- code-of-requires
+    (λ c κs. search needs)  -- code-of-requires-2
+    (λ c. on-due _ _ (c .before .before .due-at .ensures) (isField (c .before .before .before .args .field)) _ _ (c .enum-told .given .1) refl)  -- returns
+    (λ c. on-due _ _ (c .before .before .due-at .ensures) (isField (c .before .before .before .args .field)) _ _ (c .enum-told2 .given .1) refl)  -- returns-2
+    (λ c. on-due _ _ (c .before .before .due-at .ensures) (isField (c .before .before .before .args .field)) _ _ (c .enum-told3 .given .1) refl)  -- returns-3
+    (λ c. on-due _ _ (c .before .before .before .before .before .due-at .ensures)
+    (isField (c .before .before .before .before .before .before .args .field)) _ _ (c .before .before .before .name .given .1)
+    (same-names _ _ _ _ (c .before .field-code .ensures) (c .field-code2 .ensures))))  -- returns-4

@@ -1,0 +1,28 @@
+-- `plan::rows::elements_from` meets its contract. Assumes nothing.
+use borrow.Author.Needs.{needs}
+use Rattle.plan.proofs.RowLaws.{by-list}
+use Rattle.plan.proofs.rows.elements_from.Statement.{statement}
+use Rattle.plan.proofs.rows.elements_from.Tie as tie
+
+pub elements-from-spec : {M : Type 1} → statement M
+elements-from-spec =
+    tie.close
+    (tie.spec
+    (λ c. search needs)  -- enum-told
+    (λ c κs. search needs)  -- outputs-from-requires
+    (λ c. search needs)  -- enum-told-2
+    (λ c κs. search needs)  -- inputs-from-requires
+    (λ c. search needs)  -- enum-told-3
+    (λ c κs. search needs)  -- states-from-requires
+    (λ c. search needs)  -- enum-told-4
+    (λ c κs. search needs)  -- operations-from-requires
+    (λ c. search needs)  -- enum-told-5
+    (λ c κs. search needs)  -- inputs-from-requires-2
+    (λ c. search needs)  -- enum-told-6
+    (λ c κs. search needs)  -- outputs-from-requires-2
+    (λ c. search by-list)  -- returns
+    (λ c. search by-list)  -- returns-2
+    (λ c. search by-list)  -- returns-3
+    (λ c. search by-list)  -- returns-4
+    (λ c. search by-list)  -- returns-5
+    (λ c. search by-list))  -- returns-6

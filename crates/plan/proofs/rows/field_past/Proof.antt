@@ -1,0 +1,34 @@
+-- `plan::rows::field_past` meets its contract. Assumes nothing.
+use borrow.Author.Needs.{needs}
+use Rattle.plan.proofs.Passing.{memo-past}
+use Rattle.plan.proofs.Passing.{name-past}
+use Rattle.plan.proofs.Passing.{symbol-past}
+use Rattle.plan.proofs.Passing.{denomination-past}
+use Rattle.plan.proofs.Passing.{chain-past}
+use Rattle.plan.proofs.rows.field_past.Statement.{statement}
+use Rattle.plan.proofs.rows.field_past.Tie as tie
+
+pub field-past-spec : {M : Type 1} → statement M
+field-past-spec =
+    tie.close
+    (tie.spec
+    (λ c. search needs)  -- enum-told
+    (λ c κs. search needs)  -- string-past-requires
+    (λ c κs. search needs)  -- place-of-requires
+    (λ c. search needs)  -- enum-told-2
+    (λ c κs. search needs)  -- text-past-requires
+    (λ c κs. search needs)  -- place-of-requires-2
+    (λ c. search needs)  -- enum-told-3
+    (λ c κs. search needs)  -- text-past-requires-2
+    (λ c κs. search needs)  -- place-of-requires-3
+    (λ c. search needs)  -- enum-told-4
+    (λ c κs. search needs)  -- field-at-requires
+    (λ c κs. search needs)  -- place-of-requires-4
+    (λ c. search needs)  -- enum-told-5
+    (λ c κs. search needs)  -- field-at-requires-2
+    (λ c κs. search needs)  -- place-of-requires-5
+    (λ c. search (memo-past, name-past, symbol-past, denomination-past, chain-past) depth 12)  -- returns
+    (λ c. search (memo-past, name-past, symbol-past, denomination-past, chain-past) depth 12)  -- returns-2
+    (λ c. search (memo-past, name-past, symbol-past, denomination-past, chain-past) depth 12)  -- returns-3
+    (λ c. search (memo-past, name-past, symbol-past, denomination-past, chain-past) depth 12)  -- returns-4
+    (λ c. search (memo-past, name-past, symbol-past, denomination-past, chain-past) depth 12))  -- returns-5

@@ -1,0 +1,20 @@
+-- `plan::rows::field_signatures` meets its contract. Assumes nothing.
+use borrow.Author.Needs.{needs}
+use Rattle.plan.proofs.Passing.{by-signs}
+use Rattle.plan.proofs.rows.field_signatures.Statement.{statement}
+use Rattle.plan.proofs.rows.field_signatures.Tie as tie
+
+pub field-signatures-spec : {M : Type 1} → statement M
+field-signatures-spec =
+    tie.close
+    (tie.spec
+    (λ c. search needs)  -- enum-told
+    (λ c. search needs)  -- enum-told-2
+    (λ c. search needs)  -- enum-told-3
+    (λ c. search needs)  -- enum-told-4
+    (λ c. search needs)  -- enum-told-5
+    (λ c. search by-signs depth 12)  -- returns
+    (λ c. search by-signs depth 12)  -- returns-2
+    (λ c. search by-signs depth 12)  -- returns-3
+    (λ c. search by-signs depth 12)  -- returns-4
+    (λ c. search by-signs depth 12))  -- returns-5

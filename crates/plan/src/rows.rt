@@ -1,0 +1,293 @@
+// The rows of the transaction types: their numbers, and what is due once so many parts are begun; and what each name of a field or a list stands
+// for. A new field is a name here, a new type a row.
+ghost use mathlib.Core.Path.{_≡_};
+ghost use Rattle.wire.specs.Series.{series};
+ghost use Rattle.wire.specs.Answer.{ended};
+ghost use Rattle.transaction.specs.Plan.{contentOf, fieldCredential, elementsOf, ownPlan, typeOf, isType, planOf};
+ghost use Rattle.transaction.specs.declared.TransactionType.the-variants as K;
+ghost use Rattle.plan.specs.Due.{behind, due, dueOf, credentialAsked, entryOf, placeOf, FieldPast, FieldSigns, silentOf, ElementTells};
+ghost use Rattle.plan.specs.Due.{ElementsPast, AskingTells};
+use crate::Due;
+use transaction::FieldName;
+use transaction::ListName;
+use wire::End;
+use wire::Integer;
+
+// ---- the rows
+
+// Is it the number of a type?
+pub fn is_type(number: u64) -> bool
+    ensures { λ r. ⌜ r ≡ isType number ⌝ }
+{
+    number < 5
+}
+
+fn base_due(begun: u32) -> Due
+    ensures { λ r. ⌜ r ≡ dueOf (behind begun (ownPlan K.Base)) ⌝ }
+{
+    if begun < 1 {
+        return Due::Finish;
+    }
+    Due::Nothing
+}
+
+fn asset_due(begun: u32) -> Due
+    ensures { λ r. ⌜ r ≡ dueOf (behind begun (ownPlan K.CreateAsset)) ⌝ }
+{
+    if begun < 1 {
+        return Due::Field(FieldName::Name);
+    }
+    if begun < 2 {
+        return Due::Field(FieldName::Symbol);
+    }
+    if begun < 3 {
+        return Due::Field(FieldName::Denomination);
+    }
+    if begun < 4 {
+        return Due::List(ListName::State, 1);
+    }
+    if begun < 5 {
+        return Due::Finish;
+    }
+    Due::Nothing
+}
+
+fn operation_due(begun: u32) -> Due
+    ensures { λ r. ⌜ r ≡ dueOf (behind begun (ownPlan K.Operation)) ⌝ }
+{
+    if begun < 1 {
+        return Due::List(ListName::Operation, 1);
+    }
+    if begun < 2 {
+        return Due::Finish;
+    }
+    Due::Nothing
+}
+
+fn import_due(begun: u32) -> Due
+    ensures { λ r. ⌜ r ≡ dueOf (behind begun (ownPlan K.Import)) ⌝ }
+{
+    if begun < 1 {
+        return Due::Field(FieldName::Chain);
+    }
+    if begun < 2 {
+        return Due::List(ListName::Imported, 1);
+    }
+    if begun < 3 {
+        return Due::Finish;
+    }
+    Due::Nothing
+}
+
+fn export_due(begun: u32) -> Due
+    ensures { λ r. ⌜ r ≡ dueOf (behind begun (ownPlan K.Export)) ⌝ }
+{
+    if begun < 1 {
+        return Due::Field(FieldName::Chain);
+    }
+    if begun < 2 {
+        return Due::List(ListName::Exported, 1);
+    }
+    if begun < 3 {
+        return Due::Finish;
+    }
+    Due::Nothing
+}
+
+// Behind the memo.
+fn own_due(type_id: u32, begun: u32) -> Due
+    ensures { λ r. ⌜ r ≡ dueOf (behind begun (ownPlan (typeOf «type_id»))) ⌝ }
+{
+    if type_id == 0 {
+        return base_due(begun);
+    }
+    if type_id == 1 {
+        return asset_due(begun);
+    }
+    if type_id == 2 {
+        return operation_due(begun);
+    }
+    if type_id == 3 {
+        return import_due(begun);
+    }
+    export_due(begun)
+}
+
+pub fn due_at(type_id: u32, phase: u32) -> Due
+    ensures { λ r. ⌜ r ≡ dueOf (due phase (planOf «type_id»)) ⌝ }
+{
+    if phase < 1 {
+        return Due::Nothing;
+    }
+    if phase < 2 {
+        return Due::List(ListName::Output, 0);
+    }
+    if phase < 3 {
+        return Due::List(ListName::Input, 0);
+    }
+    if phase < 4 {
+        return Due::Field(FieldName::Memo);
+    }
+    own_due(type_id, phase - 4)
+}
+
+// ---- fields, by their names
+
+// The place behind a field; a memo has at most so many bytes.
+pub fn field_end(s: &[u8], at: usize, field: FieldName, most: u64) -> End
+    ensures { λ r. ⌜ r ≡ ended (contentOf most field) (now (s .entry)) at ⌝ }
+{
+    match field {
+        FieldName::Memo => string::string_at(s, at, most),
+        FieldName::Name => string::text_at(s, at, string::NAME_MOST),
+        FieldName::Symbol => string::text_at(s, at, string::SYMBOL_MOST),
+        FieldName::Denomination => string::denomination_at(s, at),
+        FieldName::Chain => wire::field_at(s, at, 32),
+    }
+}
+
+// The type of the credential that a field asks for; 0 where it asks for none.
+pub fn field_credential(field: FieldName) -> u64
+    ensures { λ r. ⌜ r ≡ credentialAsked (fieldCredential field) ⌝ }
+{
+    match field {
+        FieldName::Memo => 0,
+        FieldName::Name => 0,
+        FieldName::Symbol => 0,
+        FieldName::Denomination => 0,
+        FieldName::Chain => 0,
+    }
+}
+
+fn place_of(read: End, other: usize) -> usize
+    ensures { λ r. ⌜ r ≡ placeOf read other ⌝ }
+{
+    match read {
+        End::At(next) => next,
+        End::Refused(_) => other,
+    }
+}
+
+// The place behind a field that was read, by its length.
+pub fn field_past(s: &[u8], at: usize, field: FieldName) -> usize
+    ensures { λ r. ⌜ FieldPast field (now (s .entry)) at r ⌝ }
+{
+    match field {
+        FieldName::Memo => place_of(string::string_past(s, at), at),
+        FieldName::Name => place_of(string::text_past(s, at), at),
+        FieldName::Symbol => place_of(string::text_past(s, at), at),
+        FieldName::Denomination => place_of(wire::field_at(s, at, 1), at),
+        FieldName::Chain => place_of(wire::field_at(s, at, 32), at),
+    }
+}
+
+// How many signatures a field that was read asks for.
+pub fn field_signatures(s: &[u8], at: usize, field: FieldName) -> u64
+    ensures { λ r. ⌜ FieldSigns field (now (s .entry)) at r ⌝ }
+{
+    match field {
+        FieldName::Memo => 0,
+        FieldName::Name => 0,
+        FieldName::Symbol => 0,
+        FieldName::Denomination => 0,
+        FieldName::Chain => 0,
+    }
+}
+
+// ---- lists, by their names
+
+// The place behind so many elements.
+pub fn elements_from(s: &[u8], first: usize, count: u64, list: ListName) -> End
+    ensures { λ r. ⌜ r ≡ ended (series (elementsOf list .element) count) (now (s .entry)) first ⌝ }
+{
+    match list {
+        ListName::Output => element::outputs::outputs_from(s, first, count),
+        ListName::Input => element::inputs::inputs_from(s, first, count),
+        ListName::State => element::operations::states_from(s, first, count),
+        ListName::Operation => element::operations::operations_from(s, first, count),
+        ListName::Imported => element::inputs::inputs_from(s, first, count),
+        ListName::Exported => element::outputs::outputs_from(s, first, count),
+    }
+}
+
+// The type of the credential that each element asks for; 0 where it asks for none.
+pub fn credential_of(list: ListName) -> u64
+    ensures { λ r. ⌜ r ≡ credentialAsked (elementsOf list .credential) ⌝ }
+{
+    match list {
+        ListName::Output => 0,
+        ListName::Input => transaction::SECP_CREDENTIAL,
+        ListName::State => 0,
+        ListName::Operation => transaction::NFT_CREDENTIAL,
+        ListName::Imported => transaction::SECP_CREDENTIAL,
+        ListName::Exported => 0,
+    }
+}
+
+// An element that asks for nothing, passed.
+fn silent(read: End) -> Integer
+    ensures { λ r. ⌜ r ≡ silentOf read ⌝ }
+{
+    match read {
+        End::At(next) => Integer::Value(0, next),
+        End::Refused(refusal) => Integer::Refused(refusal),
+    }
+}
+
+// How many signatures an element that was read asks for, and the place behind it, by its lengths.
+pub fn element_past(s: &[u8], at: usize, list: ListName) -> Integer
+    ensures { λ r. ⌜ ElementTells list (now (s .entry)) at r ⌝ }
+{
+    match list {
+        ListName::Output => silent(element::lengths::transferable_past(s, at)),
+        ListName::Input => element::lengths::input_past(s, at),
+        ListName::State => silent(element::lengths::state_past(s, at)),
+        ListName::Operation => element::lengths::operation_past(s, at),
+        ListName::Imported => element::lengths::input_past(s, at),
+        ListName::Exported => silent(element::lengths::transferable_past(s, at)),
+    }
+}
+
+// The place behind so many elements that were read.
+pub fn elements_past(s: &[u8], first: usize, count: u64, list: ListName) -> End
+    ensures { λ r. ⌜ ElementsPast list count (now (s .entry)) first r ⌝ }
+{
+    let mut left = count;
+    let mut at = first;
+    while 0 < left {
+        match element_past(s, at, list) {
+            Integer::Refused(refusal) => {
+                return End::Refused(refusal);
+            }
+            Integer::Value(_, next) => {
+                at = next;
+                left -= 1;
+            }
+        }
+    }
+    End::At(at)
+}
+
+// An element that was read and asks for a credential of that type, whatever its list.
+pub fn asking_past(s: &[u8], at: usize, credential: u64) -> Integer
+    ensures { λ r. ⌜ AskingTells credential (now (s .entry)) at r ⌝ }
+{
+    if credential == transaction::NFT_CREDENTIAL {
+        return element::lengths::operation_past(s, at);
+    }
+    element::lengths::input_past(s, at)
+}
+
+// The kind of an element's entry; an initial state's outputs are entries of this kind.
+pub fn entry_of(list: ListName) -> u32
+    ensures { λ r. ⌜ r ≡ entryOf list ⌝ }
+{
+    match list {
+        ListName::Output => 1,
+        ListName::Input => 2,
+        ListName::State => 6,
+        ListName::Operation => 3,
+        ListName::Imported => 4,
+        ListName::Exported => 5,
+    }
+}

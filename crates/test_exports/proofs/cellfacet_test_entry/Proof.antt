@@ -1,0 +1,19 @@
+-- `test_exports::cellfacet_test_entry` meets its contract. Assumes nothing.
+use borrow.Author.Needs.{needs}
+use Rattle.test_exports.proofs.Putting.{told-entry}
+use Rattle.test_exports.proofs.cellfacet_test_entry.Statement.{statement}
+use Rattle.test_exports.proofs.cellfacet_test_entry.Tie as tie
+
+pub cellfacet-test-entry-spec : {M : Type 1} → statement M
+cellfacet-test-entry-spec =
+    tie.close
+    (tie.spec
+    (λ c κs. search needs)  -- entry-requires
+    (λ c κs. search needs)  -- put-answer-requires
+    (λ c κs. search needs)  -- put-bytes-requires
+    (λ c κs. search needs)  -- put-bytes-requires-2
+    (λ c. search needs)  -- same-length
+    (λ c. search needs)  -- same-length-2
+    (λ c. search needs)  -- same-length-3
+    (λ c. told-entry _ _ _
+    (c .before .before .before .before .before .before .before .before .before .before .before .before .before .before .before .before .before .before .before .before .before .before .before .args .asset .now) (c .before .before .before .before .before .before .before .before .before .before .before .before .before .before .before .before .before .before .before .before .before .before .before .args .txid .now) _ _ _ (c .before .before .before .before .before .before .before .before .before .before .before .before .before .before .before .before .before .before .entry .ensures) (c .before .before .before .before .before .before .before .before .before .before .before .before .before .before .before .before .put-answer .ensures) (c .before .before .before .before .before .before .before .before .before .put-bytes .ensures) (c .before .before .put-bytes2 .ensures)))  -- returns

@@ -1,0 +1,23 @@
+-- `test_exports::cellfacet_test_table` meets its contract. Assumes nothing.
+use borrow.Author.Needs.{needs}
+use Rattle.test_exports.proofs.Telling.{telling}
+use Rattle.test_exports.proofs.cellfacet_test_table.Statement.{statement}
+use Rattle.test_exports.proofs.cellfacet_test_table.Tie as tie
+
+pub cellfacet-test-table-spec : {M : Type 1} → statement M
+cellfacet-test-table-spec =
+    tie.close
+    (tie.spec
+    (λ c κs. search needs)  -- check-table-requires
+    (λ c. search needs)  -- enum-known-rows
+    (λ c. search needs)  -- mul-result
+    (λ c. search needs)  -- add-result
+    (λ c. search needs)  -- enum-known-refusal
+    (λ c κs. search needs)  -- number-of-requires
+    (λ c. search needs)  -- cast-result
+    (λ c. search needs)  -- mul-result-2
+    (λ c. search needs)  -- add-result-2
+    (λ c. search needs)  -- same-length
+    (λ c. search telling)  -- returns
+    (λ c. search needs)  -- same-length-2
+    (λ c. search telling))  -- returns-2

@@ -1,0 +1,15 @@
+-- `test_exports::put` meets its contract. Assumes nothing.
+use borrow.Author.Needs.{needs}
+use Rattle.test_exports.proofs.Putting.{put-past}
+use Rattle.test_exports.proofs.put.Statement.{statement}
+use Rattle.test_exports.proofs.put.Tie as tie
+
+pub put-spec : {M : Type 1} → statement M
+put-spec =
+    tie.close
+    (tie.spec
+    (λ c. search needs)  -- mul-numbers
+    (λ c. search needs)  -- slice-write-numbers
+    (λ c. search needs)  -- same-length
+    (λ c. search needs)  -- returns
+    (λ c. search (put-past, needs)))  -- returns-2

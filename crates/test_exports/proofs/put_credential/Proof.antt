@@ -1,0 +1,17 @@
+-- `test_exports::put_credential` meets its contract. Assumes nothing.
+use borrow.Author.Needs.{needs}
+use Rattle.test_exports.proofs.Putting.{put-one, put-none}
+use Rattle.test_exports.proofs.put_credential.Statement.{statement}
+use Rattle.test_exports.proofs.put_credential.Tie as tie
+
+pub put-credential-spec : {M : Type 1} → statement M
+put-credential-spec =
+    tie.close
+    (tie.spec
+    (λ c κs. search needs)  -- store-requires
+    (λ c κs. search needs)  -- store-requires-2
+    (λ c κs. search needs)  -- store-requires-3
+    (λ c. search needs)  -- same-length
+    (λ c. put-one _ _ _ _ _ _ (c .before .before .before .before .before .before .before .before .before .before .put .ensures)
+    (put-one _ _ _ _ _ _ (c .before .before .before .before .before .before .put2 .ensures)
+    (put-one _ _ _ _ _ _ (c .before .before .put3 .ensures) (put-none _)))))  -- returns

@@ -1,0 +1,53 @@
+-- `test_exports::put_entry` meets its contract. Assumes nothing.
+use borrow.Author.Needs.{needs}
+use Rattle.test_exports.specs.Values.{entryValues}
+use Rattle.test_exports.proofs.Putting.{put-one, by-case}
+use Rattle.test_exports.proofs.put_entry.Statement.{statement}
+use Rattle.test_exports.proofs.put_entry.Tie as tie
+
+pub put-entry-spec : {M : Type 1} → statement M
+put-entry-spec =
+    tie.close
+    (tie.spec
+    (λ c. search needs)  -- enum-known-entry
+    (λ c κs. search needs)  -- store-requires
+    (λ c κs. search needs)  -- put-output-requires
+    (λ c. search needs)  -- enum-known-entry-2
+    (λ c κs. search needs)  -- store-requires-2
+    (λ c κs. search needs)  -- put-input-requires
+    (λ c. search needs)  -- enum-known-entry-3
+    (λ c κs. search needs)  -- store-requires-3
+    (λ c κs. search needs)  -- put-operation-requires
+    (λ c. search needs)  -- enum-known-entry-4
+    (λ c κs. search needs)  -- store-requires-4
+    (λ c κs. search needs)  -- put-input-requires-2
+    (λ c. search needs)  -- enum-known-entry-5
+    (λ c κs. search needs)  -- store-requires-5
+    (λ c κs. search needs)  -- put-output-requires-2
+    (λ c. search needs)  -- enum-known-entry-6
+    (λ c κs. search needs)  -- store-requires-6
+    (λ c κs. search needs)  -- put-output-requires-3
+    (λ c. search needs)  -- enum-known-entry-7
+    (λ c κs. search needs)  -- store-requires-7
+    (λ c κs. search needs)  -- put-credential-requires
+    (λ c. search needs)  -- same-length
+    (λ c. by-case entryValues _ _ _ _ (c .before .before .before .before .before .before .before .before .before .entry .given .1)
+    (put-one _ _ _ _ _ _ (c .before .before .before .before .before .before .put .ensures) (c .before .before .put-output .ensures)))  -- returns
+    (λ c. search needs)  -- same-length-2
+    (λ c. by-case entryValues _ _ _ _ (c .before .before .before .before .before .before .before .before .before .entry2 .given .1)
+    (put-one _ _ _ _ _ _ (c .before .before .before .before .before .before .put2 .ensures) (c .before .before .put-input .ensures)))  -- returns-2
+    (λ c. search needs)  -- same-length-3
+    (λ c. by-case entryValues _ _ _ _ (c .before .before .before .before .before .before .before .before .before .entry3 .given .1)
+    (put-one _ _ _ _ _ _ (c .before .before .before .before .before .before .put3 .ensures) (c .before .before .put-operation .ensures)))  -- returns-3
+    (λ c. search needs)  -- same-length-4
+    (λ c. by-case entryValues _ _ _ _ (c .before .before .before .before .before .before .before .before .before .entry4 .given .1)
+    (put-one _ _ _ _ _ _ (c .before .before .before .before .before .before .put4 .ensures) (c .before .before .put-input2 .ensures)))  -- returns-4
+    (λ c. search needs)  -- same-length-5
+    (λ c. by-case entryValues _ _ _ _ (c .before .before .before .before .before .before .before .before .before .entry5 .given .1)
+    (put-one _ _ _ _ _ _ (c .before .before .before .before .before .before .put5 .ensures) (c .before .before .put-output2 .ensures)))  -- returns-5
+    (λ c. search needs)  -- same-length-6
+    (λ c. by-case entryValues _ _ _ _ (c .before .before .before .before .before .before .before .before .before .entry6 .given .1)
+    (put-one _ _ _ _ _ _ (c .before .before .before .before .before .before .put6 .ensures) (c .before .before .put-output3 .ensures)))  -- returns-6
+    (λ c. search needs)  -- same-length-7
+    (λ c. by-case entryValues _ _ _ _ (c .before .before .before .before .before .before .before .before .before .entry7 .given .1)
+    (put-one _ _ _ _ _ _ (c .before .before .before .before .before .before .put7 .ensures) (c .before .before .put-credential .ensures))))  -- returns-7

@@ -1,0 +1,20 @@
+-- `test_exports::put_owners` meets its contract. Assumes nothing.
+use borrow.Author.Needs.{needs}
+use Rattle.test_exports.proofs.Putting.{put-one, put-none}
+use Rattle.test_exports.proofs.put_owners.Statement.{statement}
+use Rattle.test_exports.proofs.put_owners.Tie as tie
+
+pub put-owners-spec : {M : Type 1} → statement M
+put-owners-spec =
+    tie.close
+    (tie.spec
+    (λ c κs. search needs)  -- store-requires
+    (λ c κs. search needs)  -- store-requires-2
+    (λ c κs. search needs)  -- store-requires-3
+    (λ c κs. search needs)  -- store-requires-4
+    (λ c. search needs)  -- same-length
+    (λ c. put-one _ _ _ _ _ _
+    (c .before .before .before .before .before .before .before .before .before .before .before .before .before .before .put .ensures)
+    (put-one _ _ _ _ _ _ (c .before .before .before .before .before .before .before .before .before .before .put2 .ensures)
+    (put-one _ _ _ _ _ _ (c .before .before .before .before .before .before .put3 .ensures)
+    (put-one _ _ _ _ _ _ (c .before .before .put4 .ensures) (put-none _))))))  -- returns

@@ -1,0 +1,27 @@
+-- `test_exports::put_recipients` meets its contract. Assumes nothing.
+use borrow.Author.Needs.{needs}
+use Rattle.test_exports.specs.Values.{recipientsValues}
+use Rattle.test_exports.proofs.Putting.{put-one, put-none, by-case}
+use Rattle.test_exports.proofs.put_recipients.Statement.{statement}
+use Rattle.test_exports.proofs.put_recipients.Tie as tie
+
+pub put-recipients-spec : {M : Type 1} → statement M
+put-recipients-spec =
+    tie.close
+    (tie.spec
+    (λ c. search needs)  -- enum-known-recipients
+    (λ c κs. search needs)  -- store-requires
+    (λ c κs. search needs)  -- store-requires-2
+    (λ c κs. search needs)  -- store-requires-3
+    (λ c. search needs)  -- enum-known-recipients-2
+    (λ c κs. search needs)  -- store-requires-4
+    (λ c κs. search needs)  -- put-owners-requires
+    (λ c. search needs)  -- same-length
+    (λ c. by-case recipientsValues _ _ _ _
+    (c .before .before .before .before .before .before .before .before .before .before .before .before .before .recipients .given .1)
+    (put-one _ _ _ _ _ _ (c .before .before .before .before .before .before .before .before .before .before .put .ensures)
+    (put-one _ _ _ _ _ _ (c .before .before .before .before .before .before .put2 .ensures)
+    (put-one _ _ _ _ _ _ (c .before .before .put3 .ensures) (put-none _)))))  -- returns
+    (λ c. search needs)  -- same-length-2
+    (λ c. by-case recipientsValues _ _ _ _ (c .before .before .before .before .before .before .before .before .before .recipients2 .given .1)
+    (put-one _ _ _ _ _ _ (c .before .before .before .before .before .before .put4 .ensures) (c .before .before .put-owners .ensures))))  -- returns-2

@@ -1,0 +1,25 @@
+-- The answer of the check with a lent table as one number of 64 bits, with what the table holds then. Assumes nothing.
+use Prim.Native.Nat.{ℕ, _+_, _*_, _%_}
+use mathlib.Core.List.{List, [], _∷_}
+use Rattle.entry_table.specs.Table.{Filled, tabledNumber, tabledPlace, tabledRows}
+use Rattle.entry_table.specs.declared.Tabled.{Tabled}
+use Rattle.draft.specs.Calls.{answerNumber, answerPlace}
+use Rattle.draft.specs.declared.Answer.{Answer}
+
+pub record Probed : Type 0 where
+  pub answer : ℕ
+  pub table : List ℕ
+
+abbrev pub probed : ℕ → List ℕ → Probed
+probed a t = record { answer = a; table = t }
+
+-- number × 2^40 + rows × 2^20 + place
+abbrev pub packed : Tabled → ℕ
+packed a = tabledNumber a % 1048576 * 1099511627776 + (tabledRows a % 1048576 * 1048576 + tabledPlace a % 1048576)
+
+abbrev pub encoded : Filled → Probed
+encoded f = probed (packed (f .answer)) (f .table)
+
+-- the answer to a fill as number and place, with what the draft holds then
+abbrev pub encodedFill : Answer × List ℕ → List ℕ × List ℕ
+encodedFill (a, d) = (answerNumber a ∷ answerPlace a ∷ [], d)

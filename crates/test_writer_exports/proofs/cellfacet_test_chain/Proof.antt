@@ -1,0 +1,19 @@
+-- `test_writer_exports::cellfacet_test_chain` meets its contract. Assumes nothing.
+use borrow.Author.Needs.{needs}
+use Rattle.transaction.specs.Answer.{memoMost}
+use Rattle.writer.specs.Fields.{putChain}
+use Rattle.test_writer_exports.proofs.Telling.{step-encoded}
+use Rattle.test_writer_exports.proofs.cellfacet_test_chain.Statement.{statement}
+use Rattle.test_writer_exports.proofs.cellfacet_test_chain.Tie as tie
+
+pub cellfacet-test-chain-spec : {M : Type 1} → statement M
+cellfacet-test-chain-spec =
+    tie.close
+    (tie.spec
+    (λ c κs. search needs)  -- writer-of-requires
+    (λ c κs. search needs)  -- chain-requires
+    (λ c κs. search needs)  -- numbers-of-requires
+    (λ c. search needs)  -- same-length
+    (λ c. let a = c .before .before .before .before .before .before .before .before .before .args in
+    step-encoded (λ w. putChain memoMost w (a .buf .now) (a .id .now)) _ _ _ _ _
+    (c .before .before .before .before .before .before .writer-of .ensures) (c .before .before .before .chain .ensures) (c .numbers-of .ensures)))  -- returns

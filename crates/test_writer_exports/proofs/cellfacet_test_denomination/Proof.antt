@@ -1,0 +1,19 @@
+-- `test_writer_exports::cellfacet_test_denomination` meets its contract. Assumes nothing.
+use borrow.Author.Needs.{needs}
+use Rattle.transaction.specs.Answer.{memoMost}
+use Rattle.writer.specs.Fields.{putDenomination}
+use Rattle.test_writer_exports.proofs.Telling.{step-encoded}
+use Rattle.test_writer_exports.proofs.cellfacet_test_denomination.Statement.{statement}
+use Rattle.test_writer_exports.proofs.cellfacet_test_denomination.Tie as tie
+
+pub cellfacet-test-denomination-spec : {M : Type 1} → statement M
+cellfacet-test-denomination-spec =
+    tie.close
+    (tie.spec
+    (λ c κs. search needs)  -- writer-of-requires
+    (λ c κs. search needs)  -- denomination-requires
+    (λ c κs. search needs)  -- numbers-of-requires
+    (λ c. search needs)  -- same-length
+    (λ c. let a = c .before .before .before .before .before .before .before .before .args in
+    step-encoded (λ w. putDenomination memoMost w (a .buf .now) (a .value)) _ _ _ _ _
+    (c .before .before .before .before .before .writer-of .ensures) (c .before .before .before .denomination .ensures) (c .numbers-of .ensures)))  -- returns

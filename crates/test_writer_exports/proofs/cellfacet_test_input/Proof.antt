@@ -1,0 +1,20 @@
+-- `test_writer_exports::cellfacet_test_input` meets its contract. Assumes nothing.
+use borrow.Author.Needs.{needs}
+use Rattle.transaction.specs.Answer.{memoMost}
+use Rattle.writer.specs.Fields.{addInput}
+use Rattle.test_writer_exports.proofs.Telling.{step-encoded}
+use Rattle.test_writer_exports.proofs.cellfacet_test_input.Statement.{statement}
+use Rattle.test_writer_exports.proofs.cellfacet_test_input.Tie as tie
+
+pub cellfacet-test-input-spec : {M : Type 1} → statement M
+cellfacet-test-input-spec =
+    tie.close
+    (tie.spec
+    (λ c κs. search needs)  -- writer-of-requires
+    (λ c κs. search needs)  -- add-input-requires
+    (λ c κs. search needs)  -- numbers-of-requires
+    (λ c. search needs)  -- same-length
+    (λ c. let a = c .before .before .before .before .before .before .before .before .before .before .before .args in
+    step-encoded (λ w. addInput memoMost w (a .buf .now) (a .txid .now) (a .index) (a .asset .now) (a .amount) (a .indices .now)) _ _ _ _ _
+    (c .before .before .before .before .before .before .before .writer-of .ensures) (c .before .before .before .add-input .ensures)
+    (c .numbers-of .ensures)))  -- returns

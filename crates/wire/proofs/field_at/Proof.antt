@@ -1,0 +1,15 @@
+-- `wire::field_at` meets its contract. Assumes nothing.
+use borrow.Author.Needs.{needs}
+use Rattle.wire.proofs.Reading.{leaf, room-fits}
+use Rattle.wire.proofs.field_at.Statement.{statement}
+use Rattle.wire.proofs.field_at.Tie as tie
+
+pub field-at-spec : {M : Type 1} → statement M
+field-at-spec =
+    tie.close
+    (tie.spec
+    (λ c κs. search needs)  -- are-there-requires
+    (λ c. search (needs, room-fits))  -- add-t5
+    (λ c. search leaf)  -- returns
+    (λ c κs. search needs)  -- cut-requires
+    (λ c. search leaf))  -- returns-2

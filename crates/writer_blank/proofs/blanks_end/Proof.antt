@@ -1,0 +1,66 @@
+-- `writer_blank::blanks_end` meets its contract. The invariant: what is left, from here, gives the whole. Assumes nothing.
+use Prim.Native.Nat.{_≤_}
+use mathlib.Core.Path.{_≡_}
+use native.Mathlib.Omega.{arith}
+use lib.ListN.{length}
+use borrow.Author.Needs.{needs}
+use Rattle.wire.specs.declared.End.{End}
+use Rattle.writer_blank.specs.Closing.{blankBytes, fitted, OfAhead}
+use Rattle.writer_blank.proofs.Blanks.{fitted-next}
+use Rattle.writer_blank.proofs.Loops.{of-end, end-full, end-on, end-none}
+use Rattle.writer_blank.proofs.blanks_end.Statement.{statement}
+use Rattle.writer_blank.proofs.blanks_end.Tie as tie
+
+abbrev Inv-loop : tie.InvT-loop
+Inv-loop s «type_id» count start limit phase₀ asks₀ q₀ elements₀ left₀ at₀ phase asks q elements left at =
+    ((r : End) → OfAhead «type_id» s record { phase = phase; asks = asks; at = q; left = elements } left (λ ws. r ≡ fitted at (length (blankBytes ws)) limit)
+    → OfAhead «type_id» s record { phase = phase₀; asks = asks₀; at = q₀; left = elements₀ } count (λ ws. r ≡ fitted start (length (blankBytes ws)) limit))
+    × (at ≤ limit)
+
+abbrev μ-loop : tie.MeasureT-loop
+μ-loop s «type_id» count start limit phase₀ asks₀ q₀ elements₀ left₀ at₀ phase asks q elements left at = left
+
+pub blanks-end-spec : {M : Type 1} → statement M
+blanks-end-spec =
+    tie.close
+    (tie.spec
+    Inv-loop
+    μ-loop
+    (λ c. (λ r h. h, omega arith))  -- loop-holds
+    (λ c κs. search needs)  -- next-wanted-requires
+    (λ c. search needs)  -- enum-known-signatures
+    (λ c. search needs)  -- enum-told
+    (λ c.
+    let l = c .before .before .before .before .loop in
+    let n = c .before .before in
+    let a = n .before .before .before .before .args in
+    l .inv .0 _ (of-end (a .s .now) (a .type-id) record { phase = l .phase; asks = l .asks; at = l .q; left = l .elements } (l .left) _
+    (n .next-wanted .ensures) _ (n .before .loop-test .taken) (c .enum-told .given .1)))  -- returns
+    (λ c κs. search needs)  -- blank-end-requires
+    (λ c. search needs)  -- enum-known-refusal
+    (λ c.
+    let b = c .before .before .before in
+    let n = b .before .before .before .before in
+    let l = n .before .before .loop in
+    let a = n .before .before .before .before .args in
+    l .inv .0 _ (end-full (a .s .now) (a .type-id) record { phase = l .phase; asks = l .asks; at = l .q; left = l .elements } (l .left) _
+    (n .next-wanted .ensures) _ _ _
+    (b .before .before .signatures .given .1) (l .at) _ _ (b .blank-end .ensures) _ (c .before .refusal .given .1)))  -- returns-2
+    (λ c. search needs)  -- enum-known-end
+    (λ c. search needs)  -- sub-left
+    (λ c. search needs)  -- loop-less
+    (λ c.
+    let b = c .before .before .before in
+    let n = b .before .before .before .before in
+    let l = n .before .before .loop in
+    let a = n .before .before .before .before .args in (
+      λ r h. l .inv .0 r (end-on (a .s .now) (a .type-id) record { phase = l .phase; asks = l .asks; at = l .q; left = l .elements } (l .left) _
+          (n .next-wanted .ensures) _ _ _
+          (b .before .before .signatures .given .1) (l .at) _ _ (b .blank-end .ensures) r _ (c .before .end .given .1) h),
+      fitted-next _ _ _ _ (b .blank-end .ensures) _ (c .before .end .given .1) .1,
+    ))  -- loop-again
+    (λ c.
+    let l = c .before .loop in
+    let a = c .before .before .before .args in
+    l .inv .0 _ (end-none (a .type-id) (a .s .now) record { phase = l .phase; asks = l .asks; at = l .q; left = l .elements } (l .left) (l .at) (a .limit)
+    (omega arith) (omega arith))))  -- returns-3

@@ -1,0 +1,39 @@
+-- `writer_blank::close_layout` meets its contract. Assumes nothing.
+use native.Mathlib.Omega.{arith}
+use lib.ListN.{length-take}
+use borrow.Author.Needs.{needs}
+use Rattle.writer_blank.proofs.Ending.{close-room, close-done, close-full}
+use Rattle.writer_blank.proofs.close_layout.Statement.{statement}
+use Rattle.writer_blank.proofs.close_layout.Tie as tie
+
+pub close-layout-spec : {M : Type 1} → statement M
+close-layout-spec =
+    tie.close
+    (tie.spec
+    (λ c κs. search needs)  -- most-in-requires
+    (λ c. search needs)  -- slice-reshare-prefix-closing-end
+    (λ c. simp length-take (omega arith))  -- slice-aggregate-closing-end
+    (λ c κs. search needs)  -- closing-end-requires
+    (λ c. search needs)  -- enum-known-refusal
+    (λ c. search needs)  -- enum-known-end
+    (λ c κs.
+    let e = c .before .before .before .before in
+    let m = e .before .before in
+    let s = m .before .before in
+    let a = s .args in
+    close-room (a .layout) (a .buf .now) (a .at) _ (m .most-in .ensures) _ (e .closing-end .ensures)
+    (s .pre .1) _ (c .before .before .end .given .1))  -- put-closing-requires
+    (λ c. search needs)  -- same-length
+    (λ c.
+    let e = c .before .before .before in
+    let m = e .before .before in
+    let a = m .before .before .args in
+    close-full (a .layout) (a .buf .now) (a .at) _ (m .most-in .ensures) _ (e .closing-end .ensures) _ (c .before .refusal .given .1))  -- returns
+    (λ c. search needs)  -- same-length-2
+    (λ c.
+    let p = c .before .before in
+    let e = p .before .before .before .before .before in
+    let m = e .before .before in
+    let a = m .before .before .args in
+    close-done (a .layout) (a .buf .now) (a .at) _ (m .most-in .ensures) _ (e .closing-end .ensures) _
+    (p .before .before .before .end .given .1) _ (p .put-closing .ensures)))  -- returns-2

@@ -1,0 +1,24 @@
+-- `writer_blank::closing_end` meets its contract. Assumes nothing.
+use native.Mathlib.Omega.{arith}
+use borrow.Author.Needs.{needs}
+use Rattle.writer_blank.proofs.Loops.{closing-full, closing-on}
+use Rattle.writer_blank.proofs.closing_end.Statement.{statement}
+use Rattle.writer_blank.proofs.closing_end.Tie as tie
+
+pub closing-end-spec : {M : Type 1} → statement M
+closing-end-spec =
+    tie.close
+    (tie.spec
+    (λ c κs. search needs)  -- refuse-requires
+    (λ c.
+    let a = c .before .before .before .args in
+    closing-full (a .layout) (a .s .now) (a .at) (a .limit) (omega arith) _ (c .before .refuse .ensures))  -- returns
+    (λ c.
+    let a = c .before .before .before .before .args in
+    closing-full (a .layout) (a .s .now) (a .at) (a .limit) (omega arith) _ (c .before .before .refuse .ensures))  -- returns-2
+    (λ c κs. search needs)  -- first-wanting-requires
+    (λ c. search needs)  -- add-blanks-end
+    (λ c κs. search needs)  -- blanks-end-requires
+    (λ c.
+    let a = c .before .before .before .before .before .before .args in
+    closing-on (a .layout) (a .s .now) (a .at) _ (c .before .first-wanting .ensures) (a .limit) _ (c .blanks-end .ensures)))  -- returns-3

@@ -1,0 +1,30 @@
+-- `writer_blank::put_blank` meets its contract. Assumes nothing.
+use native.Mathlib.Omega.{arith}
+use borrow.Author.Needs.{needs}
+use Rattle.transaction.specs.Slots.{signatureWidth}
+use Rattle.writer_blank.proofs.Blanks.{blank-back}
+use Rattle.writer_blank.proofs.put_blank.Statement.{statement}
+use Rattle.writer_blank.proofs.put_blank.Tie as tie
+
+pub put-blank-spec : {M : Type 1} → statement M
+unfolding signatureWidth
+put-blank-spec =
+    tie.close
+    (tie.spec
+    (λ c. search needs)  -- add-first
+    (λ c. search needs)  -- mul-width
+    (λ c κs. search needs)  -- put-u32-requires
+    (λ c. search needs)  -- add-put-u32
+    (λ c κs. search needs)  -- put-u32-requires-2
+    (λ c κs. search needs)  -- put-zeros-requires
+    (λ c. search needs)  -- add
+    (λ c. search needs)  -- same-length
+    (λ c.
+    let z = c .before .before in
+    let second = z .before .before .before .before in
+    let first = second .before .before .before .before in
+    let a = first .before .before .before .args in (
+      omega arith,
+      blank-back (a .buf .now) _ _ _ (a .at) (a .code) (a .count) (omega arith) (omega arith) (omega arith)
+          (first .put-u32 .ensures) (second .put-u322 .ensures) (z .put-zeros .ensures),
+    )))  -- returns

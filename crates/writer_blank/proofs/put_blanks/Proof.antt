@@ -1,0 +1,47 @@
+-- `writer_blank::put_blanks` meets its contract. The invariant: what is left to write, from here, makes the whole. Assumes nothing.
+use native.Mathlib.Omega.{arith}
+use lib.ListN.{length-take}
+use borrow.Author.Needs.{needs}
+use Rattle.writer_blank.proofs.Loops.{Writing, writing-begins, writing-front, writing-none, writing-end, writing-room, writing-on}
+use Rattle.writer_blank.proofs.put_blanks.Statement.{statement}
+use Rattle.writer_blank.proofs.put_blanks.Tie as tie
+
+abbrev Inv-loop : tie.InvT-loop
+Inv-loop buf₀ end «type_id» count start phase₀ asks₀ q₀ elements₀ owed₀ at₀ buf phase asks q elements owed at =
+    Writing buf₀ end «type_id» record { phase = phase₀; asks = asks₀; at = q₀; left = elements₀ } count start buf
+    record { phase = phase; asks = asks; at = q; left = elements } owed at
+
+abbrev μ-loop : tie.MeasureT-loop
+μ-loop buf₀ end «type_id» count start phase₀ asks₀ q₀ elements₀ owed₀ at₀ buf phase asks q elements owed at = owed
+
+pub put-blanks-spec : {M : Type 1} → statement M
+put-blanks-spec =
+    tie.close
+    (tie.spec
+    Inv-loop
+    μ-loop
+    (λ c. writing-begins (c .before .pre))  -- loop-holds
+    (λ c. writing-front (c .before .loop .inv))  -- slice-reshare-prefix-next-wanted
+    (λ c. simp length-take (omega (arith, writing-front (c .before .before .loop .inv))))  -- slice-aggregate-next-wanted
+    (λ c κs. search needs)  -- next-wanted-requires
+    (λ c. search needs)  -- enum-known-code
+    (λ c. search needs)  -- enum-told
+    (λ c. search needs)  -- same-length
+    (λ c.
+    let n = c .before .before in
+    let l = n .before .before .before .loop in
+    writing-end (l .inv) _ (n .next-wanted .ensures) (n .before .before .loop-test .taken) (c .enum-told .given .1))  -- returns
+    (λ c κs.
+    let n = c .before .before .before .before in
+    let l = n .before .before .before .loop in
+    writing-room (l .inv) _ (n .next-wanted .ensures) _ _ _ (c .before .before .code .given .1))  -- put-blank-requires
+    (λ c. search needs)  -- sub-owed
+    (λ c. search needs)  -- loop-less
+    (λ c.
+    let p = c .before .before in
+    let n = p .before .before .before .before .before in
+    let l = n .before .before .before .loop in
+    writing-on (l .inv) _ (n .next-wanted .ensures) _ _ _ (p .before .before .before .code .given .1) _ _
+    (p .put-blank .ensures .1) (p .put-blank .ensures .0))  -- loop-again
+    (λ c. search needs)  -- same-length-2
+    (λ c. writing-none (c .before .loop .inv) (omega arith)))  -- returns-2

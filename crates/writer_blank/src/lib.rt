@@ -1,0 +1,220 @@
+// The blank credentials that end a transaction: one for each that the unsigned part wants, met by the iterator that the check goes by too.
+ghost use mathlib.Core.Path.{_≡_};
+ghost use Prim.Native.Nat.{_+_, _^_, _≤_, _<_};
+ghost use lib.ListN.{length, take, replicate};
+ghost use Rattle.transaction.specs.Avm.{avm};
+ghost use Rattle.writer_buffer.specs.Stores.{overwrite, stored};
+ghost use Rattle.writer_blank.specs.Closing.{blankCredential, credentialWidth, blankBytes, closingBytes, fitted, mostIn, closed};
+ghost use Rattle.writer_blank.specs.Closing.{OfAhead, Room, AllAhead, OfAll, RoomForAll, closing, closable};
+use checker::Wanted;
+use checker::Wanting;
+use checker::asking;
+use checker::credentials;
+use transaction::Layout;
+use transaction::UnsignedRead;
+use wire::End;
+use wire::Rule;
+
+// The bytes of a credential before its signatures: its type, and how many they are.
+const HEAD_WIDTH: usize = 8;
+
+// Fills room with zeros.
+fn clear(room: &mut [u8])
+    ensures { λ _. ⌜ now (room .exit) ≡ replicate (length (now (room .entry))) 0 ⌝ }
+{
+    let mut i: usize = 0;
+    while i < room.len() {
+        room[i] = 0;
+        i += 1;
+    }
+}
+
+// Writes so many zeros from at on.
+fn put_zeros(buf: &mut [u8], at: usize, count: usize)
+    requires { ⌜ at + count ≤ length (now buf) ⌝ }
+    ensures { λ _. ⌜ now (buf .exit) ≡ overwrite (now (buf .entry)) at (replicate count 0) ⌝ }
+{
+    clear(&mut buf[at..at + count]);
+}
+
+// Writes a credential of blank signatures from at on. Answers the place behind it.
+fn put_blank(buf: &mut [u8], at: usize, code: u64, count: u64) -> usize
+    requires { ⌜ (code < 256 ^ 4) × (count < 256 ^ 4) × (at + credentialWidth count ≤ length (now buf)) ⌝ }
+    ensures { λ r. ⌜ r ≡ at + credentialWidth count ⌝ }
+    ensures { λ _. ⌜ now (buf .exit) ≡ overwrite (now (buf .entry)) at (blankCredential code count) ⌝ }
+{
+    let first = at + HEAD_WIDTH;
+    let width = transaction::SIGNATURE_WIDTH * count as usize;
+    writer_buffer::put_u32(buf, at, code);
+    writer_buffer::put_u32(buf, at + 4, count);
+    put_zeros(buf, first, width);
+    first + width
+}
+
+// The place behind a credential from at on, which ends by limit.
+fn blank_end(at: usize, count: u64, limit: usize) -> End
+    ensures { λ r. ⌜ r ≡ fitted at (credentialWidth count) limit ⌝ }
+{
+    let full = End::Refused(wire::refuse(Rule::NoRoom, 0));
+    if limit < at {
+        return full;
+    }
+    if limit - at < HEAD_WIDTH {
+        return full;
+    }
+    if (limit - at - HEAD_WIDTH) / transaction::SIGNATURE_WIDTH < count as usize {
+        return full;
+    }
+    End::At(at + HEAD_WIDTH + transaction::SIGNATURE_WIDTH * count as usize)
+}
+
+// The place behind the credentials, from start on, that are wanted ahead of a cursor, which are so many, and end by limit.
+fn blanks_end(s: &[u8], type_id: u32, from: Wanting, count: u64, start: usize, limit: usize) -> End
+    requires { ⌜ start ≤ limit ⌝ }
+    ensures { λ r. ⌜ OfAhead «type_id» (now (s .entry)) from count (λ ws. r ≡ fitted start (length (blankBytes ws)) limit) ⌝ }
+{
+    let mut phase = from.phase;
+    let mut asks = from.asks;
+    let mut q = from.at;
+    let mut elements = from.left;
+    let mut left = count;
+    let mut at = start;
+    while 0 < left {
+        let cursor = Wanting {
+            phase,
+            asks,
+            at: q,
+            left: elements,
+        };
+        let Wanted::Credential(_, signatures, next) = asking::next_wanted(s, type_id, cursor) else {
+            return End::At(at);
+        };
+        match blank_end(at, signatures, limit) {
+            End::Refused(refusal) => {
+                return End::Refused(refusal);
+            }
+            End::At(end) => {
+                phase = next.phase;
+                asks = next.asks;
+                q = next.at;
+                elements = next.left;
+                at = end;
+                left -= 1;
+            }
+        }
+    }
+    End::At(at)
+}
+
+// Writes from start on the credentials that are wanted ahead of a cursor, which are so many. What asks for them stands before end.
+fn put_blanks(buf: &mut [u8], end: usize, type_id: u32, from: Wanting, count: u64, start: usize)
+    requires { ⌜ Room «type_id» (take end (now buf)) from count end start (length (now buf)) ⌝ }
+    ensures { λ _. ⌜ OfAhead «type_id» (take end (now (buf .entry))) from count (λ ws. now (buf .exit) ≡ overwrite (now (buf .entry)) start (blankBytes ws)) ⌝ }
+{
+    let mut phase = from.phase;
+    let mut asks = from.asks;
+    let mut q = from.at;
+    let mut elements = from.left;
+    let mut owed = count;
+    let mut at = start;
+    while 0 < owed {
+        let cursor = Wanting {
+            phase,
+            asks,
+            at: q,
+            left: elements,
+        };
+        let Wanted::Credential(code, signatures, next) = asking::next_wanted(
+            &buf[..end],
+            type_id,
+            cursor,
+        ) else {
+            return;
+        };
+        at = put_blank(buf, at, code, signatures);
+        phase = next.phase;
+        asks = next.asks;
+        q = next.at;
+        elements = next.left;
+        owed -= 1;
+    }
+}
+
+// The place behind all credentials from at on, which end by limit.
+fn closing_end(s: &[u8], layout: Layout, at: usize, limit: usize) -> End
+    ensures { λ r. ⌜ OfAll layout (now (s .entry)) (λ ws. r ≡ fitted at (length (closingBytes ws)) limit) ⌝ }
+{
+    let full = End::Refused(wire::refuse(Rule::NoRoom, 0));
+    if limit < at {
+        return full;
+    }
+    if limit - at < 4 {
+        return full;
+    }
+    let from = credentials::first_wanting(layout);
+    blanks_end(
+        s,
+        layout.type_id,
+        from,
+        layout.credentials_count,
+        at + 4,
+        limit,
+    )
+}
+
+// Writes all credentials behind the unsigned part, which ends at at.
+fn put_closing(buf: &mut [u8], at: usize, layout: Layout)
+    requires { ⌜ RoomForAll layout (take at (now buf)) at (length (now buf)) ⌝ }
+    ensures { λ _. ⌜ OfAll layout (take at (now (buf .entry))) (λ ws. now (buf .exit) ≡ overwrite (now (buf .entry)) at (closingBytes ws)) ⌝ }
+{
+    let count = layout.credentials_count;
+    let from = credentials::first_wanting(layout);
+    writer_buffer::put_u32(buf, at, count);
+    put_blanks(buf, at, layout.type_id, from, count, at + 4);
+}
+
+// The most bytes that a transaction has in a buffer of that length.
+fn most_in(length: usize) -> usize
+    ensures { λ r. ⌜ r ≡ mostIn length ⌝ }
+{
+    if length < transaction::MOST_BYTES {
+        return length;
+    }
+    transaction::MOST_BYTES
+}
+
+// Writes all credentials of a layout, where there is room for them. Answers the place behind them.
+fn close_layout(buf: &mut [u8], at: usize, layout: Layout) -> End
+    requires { ⌜ (at ≤ length (now buf)) × AllAhead layout (take at (now buf)) ⌝ }
+    ensures { λ r. ⌜ OfAll layout (take at (now (buf .entry))) (λ ws. (r, now (buf .exit)) ≡ closed (now (buf .entry)) at ws) ⌝ }
+{
+    let limit = most_in(buf.len());
+    match closing_end(&buf[..at], layout, at, limit) {
+        End::Refused(refusal) => End::Refused(refusal),
+        End::At(end) => {
+            put_closing(buf, at, layout);
+            End::At(end)
+        }
+    }
+}
+
+// Reads the unsigned part back, which ends at a place, with memos of at most so many bytes, and writes its credentials behind it. Answers the
+// place behind them.
+pub fn append(buf: &mut [u8], at: usize, most: u64) -> End
+    ensures { λ r. ⌜ (r, now (buf .exit))
+        ≡ stored (closable (avm most) at (now (buf .entry))) (at + length (closing (avm most) at (now (buf .entry)))) (now (buf .entry))
+        (overwrite (now (buf .entry)) at (closing (avm most) at (now (buf .entry)))) ⌝ }
+{
+    if buf.len() < at {
+        return End::Refused(wire::refuse(Rule::NoRoom, 0));
+    }
+    match checker::body::unsigned_at(&buf[..at], most) {
+        UnsignedRead::Refused(refusal) => End::Refused(wire::without_place(refusal)),
+        UnsignedRead::Whole(layout) => {
+            if layout.credentials_at != at {
+                return End::Refused(wire::refuse(Rule::BytesAfterEnd, 0));
+            }
+            close_layout(buf, at, layout)
+        }
+    }
+}

@@ -1,0 +1,22 @@
+-- `writer_buffer::put_at` meets its contract. Assumes nothing.
+use Prim.Native.Nat.{_+_}
+use native.Mathlib.Omega.{arith}
+use lib.ListN.{length}
+use borrow.Author.Needs.{needs}
+use Rattle.writer_buffer.proofs.Stores.{lent-bytes}
+use Rattle.writer_buffer.proofs.put_at.Statement.{statement}
+use Rattle.writer_buffer.proofs.put_at.Tie as tie
+
+pub put-at-spec : {M : Type 1} → statement M
+put-at-spec =
+    tie.close
+    (tie.spec
+    (λ c. search needs)  -- add-put-bytes
+    (λ c. search needs)  -- sub-put-bytes
+    (λ c. search needs)  -- part-put-bytes-start
+    (λ c. search needs)  -- part-put-bytes-end
+    (λ c κs. search needs)  -- put-bytes-requires
+    (λ c. search needs)  -- same-length
+    (λ c. let a = c .before .before .before .before .before .before .args in lent-bytes (a .buf .now) _ (a .from .now) (a .at)
+    (a .at + length (a .from .now)) (c .before .before .put-bytes .ensures) (omega arith)
+    (omega (arith, c .before .before .before .before .before .before .pre))))  -- returns

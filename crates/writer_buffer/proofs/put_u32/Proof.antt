@@ -1,0 +1,26 @@
+-- `writer_buffer::put_u32` meets its contract. Assumes nothing.
+use Prim.Native.Nat.{_+_}
+use native.Mathlib.Omega.{arith}
+use borrow.Author.Needs.{needs}
+use Rattle.writer_buffer.proofs.Stores.{lent-integer, not-there, integer-there}
+use Rattle.writer_buffer.proofs.put_u32.Statement.{statement}
+use Rattle.writer_buffer.proofs.put_u32.Tie as tie
+
+pub put-u32-spec : {M : Type 1} → statement M
+put-u32-spec =
+    tie.close
+    (tie.spec
+    (λ c. let a = c .before .before .args in not-there (a .buf .now) (a .at) (a .value) (omega (arith, c .if1 .taken)))  -- returns
+    (λ c. search needs)  -- sub-if2
+    (λ c. let a = c .before .before .before .args in not-there (a .buf .now) (a .at) (a .value)
+    (omega (arith, c .if2 .taken, c .before .if1 .left)))  -- returns-2
+    (λ c. search needs)  -- add-put-number
+    (λ c. search needs)  -- sub-put-number
+    (λ c. search needs)  -- part-put-number-start
+    (λ c. search needs)  -- part-put-number-end
+    (λ c κs. search needs)  -- put-integer-requires
+    (λ c. search needs)  -- same-length
+    (λ c. let a = c .before .before .before .before .before .before .before .args in integer-there (a .buf .now) (a .at) (a .value)
+    (omega (arith, c .before .before .before .before .if2 .left, c .before .before .before .before .before .if1 .left)) _
+    (lent-integer (a .buf .now) _ (a .at) (a .at + 4) (a .value) (c .before .before .put-integer .ensures) (omega arith)
+    (omega (arith, c .before .before .before .before .if2 .left, c .before .before .before .before .before .if1 .left)))))  -- returns-3

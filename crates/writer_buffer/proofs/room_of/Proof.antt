@@ -1,0 +1,26 @@
+-- `writer_buffer::room_of` meets its contract. Assumes nothing.
+use mathlib.Core.Path.{_∙_}
+use borrow.Author.Needs.{needs}
+use Rattle.writer_buffer.proofs.Numbering.{first-long, second-long, integers-long, room-all}
+use Rattle.writer_buffer.proofs.room_of.Statement.{statement}
+use Rattle.writer_buffer.proofs.room_of.Tie as tie
+
+pub room-of-spec : {M : Type 1} → statement M
+room-of-spec =
+    tie.close
+    (tie.spec
+    (λ c κs. search needs)  -- refuse-step-requires
+    (λ c. let a = c .before .before .before .before .before .args in c .refuse-step .ensures
+    ∙ first-long (a .first .now) (a .second .now) (a .numbers .now) (a .at) (a .limit) (c .before .if1 .taken))  -- returns
+    (λ c κs. search needs)  -- refuse-step-requires-2
+    (λ c. let a = c .before .before .before .before .before .before .args in c .refuse-step2 .ensures
+    ∙ second-long (a .first .now) (a .second .now) (a .numbers .now) (a .at) (a .limit) (c .before .if2 .taken))  -- returns-2
+    (λ c κs. search needs)  -- refuse-step-requires-3
+    (λ c. let a = c .before .before .before .before .before .before .before .args in c .refuse-step3 .ensures
+    ∙ integers-long (a .first .now) (a .second .now) (a .numbers .now) (a .at) (a .limit) (c .before .if3 .taken))  -- returns-3
+    (λ c. search needs)  -- add-room-for
+    (λ c. search needs)  -- mul-room-for
+    (λ c. search needs)  -- add-room-for-2
+    (λ c κs. search needs)  -- room-for-requires
+    (λ c. let a = c .before .before .before .before .before .before .before .args in room-all (a .first .now) (a .second .now) (a .numbers .now) (a .at)
+    (a .limit) _ (c .room-for .ensures)))  -- returns-4

@@ -1,0 +1,38 @@
+-- Room in the buffer, and what a store leaves there. Assumes nothing.
+use Prim.Native.Nat.{ℕ, _+_, _%_, _^_}
+use mathlib.Core.Bool.{Bool}
+use mathlib.Core.List.{List, [], _++_}
+use lib.ListN.{length, take, drop}
+use lib.Dec.{leb}
+use Rattle.wire.specs.Bytes.{digits, pick}
+use Rattle.wire.specs.Numbers.{noRoom}
+use Rattle.wire.specs.declared.End.{End}
+use Rattle.wire.specs.declared.End.the-variants as P
+use Rattle.transaction.specs.Signed.{mostBytes}
+use Rattle.writer_rules.specs.declared.Verdict.{Verdict}
+use Rattle.writer_rules.specs.declared.Verdict.the-variants as J
+use Rattle.writer_rules.specs.Judged.{refusedBy}
+
+-- n bytes in all pass neither the buffer's end nor 65,536
+abbrev pub roomIn : ℕ → ℕ → Verdict
+roomIn n length = pick (leb n length) (pick (leb n mostBytes) J.Allowed (refusedBy noRoom)) (refusedBy noRoom)
+
+unfoldable pub roomFor : ℕ → List ℕ → Verdict
+roomFor n s = roomIn n (length s)
+
+-- s with ys in place of as many bytes from `at` on
+unfoldable pub overwrite : List ℕ → ℕ → List ℕ → List ℕ
+overwrite s at ys = take at s ++ (ys ++ drop (length ys) (drop at s))
+
+-- the count that is written as 0, where a list is due next
+abbrev pub countOf : Bool → List ℕ
+countOf opens = pick opens (digits 4 0) []
+
+-- s with the number n in the four bytes from `at` on, where these are there
+unfoldable pub withInteger : List ℕ → ℕ → ℕ → List ℕ
+withInteger s at n = pick (leb (at + 4) (length s)) (overwrite s at (digits 4 (n % 256 ^ 4))) s
+
+-- what a store answers, and what it leaves in the buffer s: the place n behind it, and t; or, where something bars it, why, and s
+unfoldable pub stored : Verdict → ℕ → List ℕ → List ℕ → End × List ℕ
+stored J.Allowed n s t = (P.At n, t)
+stored (J.Refuse e) n s t = (P.Refused e, s)

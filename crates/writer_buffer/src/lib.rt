@@ -1,0 +1,106 @@
+// The lent buffer: room in it, and stores that are made whole or not at all.
+ghost use mathlib.Core.Path.{_≡_};
+ghost use Prim.Native.Nat.{_+_, _*_, _≤_};
+ghost use mathlib.Core.List.{_++_};
+ghost use lib.ListN.{length};
+ghost use Rattle.writer_rules.specs.Elements.{integersBytes};
+ghost use Rattle.writer_buffer.specs.Stores.{roomIn, roomFor, overwrite, withInteger, stored};
+use wire::End;
+use wire::Rule;
+use writer_rules::Verdict;
+
+// Puts a number into the four bytes at a place, where these are there.
+pub fn put_u32(buf: &mut [u8], at: usize, value: u64)
+    ensures { λ _. ⌜ now (buf .exit) ≡ withInteger (now (buf .entry)) at value ⌝ }
+{
+    if buf.len() < at {
+        return;
+    }
+    if buf.len() - at < 4 {
+        return;
+    }
+    wire::put_integer(&mut buf[at..at + 4], value);
+}
+
+// Puts bytes at a place, with room for them.
+fn put_at(buf: &mut [u8], at: usize, from: &[u8])
+    requires { ⌜ at + length (now from) ≤ length (now buf) ⌝ }
+    ensures { λ _. ⌜ now (buf .exit) ≡ overwrite (now (buf .entry)) at (now (from .entry)) ⌝ }
+{
+    wire::put_bytes(&mut buf[at..at + from.len()], from);
+}
+
+// Puts numbers of four bytes, one behind the other.
+fn put_integers(buf: &mut [u8], start: usize, numbers: &[u32])
+    requires { ⌜ start + 4 * length (now numbers) ≤ length (now buf) ⌝ }
+    ensures { λ _. ⌜ now (buf .exit) ≡ overwrite (now (buf .entry)) start (integersBytes (now (numbers .entry))) ⌝ }
+{
+    let mut i: usize = 0;
+    let mut at = start;
+    while i < numbers.len() {
+        put_u32(buf, at, numbers[i] as u64);
+        i += 1;
+        at += 4;
+    }
+}
+
+// Puts two byte strings and numbers, one behind the other.
+fn put_all(buf: &mut [u8], at: usize, first: &[u8], second: &[u8], numbers: &[u32])
+    requires { ⌜ at + length ((now first ++ now second) ++ integersBytes (now numbers)) ≤ length (now buf) ⌝ }
+    ensures { λ _. ⌜ now (buf .exit) ≡ overwrite (now (buf .entry)) at ((now (first .entry) ++ now (second .entry)) ++ integersBytes (now (numbers .entry))) ⌝ }
+{
+    put_at(buf, at, first);
+    put_at(buf, at + first.len(), second);
+    put_integers(buf, at + first.len() + second.len(), numbers);
+}
+
+// Do n bytes more fit, in a buffer of so many bytes and in a transaction?
+fn room_for(at: usize, n: usize, limit: usize) -> Verdict
+    ensures { λ r. ⌜ r ≡ roomIn (at + n) limit ⌝ }
+{
+    if limit < at {
+        return writer_rules::refuse_step(Rule::NoRoom);
+    }
+    if limit - at < n {
+        return writer_rules::refuse_step(Rule::NoRoom);
+    }
+    if transaction::MOST_BYTES < at {
+        return writer_rules::refuse_step(Rule::NoRoom);
+    }
+    if transaction::MOST_BYTES - at < n {
+        return writer_rules::refuse_step(Rule::NoRoom);
+    }
+    Verdict::Allowed
+}
+
+// Do two byte strings and numbers fit?
+fn room_of(at: usize, first: &[u8], second: &[u8], numbers: &[u32], limit: usize) -> Verdict
+    ensures { λ r. ⌜ r ≡ roomIn (at + length ((now (first .entry) ++ now (second .entry)) ++ integersBytes (now (numbers .entry)))) limit ⌝ }
+{
+    if transaction::MOST_BYTES < first.len() {
+        return writer_rules::refuse_step(Rule::NoRoom);
+    }
+    if transaction::MOST_BYTES < second.len() {
+        return writer_rules::refuse_step(Rule::NoRoom);
+    }
+    if transaction::MOST_BYTES < numbers.len() {
+        return writer_rules::refuse_step(Rule::NoRoom);
+    }
+    room_for(at, first.len() + second.len() + 4 * numbers.len(), limit)
+}
+
+// Stores two byte strings and numbers, one behind the other, where there is room. Answers the place behind them.
+pub fn store(buf: &mut [u8], at: usize, first: &[u8], second: &[u8], numbers: &[u32]) -> End
+    ensures { λ r. ⌜ (r, now (buf .exit)) ≡ stored
+        (roomFor (at + length ((now (first .entry) ++ now (second .entry)) ++ integersBytes (now (numbers .entry)))) (now (buf .entry)))
+        (at + length ((now (first .entry) ++ now (second .entry)) ++ integersBytes (now (numbers .entry)))) (now (buf .entry))
+        (overwrite (now (buf .entry)) at ((now (first .entry) ++ now (second .entry)) ++ integersBytes (now (numbers .entry)))) ⌝ }
+{
+    match room_of(at, first, second, numbers, buf.len()) {
+        Verdict::Refuse(refusal) => End::Refused(refusal),
+        Verdict::Allowed => {
+            put_all(buf, at, first, second, numbers);
+            End::At(at + first.len() + second.len() + 4 * numbers.len())
+        }
+    }
+}

@@ -1,0 +1,64 @@
+-- `writer_rules::elements::state_rules` meets its contract. Assumes nothing.
+use mathlib.Core.Path.{refl, ap}
+use lib.ListN.{length}
+use borrow.Author.Needs.{needs}
+use Rattle.wire.specs.Numbers.{cutAt}
+use Rattle.wire.specs.Sequence.{andThen, guard, named}
+use Rattle.wire.proofs.Reading.{if-eq, if-ne}
+use Rattle.element.specs.Operations.{initialStateAfter}
+use Rattle.element.proofs.Reading.{on-fx, on-fx-short, on-fx-unknown, on-state-outputs, on-state-outputs-refused}
+use Rattle.writer_rules.specs.declared.Verdict.the-variants as J
+use Rattle.writer_rules.specs.Judged.{judged}
+use Rattle.writer_rules.proofs.States.{if-after, if-not-after}
+use Rattle.writer_rules.proofs.elements.state_rules.Statement.{statement}
+use Rattle.writer_rules.proofs.elements.state_rules.Tie as tie
+
+pub state-rules-spec : {M : Type 1} → statement M
+unfolding judged initialStateAfter named andThen guard
+state-rules-spec =
+    tie.close
+    (tie.spec
+    (λ c κs. search needs)  -- u32-at-requires
+    (λ c. search needs)  -- enum-known-fx
+    (λ c. search needs)  -- enum-told
+    (λ c κs. search needs)  -- refuse-step-requires
+    (λ c. let a = c .before .before .before .before .before .before .args in on-fx-short (a .bytes .now) 0 _ _ _ _
+    (c .before .before .before .u32-at .ensures) _ (c .before .enum-told .given .1) (cutAt 4 (a .bytes .now) 0) refl (c .refuse-step .ensures))  -- returns
+    (λ c κs. search needs)  -- refuse-step-requires-2
+    (λ c. on-fx-unknown (c .before .before .before .before .before .before .before .before .args .bytes .now) 0 _ _ _ _
+    (c .before .before .before .before .before .u32-at .ensures) _ _ (c .before .before .before .fx .given .1) (c .before .if1 .taken)
+    (c .refuse-step2 .ensures))  -- returns-2
+    (λ c κs. search needs)  -- between-requires
+    (λ c κs. search needs)  -- between-requires-2
+    (λ c κs. search needs)  -- is-below-requires
+    (λ c κs. search needs)  -- state-outputs-at-requires
+    (λ c. search needs)  -- enum-known-refusal
+    (λ c κs. search needs)  -- without-place-requires
+    (λ c. let a = c .before .before .before .before .before .before .before .before .before .before .before .before .before .before .before .before .args in
+    on-fx (a .bytes .now) 0 _ _ _ _
+    (c .before .before .before .before .before .before .before .before .before .before .before .before .before .u32-at .ensures) _ _
+    (c .before .before .before .before .before .before .before .before .before .before .before .fx .given .1)
+    (c .before .before .before .before .before .before .before .before .before .if1 .left)
+    (if-after (a .last .now) (a .bytes .now)
+    (c .before .before .before .before .before .before .before .before .before .before .before .before .before .before .shared-slice-known2 .given) _ (c .before .before .before .before .before .before .before .before .before .before .before .before .before .u32-at .ensures) _ _ (c .before .before .before .before .before .before .before .before .before .before .before .fx .given .1) (c .before .before .before .before .before .before .before .before .before .if1 .left) _ _ _ (c .before .before .before .before .before .before .before .before .between .ensures) (c .before .before .before .before .before .before .before .between2 .ensures) (c .before .before .before .before .before .before .is-below .ensures) _ _ _ (c .before .before .before .before .before .if2 .taken) (on-state-outputs-refused _ (a .bytes .now) _ _ _ _ _ _ (c .before .before .before .before .state-outputs-at .ensures) (c .before .before .refusal .given .1) (ap J.Refuse (c .without-place .ensures)))))  -- returns-3
+    (λ c. search needs)  -- enum-known-end
+    (λ c. let a = c .before .before .before .before .before .before .before .before .before .before .before .before .before .before .before .before .args in
+    on-fx (a .bytes .now) 0 _ _ _ _
+    (c .before .before .before .before .before .before .before .before .before .before .before .before .before .u32-at .ensures) _ _
+    (c .before .before .before .before .before .before .before .before .before .before .before .fx .given .1)
+    (c .before .before .before .before .before .before .before .before .before .if1 .left)
+    (if-after (a .last .now) (a .bytes .now)
+    (c .before .before .before .before .before .before .before .before .before .before .before .before .before .before .shared-slice-known2 .given) _ (c .before .before .before .before .before .before .before .before .before .before .before .before .before .u32-at .ensures) _ _ (c .before .before .before .before .before .before .before .before .before .before .before .fx .given .1) (c .before .before .before .before .before .before .before .before .before .if1 .left) _ _ _ (c .before .before .before .before .before .before .before .before .between .ensures) (c .before .before .before .before .before .before .before .between2 .ensures) (c .before .before .before .before .before .before .is-below .ensures) _ _ _ (c .before .before .before .before .before .if2 .taken) (on-state-outputs _ (a .bytes .now) _ _ _ _ _ _ (c .before .before .before .before .state-outputs-at .ensures) (c .before .before .end .given .1) (λ v. if-eq _ (length (a .bytes .now)) _ _ _ (c .if3 .taken) refl))))  -- returns-4
+    (λ c κs. search needs)  -- refuse-step-requires-3
+    (λ c. let a = c .before .before .before .before .before .before .before .before .before .before .before .before .before .before .before .before .before .args in on-fx (a .bytes .now) 0 _ _ _ _ (c .before .before .before .before .before .before .before .before .before .before .before .before .before .before .u32-at .ensures) _ _ (c .before .before .before .before .before .before .before .before .before .before .before .before .fx .given .1) (c .before .before .before .before .before .before .before .before .before .before .if1 .left) (if-after (a .last .now) (a .bytes .now) (c .before .before .before .before .before .before .before .before .before .before .before .before .before .before .before .shared-slice-known2 .given) _ (c .before .before .before .before .before .before .before .before .before .before .before .before .before .before .u32-at .ensures) _ _ (c .before .before .before .before .before .before .before .before .before .before .before .before .fx .given .1) (c .before .before .before .before .before .before .before .before .before .before .if1 .left) _ _ _ (c .before .before .before .before .before .before .before .before .before .between .ensures) (c .before .before .before .before .before .before .before .before .between2 .ensures) (c .before .before .before .before .before .before .before .is-below .ensures) _ _ _ (c .before .before .before .before .before .before .if2 .taken) (on-state-outputs _ (a .bytes .now) _ _ _ _ _ _ (c .before .before .before .before .before .state-outputs-at .ensures) (c .before .before .before .end .given .1) (λ v. if-ne _ (length (a .bytes .now)) _ _ _ (c .before .if3 .left) (c .refuse-step3 .ensures)))))  -- returns-5
+    (λ c κs. search needs)  -- refuse-step-requires-4
+    (λ c. let a = c .before .before .before .before .before .before .before .before .before .before .before .before .args in on-fx (a .bytes .now) 0 _ _ _ _
+    (c .before .before .before .before .before .before .before .before .before .u32-at .ensures) _ _
+    (c .before .before .before .before .before .before .before .fx .given .1) (c .before .before .before .before .before .if1 .left)
+    (if-not-after (a .last .now) (a .bytes .now)
+    (c .before .before .before .before .before .before .before .before .before .before .shared-slice-known2 .given) _
+    (c .before .before .before .before .before .before .before .before .before .u32-at .ensures) _ _
+    (c .before .before .before .before .before .before .before .fx .given .1)
+    (c .before .before .before .before .before .if1 .left) _ _ _ (c .before .before .before .before .between .ensures)
+    (c .before .before .before .between2 .ensures) (c .before .before .is-below .ensures) _ _ _ (c .before .if2 .left)
+    (c .refuse-step4 .ensures))))  -- returns-6

@@ -1,0 +1,15 @@
+-- `writer_rules::transfers::addresses_rise` meets its contract. Assumes nothing.
+use borrow.Author.Needs.{needs}
+use Rattle.writer_rules.proofs.Outputs.{addresses-rise, addresses-fall}
+use Rattle.writer_rules.proofs.transfers.addresses_rise.Statement.{statement}
+use Rattle.writer_rules.proofs.transfers.addresses_rise.Tie as tie
+
+pub addresses-rise-spec : {M : Type 1} → statement M
+addresses-rise-spec =
+    tie.close
+    (tie.spec
+    (λ c κs. search needs)  -- addresses-from-requires
+    (λ c. search needs)  -- enum-told
+    (λ c. search needs)  -- enum-told-2
+    (λ c. search addresses-rise)  -- returns
+    (λ c. search addresses-fall))  -- returns-2

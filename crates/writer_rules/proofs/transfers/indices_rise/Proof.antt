@@ -1,0 +1,35 @@
+-- `writer_rules::transfers::indices_rise` meets its contract. The invariant: the numbers from the one before here on rise, or not, as all do.
+-- Assumes nothing.
+use Prim.Native.Nat.{_-_, _≤_}
+use mathlib.Core.Path.{_≡_, refl}
+use native.Mathlib.Omega.{arith}
+use lib.ListN.{length, drop}
+use borrow.Author.Needs.{needs}
+use Rattle.writer_rules.specs.Elements.{rising}
+use Rattle.writer_rules.proofs.Inputs.{rise}
+use Rattle.writer_rules.proofs.transfers.indices_rise.Statement.{statement}
+use Rattle.writer_rules.proofs.transfers.indices_rise.Tie as tie
+
+abbrev Inv-loop : tie.InvT-loop
+Inv-loop indices i₀ i = (1 ≤ i) × (rising (drop (i - 1) indices) ≡ rising indices)
+
+abbrev μ-loop : tie.MeasureT-loop
+μ-loop indices i₀ i = length indices - i
+
+pub indices-rise-spec : {M : Type 1} → statement M
+indices-rise-spec =
+    tie.close
+    (tie.spec
+    Inv-loop
+    μ-loop
+    (λ c. (omega arith, refl))  -- loop-holds
+    (λ c. search needs)  -- mul-if1
+    (λ c. search needs)  -- shared-slice-read-if1
+    (λ c. search needs)  -- sub-if1
+    (λ c. search needs)  -- mul-if1-2
+    (λ c. search needs)  -- shared-slice-read-if1-2
+    (λ c. search rise)  -- returns
+    (λ c. search needs)  -- add-i
+    (λ c. search needs)  -- loop-less
+    (λ c. (omega arith, search rise))  -- loop-again
+    (λ c. search rise))  -- returns-2

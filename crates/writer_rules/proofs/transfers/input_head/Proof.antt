@@ -1,0 +1,55 @@
+-- `writer_rules::transfers::input_head` meets its contract. Assumes nothing.
+use Prim.Native.Nat.{_^_}
+use mathlib.Core.Path.{refl}
+use native.Mathlib.Omega.{arith}
+use native.Mathlib.Nat.{mod-eq-of-lt}
+use borrow.Author.Needs.{needs}
+use Rattle.writer_rules.specs.Elements.{inputHead}
+use Rattle.writer_rules.proofs.Heads.{all-put, first-bytes, then-bytes, then-integer}
+use Rattle.writer_rules.proofs.transfers.input_head.Statement.{statement}
+use Rattle.writer_rules.proofs.transfers.input_head.Tie as tie
+
+returns : tie.Need-returns
+unfolding inputHead
+returns c =
+    let p₆ = c .before in
+    let p₅ = p₆ .before .before .before in
+    let p₄ = p₅ .before .before .before in
+    let p₃ = p₄ .before .before .before in
+    let p₂ = p₃ .before .before .before .before in
+    let p₁ = p₂ .before .before .before in
+    let start = p₁ .before .before .before in
+    let given = start .args in
+    let count = p₆ .put-integer-after4 in
+    let amount = p₅ .put-integer-after3 in
+    let type = p₄ .put-integer-after2 in
+    let asset = p₃ .put-bytes-after2 in
+    let index = p₂ .put-integer-after in
+    let txid = p₁ .put-bytes-after in
+    all-put (count .last .0) _ 84 (omega arith)
+    (then-integer (count .last .0) (amount .last .0) _ 84 80 4 _ _ (count .ensures) refl
+    (then-integer (amount .last .0) (type .last .0) _ 80 72 8 _ (given .amount) (amount .ensures) (mod-eq-of-lt {m = 256 ^ 8} (omega arith))
+    (then-integer (type .last .0) (asset .last .0) _ 72 68 4 _ _ (type .ensures) refl
+    (then-bytes (asset .last .0) (index .last .0) _ 68 36 (given .t3) (asset .ensures) (omega (arith, start .good .1 .1 .0 .1 .0 .1))
+    (then-integer (index .last .0) (txid .last .0) _ 36 32 4 _ (given .index) (index .ensures) (mod-eq-of-lt {m = 256 ^ 4} (omega arith))
+    (first-bytes (txid .last .0) (given .t1) 32 (txid .ensures) (start .good .0 .1 .0 .1)))))))
+
+pub input-head-spec : {M : Type 1} → statement M
+input-head-spec =
+    tie.close
+    (tie.spec
+    (λ c. search needs)  -- slice-aggregate-put-bytes-behind
+    (λ c. search needs)  -- slice-aggregate-put-bytes-behind-2
+    (λ c κs. search needs)  -- put-bytes-after-requires
+    (λ c. search needs)  -- slice-aggregate-put-number-behind
+    (λ c κs. search needs)  -- put-integer-after-requires
+    (λ c. search needs)  -- slice-aggregate-put-bytes-behind-3
+    (λ c. search needs)  -- slice-aggregate-put-bytes-behind-4
+    (λ c κs. search needs)  -- put-bytes-after-requires-2
+    (λ c. search needs)  -- slice-aggregate-put-number-behind-2
+    (λ c κs. search needs)  -- put-integer-after-requires-2
+    (λ c. search needs)  -- slice-aggregate-put-number-behind-3
+    (λ c κs. search needs)  -- put-integer-after-requires-3
+    (λ c. search needs)  -- slice-aggregate-put-number-behind-4
+    (λ c κs. search needs)  -- put-integer-after-requires-4
+    returns)  -- returns

@@ -1,0 +1,17 @@
+-- `writer_rules::transfers::output_below` meets its contract. Assumes nothing.
+use borrow.Author.Needs.{needs}
+use Rattle.writer_rules.proofs.Pieces.{output-few, output-many}
+use Rattle.writer_rules.proofs.transfers.output_below.Statement.{statement}
+use Rattle.writer_rules.proofs.transfers.output_below.Tie as tie
+
+pub output-below-spec : {M : Type 1} → statement M
+output-below-spec =
+    tie.close
+    (tie.spec
+    (λ c κs. search needs)  -- output-head-requires
+    (λ c κs. search needs)  -- between-requires
+    (λ c κs. search needs)  -- between-requires-2
+    (λ c κs. search needs)  -- is-below-requires
+    (λ c. search output-many)  -- returns
+    (λ c κs. search needs)  -- pieces-below-requires
+    (λ c. search output-few))  -- returns-2

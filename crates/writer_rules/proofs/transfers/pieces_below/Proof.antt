@@ -1,0 +1,20 @@
+-- `writer_rules::transfers::pieces_below` meets its contract. Assumes nothing.
+use borrow.Author.Needs.{needs}
+use Rattle.writer_rules.proofs.Pieces.{pieces-below, pieces-equal, pieces-above}
+use Rattle.writer_rules.proofs.transfers.pieces_below.Statement.{statement}
+use Rattle.writer_rules.proofs.transfers.pieces_below.Tie as tie
+
+pub pieces-below-spec : {M : Type 1} → statement M
+pieces-below-spec =
+    tie.close
+    (tie.spec
+    (λ c κs. search needs)  -- between-requires
+    (λ c κs. search needs)  -- order-of-requires
+    (λ c. search needs)  -- enum-told
+    (λ c. search needs)  -- enum-told-2
+    (λ c κs. search needs)  -- between-requires-2
+    (λ c κs. search needs)  -- is-below-requires
+    (λ c. search needs)  -- enum-told-3
+    (λ c. search pieces-below)  -- returns
+    (λ c. search pieces-equal)  -- returns-2
+    (λ c. search pieces-above))  -- returns-3

@@ -1,0 +1,21 @@
+-- `writer_rules::transfers::put_bytes_after` meets its contract. Assumes nothing.
+use mathlib.Core.Path.{refl}
+use native.Mathlib.Omega.{arith}
+use lib.ListN.{length}
+use borrow.Author.Needs.{needs}
+use Rattle.writer_rules.proofs.Heads.{bytes-behind}
+use Rattle.writer_rules.proofs.transfers.put_bytes_after.Statement.{statement}
+use Rattle.writer_rules.proofs.transfers.put_bytes_after.Tie as tie
+
+pub put-bytes-after-spec : {M : Type 1} → statement M
+put-bytes-after-spec =
+    tie.close
+    (tie.spec
+    (λ c. search needs)  -- add-put-bytes
+    (λ c. search needs)  -- sub-put-bytes
+    (λ c. search needs)  -- part-put-bytes-start
+    (λ c. search needs)  -- part-put-bytes-end
+    (λ c κs. search needs)  -- put-bytes-requires
+    (λ c. search needs)  -- same-length
+    (λ c. let a = c .before .before .before .before .before .before .args in bytes-behind (a .room .now) _ _ (a .at) (length (a .from .now)) (omega arith)
+    (a .from .now) refl (c .before .before .put-bytes .ensures)))  -- returns

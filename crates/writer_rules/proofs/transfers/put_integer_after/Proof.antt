@@ -1,0 +1,19 @@
+-- `writer_rules::transfers::put_integer_after` meets its contract. Assumes nothing.
+use native.Mathlib.Omega.{arith}
+use borrow.Author.Needs.{needs}
+use Rattle.writer_rules.proofs.Heads.{integer-behind}
+use Rattle.writer_rules.proofs.transfers.put_integer_after.Statement.{statement}
+use Rattle.writer_rules.proofs.transfers.put_integer_after.Tie as tie
+
+pub put-integer-after-spec : {M : Type 1} → statement M
+put-integer-after-spec =
+    tie.close
+    (tie.spec
+    (λ c. search needs)  -- add-put-number
+    (λ c. search needs)  -- sub-put-number
+    (λ c. search needs)  -- part-put-number-start
+    (λ c. search needs)  -- part-put-number-end
+    (λ c κs. search needs)  -- put-integer-requires
+    (λ c. search needs)  -- same-length
+    (λ c. let a = c .before .before .before .before .before .args in integer-behind (a .room .now) _ _ (a .at) (a .width) (omega arith) (a .value)
+    (c .before .before .put-integer .ensures)))  -- returns

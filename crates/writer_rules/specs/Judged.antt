@@ -1,0 +1,26 @@
+-- What bars a step, by the bytes that it would add. No rule is written here: they are read by the format that is due. Assumes nothing.
+use lib.ListN.{length}
+use lib.Dec.{eqb}
+use Rattle.wire.specs.Bytes.{pick}
+use Rattle.wire.specs.declared.Rule.{Rule}
+use Rattle.wire.specs.Numbers.{refusal, ruleOf, cutShort, bytesAfterEnd}
+use Rattle.wire.specs.Format.{Format}
+use Rattle.writer_rules.specs.declared.Verdict.{Verdict}
+use Rattle.writer_rules.specs.declared.Verdict.the-variants as J
+use Rattle.writer_rules.specs.Given.{Given}
+
+-- refused by a rule. What a step would add has no place in the bytes yet: the place is 0
+abbrev pub refusedBy : Rule → Verdict
+refusedBy x = J.Refuse (refusal x 0)
+
+-- the rules are those of the format; and no byte may be left over
+unfoldable pub judged : {A : Type 0} → Format A → Given → Verdict → Verdict
+judged F g v =
+    pick (g .whole)
+    (F .parse (g .bytes) 0 (λ e. refusedBy (e .rule)) λ a m. pick (eqb m (length (g .bytes))) v (refusedBy bytesAfterEnd))
+    (refusedBy (ruleOf cutShort))
+
+-- v, and then u
+abbrev pub onAllowed : Verdict → Verdict → Verdict
+onAllowed J.Allowed u = u
+onAllowed (J.Refuse e) u = J.Refuse e

@@ -1,0 +1,49 @@
+// The rules of elements that are given as their own bytes: those of the reader, and no byte may be left over.
+ghost use mathlib.Core.Path.{_≡_};
+ghost use Rattle.element.specs.Operations.{operation, initialState};
+ghost use Rattle.writer_rules.specs.Judged.{judged};
+ghost use Rattle.writer_rules.specs.Given.{given};
+use crate::Verdict;
+use wire::End;
+use wire::Integer;
+use wire::Rule;
+
+pub fn operation_rules(bytes: &[u8]) -> Verdict
+    ensures { λ r. ⌜ r ≡ judged operation (given (now (bytes .entry))) Verdict.Allowed ⌝ }
+{
+    match element::operations::operation_at(bytes, 0) {
+        End::Refused(refusal) => Verdict::Refuse(wire::without_place(refusal)),
+        End::At(end) => {
+            if end == bytes.len() {
+                return Verdict::Allowed;
+            }
+            crate::refuse_step(Rule::BytesAfterEnd)
+        }
+    }
+}
+
+// Its FxID is above that of the last one.
+pub fn state_rules(last: &[u8], bytes: &[u8]) -> Verdict
+    ensures { λ r. ⌜ r ≡ judged (initialState (now (last .entry))) (given (now (bytes .entry))) Verdict.Allowed ⌝ }
+{
+    let Integer::Value(fx, first) = wire::u32_at(bytes, 0) else {
+        return crate::refuse_step(Rule::CutShort);
+    };
+    if 1 < fx {
+        return crate::refuse_step(Rule::UnknownType);
+    }
+    if wire::is_below(wire::between(last, 0, 4), wire::between(bytes, 0, 4)) {
+        match element::operations::state_outputs_at(bytes, first, fx) {
+            End::Refused(refusal) => {
+                return Verdict::Refuse(wire::without_place(refusal));
+            }
+            End::At(end) => {
+                if end == bytes.len() {
+                    return Verdict::Allowed;
+                }
+                return crate::refuse_step(Rule::BytesAfterEnd);
+            }
+        }
+    }
+    crate::refuse_step(Rule::OutOfOrder)
+}
