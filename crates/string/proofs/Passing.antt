@@ -1,4 +1,4 @@
--- A string that was read is its length and so many bytes. Assumes nothing.
+-- A string that was read is its length and that many bytes. Assumes nothing.
 use mathlib.Core.Path.{_≡_, refl}
 use Prim.Native.Nat.{ℕ}
 use mathlib.Core.List.{List}

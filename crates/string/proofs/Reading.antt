@@ -1,4 +1,4 @@
--- How the readers of strings meet their formats, as the laws of wire's proofs/Reading do. Assumes nothing.
+-- Laws for the readers of strings, in the form of those of wire's proofs/Reading. Assumes nothing.
 use Prim.Native.Nat.{ℕ, suc, _+_, _-_, _^_, _≤_, _<_}
 use mathlib.Core.Path.{_≡_, refl, sym, ap, _∙_}
 use mathlib.Core.List.{List}

@@ -1,4 +1,4 @@
--- By which rules strings are refused. Assumes nothing.
+-- The rules that strings are refused by. Assumes nothing.
 use Prim.Native.Nat.{ℕ, _+_}
 use lib.ListN.{length}
 use lib.Dec.{eqb}

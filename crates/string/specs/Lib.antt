@@ -1,2 +1,2 @@
--- Strings: a length and so many bytes
+-- Strings: a length, then that many bytes
 pub mod Strings

@@ -1,4 +1,4 @@
--- Strings: a length and so many bytes. The length is judged when it is read, characters when the whole string is there. Assumes nothing.
+-- Strings: a length, then that many bytes. The length is checked when it is read, the characters when the whole string is there. Assumes nothing.
 use mathlib.Core.Path.{refl, ap}
 use Prim.Native.Nat.{ℕ, suc, _+_, _≤_}
 use native.Mathlib.Omega.{arith}
@@ -12,7 +12,7 @@ use Rattle.wire.specs.Format.{Format}
 use Rattle.wire.specs.Fields.{integer, blob, blob-sized}
 use Rattle.wire.specs.Sequence.{andThen, guard, guardAt, named}
 
--- a length of w bytes, at most `most`
+-- the length is at most `most`
 abbrev pub lengthFits : ℕ → ℕ → Bool
 lengthFits most n = leb n most
 
@@ -25,19 +25,19 @@ string w most =
     named (andThen (lengthTo w most) blob) (λ v. v .1) (λ b. (length b, b))
     (λ v h. ap (λ (n : ℕ). (n, v .1)) (blob-sized (v .0) (v .1) (h .1))) (λ b. refl)
 
--- 256 in the base
+-- a memo of at most `most` bytes; 256 in the base
 abbrev pub memo : ℕ → Format (List ℕ)
 memo most = string 4 most
 
 abbrev pub payload : Format (List ℕ)
 payload = string 4 1024
 
--- ---- text: one to `most` characters, each from 0x20 to 0x7e
+-- ---- text: 1 to `most` characters, each from 0x20 to 0x7e
 
 abbrev pub isPrintable : ℕ → Bool
 isPrintable x = leb 32 x && leb x 126
 
--- the index of the first character that is not printable; the length where all are
+-- the index of the first character that is not printable, or the length if all are
 unfoldable pub unprintable : List ℕ → ℕ
 unprintable [] = 0
 unprintable (x ∷ xs) = pick (isPrintable x) (suc (unprintable xs)) 0

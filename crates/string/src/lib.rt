@@ -1,4 +1,4 @@
-// Strings: a length and so many bytes.
+// Strings: a length, then that many bytes.
 ghost use mathlib.Core.Path.{_≡_};
 ghost use Prim.Native.Nat.{ℕ};
 ghost use Rattle.wire.specs.Answer.{ended, Passes};
@@ -7,14 +7,14 @@ use wire::End;
 use wire::Integer;
 use wire::Rule;
 
-// The most bytes that a name, a symbol and a payload have.
+// The most bytes of a name, a symbol and a payload.
 pub const NAME_MOST: u64 = 128;
 
 pub const SYMBOL_MOST: u64 = 4;
 
 pub const PAYLOAD_MOST: u64 = 1024;
 
-// A memo or a payload: a 32-bit length, at most so many bytes.
+// A memo or a payload: a 32-bit length of at most `most`, then that many bytes.
 pub fn string_at(s: &[u8], at: usize, most: u64) -> End
     ensures { λ r. ⌜ r ≡ ended (string 4 most) (now (s .entry)) at ⌝ }
 {
@@ -27,7 +27,7 @@ pub fn string_at(s: &[u8], at: usize, most: u64) -> End
     wire::field_at(s, first, length as usize)
 }
 
-// The index of the first byte that is not printable; the length where all are.
+// The index of the first byte that is not printable, or the length if all are.
 pub fn first_unprintable(s: &[u8]) -> usize
     ensures { λ r. ⌜ r ≡ unprintable (now (s .entry)) ⌝ }
 {
@@ -44,7 +44,7 @@ pub fn first_unprintable(s: &[u8]) -> usize
     i
 }
 
-// A name or a symbol: a 16-bit length from 1 to most, and printable characters.
+// A name or a symbol: a 16-bit length from 1 to `most`, then that many printable characters.
 pub fn text_at(s: &[u8], at: usize, most: u64) -> End
     ensures { λ r. ⌜ r ≡ ended (text most) (now (s .entry)) at ⌝ }
 {
@@ -79,7 +79,7 @@ pub fn denomination_at(s: &[u8], at: usize) -> End
     End::At(next)
 }
 
-// Passes a memo or a payload that was read: its length is not judged again.
+// Skips a memo or a payload that was read; its length is not checked again.
 pub fn string_past(s: &[u8], at: usize) -> End
     ensures { λ r. ⌜ ((most : ℕ) → Passes (memo most) (now (s .entry)) at r) ⌝ }
 {
@@ -89,7 +89,7 @@ pub fn string_past(s: &[u8], at: usize) -> End
     wire::field_at(s, first, length as usize)
 }
 
-// Passes a name or a symbol that was read: neither its length nor its characters are judged again.
+// Skips a name or a symbol that was read; neither its length nor its characters are checked again.
 pub fn text_past(s: &[u8], at: usize) -> End
     ensures { λ r. ⌜ ((most : ℕ) → Passes (text most) (now (s .entry)) at r) ⌝ }
 {

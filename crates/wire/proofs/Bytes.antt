@@ -1,4 +1,4 @@
--- Laws of byte strings: numbers byte by byte, the order, parts and copies. Assumes nothing.
+-- Laws of byte strings: integers byte by byte, the order, byte ranges and copies. Assumes nothing.
 use Prim.Native.Nat.{ℕ, zero, suc, _+_, _-_, _*_, _/_, _%_, _^_, _≤_, _<_, min}
 use mathlib.Core.Path.{_≡_, refl, sym, ap, _∙_}
 use mathlib.Core.List.{List, [], _∷_, _++_, append-nil}

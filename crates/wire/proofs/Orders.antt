@@ -1,5 +1,5 @@
--- The lists of a format in plain words: a list that is read in view of the bytes before each element is good exactly if every element is, and
--- every two that stand next to each other are in order. Assumes nothing.
+-- The lists of a format in plain words: a list whose elements are each read given the bytes of the one before is good exactly if every element is
+-- good and every two adjacent elements are in order. Assumes nothing.
 use mathlib.Core.Path.{_≡_, refl, sym, ap, ap₂, _∙_}
 use mathlib.Core.Logic.{_↔_, Iff·rfl, Iff·and, _⊎_, inl, inr, ⊎-elim}
 use Prim.Native.Nat.{ℕ, suc, _^_, _<_}

@@ -1,5 +1,5 @@
--- How functions that pass what was read meet their contracts: each law goes one step into a format, along what the calls ensure and what the
--- code's matches found. `Yields` is shut, so that `search` takes a format apart by these laws.
+-- Laws for functions that skip over what was read. Each law goes one step into a format, by what a call ensures and what the match on its answer
+-- found. `Yields` is opaque, so that `search` takes a format apart by these laws only.
 -- Assumes nothing.
 use Prim.Native.Nat.{ℕ, zero, suc, _+_, _-_, _≤_, _<_}
 use mathlib.Core.Path.{_≡_, refl, sym, ap, _∙_, subst}

@@ -1,7 +1,7 @@
--- A format's reading, where it is known what the code found: each law goes one step into it, and the rulesets have them all, so that `search`
--- walks the reading along what the calls ensure and what the code's tests found, with no path into its context. The conclusion of each law is
--- the whole goal of a `return`, z ≡ (the reading), for any answer z; its premises are what a call ensures, what the match on its answer found,
--- and the rest of the walk. The format, s and at are read off the goal; the answer x and its fields, off the context.
+-- Laws for functions that read a format. Each law goes one step into the format's parser, by what the code has found; the rulesets hold them all, so
+-- that `search` follows the parser by what the calls ensure and what the code's tests found, with no path into its context. The conclusion of each
+-- law is the whole goal of a `return`, z ≡ (the parse), for any answer z; its premises are what a call ensures, what the match on its answer found,
+-- and the rest of the parse. The format, s and `at` are inferred from the goal; the answer x and its fields, from the context.
 -- Assumes nothing.
 use Prim.Native.Nat.{ℕ, zero, suc, _+_, _-_, _*_, _^_, _≤_, _<_}
 use mathlib.Core.Path.{_≡_, refl, sym, ap, _∙_}

@@ -1,5 +1,5 @@
--- By which rules a format refuses: of each combinator, from its parts and from the rule that it adds. `ruled`, of Format, is this for the rules
--- of reading as a whole; here it is for any rules P. Assumes nothing.
+-- By which rules a format refuses: for each combinator, the rules of its components and the rule that it adds. `ruled`, of Format, says this of the
+-- reading rules as a whole; here it is for any set of rules P. Assumes nothing.
 use mathlib.Core.Path.{_≡_, refl, sym, ap, _∙_, subst}
 use Prim.Native.Nat.{ℕ, zero, suc, _+_, _-_, _≤_}
 use native.Mathlib.Omega.{arith}

@@ -1,4 +1,4 @@
--- What the readers of fields answer, as the two ends of a format's reading. Assumes nothing.
+-- What the readers of fields return, as the two continuations of a format's parser. Assumes nothing.
 use mathlib.Core.Path.{_≡_}
 use Prim.Native.Nat.{ℕ}
 use mathlib.Core.List.{List}
@@ -10,24 +10,24 @@ use Rattle.wire.specs.declared.End.the-variants as P
 use Rattle.wire.specs.declared.Integer.{Integer}
 use Rattle.wire.specs.declared.Integer.the-variants as N
 
--- where a value ends
+-- where a value ends: the offset just past it
 abbrev pub ended : {A : Type 0} → Format A → List ℕ → ℕ → End
 ended F s at = F .parse s at P.Refused (λ v n. P.At n)
 
--- a number and where it ends
+-- an integer and the offset just past it
 abbrev pub valued : Format ℕ → List ℕ → ℕ → Integer
 valued F s at = F .parse s at N.Refused N.Value
 
--- the k bytes from at, or k zeros where they are not all there
+-- the k bytes from `at` on, or k zeros if they are not all there
 abbrev pub wholeAt : ℕ → List ℕ → ℕ → List ℕ
 wholeAt k s at = blob k .parse s at (λ e. replicate k 0) (λ b n. b)
 
--- ---- what was read, passed by its lengths: a promise on bytes that the format has read, and on no others
+-- ---- skipping over a value by its lengths: these promise something only of bytes that the format has read
 
--- of what was read: the place behind it
+-- if a value was read at `at`, the answer is the offset just past it
 abbrev pub Passes : {A : Type 0} → Format A → List ℕ → ℕ → End → Type 0
 Passes {A} F s at r = (v : A) (n : ℕ) → read F s at ≡ took v n → r ≡ P.At n
 
--- of what was read: a number that its value has, and the place behind it
+-- if a value v was read at `at`, the answer is f v and the offset just past the value
 abbrev pub Tells : {A : Type 0} → Format A → (A → ℕ) → List ℕ → ℕ → Integer → Type 0
 Tells {A} F f s at r = (v : A) (n : ℕ) → read F s at ≡ took v n → r ≡ N.Value (f v) n

@@ -1,4 +1,4 @@
--- Lists of bytes, big-endian numbers, and the order of byte strings. Assumes nothing.
+-- Lists of bytes, big-endian integers, and the order of byte strings. Assumes nothing.
 use mathlib.Core.Path.{_≡_, refl, sym, ap, _∙_}
 use Prim.Native.Nat.{ℕ, zero, suc, _+_, _-_, _*_, _/_, _%_, _^_, _<_}
 use native.Mathlib.Nat.{pow-suc, pow-succ', mod-lt, div-lt-iff-lt-mul, div-add-mod', mul-pos, zero-lt-suc}
@@ -10,12 +10,12 @@ use lib.Seq.{drop-drop, drop-append-seam}
 use lib.Arith.{digits-lt, digits-div, digits-mod}
 use lib.Dec.{ltb}
 
--- each element is a byte
+-- every element is a byte
 abbrev pub Bytes : List ℕ → Type 0
 Bytes [] = Unit {0}
 Bytes (x ∷ xs) = (x < 256) × Bytes xs
 
--- one of two, by a test
+-- the first value if the test is true, else the second
 abbrev pub pick : {R : Type 0} → Bool → R → R → R
 pick true a b = a
 pick false a b = b
@@ -24,17 +24,17 @@ pick false a b = b
 abbrev pub between : ℕ → ℕ → List ℕ → List ℕ
 between a e s = take (e - a) (drop a s)
 
--- the number that big-endian bytes are
+-- the integer that big-endian bytes encode
 unfoldable pub value : List ℕ → ℕ
 value [] = 0
 value (x ∷ xs) = x * 256 ^ length xs + value xs
 
--- a number as w big-endian bytes
+-- an integer as w big-endian bytes
 unfoldable pub digits : ℕ → ℕ → List ℕ
 digits zero v = []
 digits (suc w) v = v / 256 ^ w ∷ digits w (v % 256 ^ w)
 
--- strictly below as byte strings: by the first byte that differs; a string is above its own beginning
+-- strictly below as byte strings: the first byte that differs decides; a string is above each of its proper prefixes
 unfoldable pub below : List ℕ → List ℕ → Bool
 below [] [] = false
 below [] (y ∷ ys) = true
@@ -57,7 +57,7 @@ pub bytes-append : (a b : List ℕ) → Bytes a → Bytes b → Bytes (a ++ b)
 bytes-append [] b h k = k
 bytes-append (x ∷ xs) b h k = (h .0, bytes-append xs b (h .1) k)
 
--- what stands behind w, where w stands at `at`
+-- if w stands in s from `at` on, what follows w in s
 pub drop-step : (s : List ℕ) (at : ℕ) (w t : List ℕ) → drop at s ≡ w ++ t → drop (at + length w) s ≡ t
 drop-step s at w t e = sym (drop-drop (length w) at s) ∙ ap (drop (length w)) e ∙ drop-append-seam w t
 

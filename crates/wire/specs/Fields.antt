@@ -1,5 +1,4 @@
--- The fields: a run of n bytes, and a big-endian number. Both are refused as 2, cut short, where they are not wholly there.
--- Assumes nothing.
+-- The fields: n bytes, and a big-endian integer. Either is refused by rule 2 (cut short) if it is not wholly there. Assumes nothing.
 use mathlib.Core.Path.{_≡_, refl, sym, ap, subst}
 use Prim.Native.Nat.{ℕ, _+_, _-_, _^_, _≤_, _<_}
 use native.Mathlib.Omega.{arith}
@@ -46,7 +45,7 @@ module _ (n : ℕ) where
   unfolding blobParse
   blob-same s at stop go = pick-same (leb n (length s - at)) (cutAt n s at) _ _ stop go
 
-  -- it refuses as 2 only
+  -- it refuses by rule 2 only
   pub blob-stable : (s t : List ℕ) (at : ℕ) (e : Refusal) → Bytes s → (e .rule ≡ ruleOf cutShort → ⊥) → blobParse s at refused took ≡ refused e
       → blobParse (s ++ t) at refused took ≡ refused e
   unfolding blobParse
@@ -83,7 +82,7 @@ pub blob-sized : (n : ℕ) (b : List ℕ) → blob n .Good b → length b ≡ n
 unfolding blob
 blob-sized n b h = h .0
 
--- ---- a big-endian number of w bytes
+-- ---- a big-endian integer of w bytes
 
 unfoldable pub integer : ℕ → Format ℕ
 unfolding blob «as»
@@ -102,7 +101,7 @@ pub length-integer : (w v : ℕ) → length (integer w .write v) ≡ w
 unfolding integer
 length-integer w v = length-digits w v
 
--- ---- a number of w bytes that has to be v; any other is refused by x, at its start
+-- ---- an integer of w bytes that must be v; any other is refused by x, at its start
 
 unfoldable pub constant : ℕ → ℕ → ReadingRule → Format (Unit {0})
 unfolding named guard

@@ -1,5 +1,5 @@
--- The rules that the desk refuses by, and their numbers (document 01, "Numbers the desk answers with"). A rule that bars acceptance while fields
--- are read is a `ReadingRule`; a format can refuse by no other. Assumes nothing.
+-- The rules that the desk refuses by, and their numbers (document 01, "Numbers the desk answers with"). A rule that refuses a transaction while its
+-- fields are read is a `ReadingRule`; a format can refuse by no other. Assumes nothing.
 use mathlib.Core.Path.{_≡_}
 use Prim.Native.Nat.{ℕ, _≤_}
 use native.Mathlib.Omega.{arith}
@@ -8,7 +8,7 @@ use Rattle.wire.specs.declared.Rule.{Rule}
 use Rattle.wire.specs.declared.Rule.the-variants as R
 use Rattle.wire.specs.declared.Refusal.{Refusal}
 
--- the table
+-- the number of each rule in the table
 abbrev pub ruleNumber : Rule → ℕ
 ruleNumber R.TooLong = 1
 ruleNumber R.CutShort = 2
@@ -38,7 +38,7 @@ refusal r p = record { rule = r; place = p }
 abbrev pub numberOf : Refusal → ℕ
 numberOf e = ruleNumber (e .rule)
 
--- ---- what is judged of a field
+-- ---- rules on a field
 
 pub data ReadingRule : Type 0 where
   cutShort wrongCodec unknownType zeroAmount outOfOrder badThreshold badLength notPrintable badDenomination emptyList wrongCount : ReadingRule
@@ -56,18 +56,18 @@ ruleOf badDenomination = R.BadDenomination
 ruleOf emptyList = R.EmptyList
 ruleOf wrongCount = R.WrongCount
 
--- the rule is one of these
+-- the rule is a reading rule
 abbrev pub Ruled : Rule → Type 0
 Ruled x = (r : ReadingRule) × (x ≡ ruleOf r)
 
 abbrev pub by : ReadingRule → ℕ → Refusal
 by r p = refusal (ruleOf r) p
 
--- of the w bytes of the field that starts at `at`, not all are there
+-- the refusal of a field that is cut short: of its w bytes from `at` on, not all are there
 abbrev pub cutAt : ℕ → List ℕ → ℕ → Refusal
 cutAt w s at = by cutShort at
 
--- ---- what is judged of the whole, before and behind all fields
+-- ---- rules on the whole, before and after all fields
 
 abbrev pub tooLong : Rule
 tooLong = R.TooLong
@@ -75,7 +75,7 @@ tooLong = R.TooLong
 abbrev pub bytesAfterEnd : Rule
 bytesAfterEnd = R.BytesAfterEnd
 
--- ---- what is judged of a request: its room, its number, its step, its drafts
+-- ---- rules on a request: its room, its entry number, its step, its drafts
 
 abbrev pub noRoom : Rule
 noRoom = R.NoRoom
@@ -103,7 +103,7 @@ notASignature = R.NotASignature
 
 -- ---- laws
 
--- every refusal has a number of the table
+-- every rule has a number of the table
 pub number-range : (x : Rule) → (1 ≤ ruleNumber x) × (ruleNumber x ≤ 21)
 number-range R.TooLong = (omega arith, omega arith)
 number-range R.CutShort = (omega arith, omega arith)

@@ -1,5 +1,5 @@
--- Combinators: one format behind another, a rule on a value, the same bytes as another type, no bytes, a number that stands for a kind.
--- Assumes nothing.
+-- Combinators: one format after another, a rule on a value, the same bytes as a value of another type, no bytes, an integer that stands for one of
+-- several tags. Assumes nothing.
 use mathlib.Core.Path.{_≡_, refl, sym, ap, ap₂, _∙_, subst}
 use Prim.Native.Nat.{ℕ, _+_, _≤_}
 use native.Mathlib.Omega.{arith}
@@ -15,7 +15,7 @@ use Rattle.wire.specs.Numbers.{ReadingRule, by}
 use Rattle.wire.specs.Format.{Format, took, refused, Stands, onResult, moved, parse-inv, parse-same, parse-stable, parse-ruled, parse-placed}
 use Rattle.wire.specs.Format.{pick-inv, pick-same, pick-ruled, pick-placed, stands-append, took-refused}
 
--- ---- a format behind another, which may depend on the first one's value
+-- ---- a format after another; it may depend on the first one's value
 
 module _ {A : Type 0} {B : A → Type 0} (F : Format A) (G : (a : A) → Format (B a)) where
   abbrev pub thenParse : {R : Type 0} → List ℕ → ℕ → (Refusal → R) → (((a : A) × B a) → ℕ → R) → R
@@ -61,7 +61,7 @@ module _ {A : Type 0} {B : A → Type 0} (F : Format A) (G : (a : A) → Format 
         placed = λ s at e bs h. parse-placed F s at _ e bs h (λ a m ga sa i. parse-placed (G a) s m _ e bs i (λ b n gb sb j q. took-refused (a, b) n e q));
       }
 
--- ---- a rule on the value, judged when it is wholly read; a value that breaks it is refused at a place that its start and itself tell
+-- ---- a rule on the value, checked when the value is wholly read; a value that breaks it is refused at `place`, computed from its start and itself
 
 module _ {A : Type 0} (F : Format A) (ok : A → Bool) (x : ReadingRule) (place : ℕ → A → ℕ) where
   abbrev pub guardParse : {R : Type 0} → List ℕ → ℕ → (Refusal → R) → (A → ℕ → R) → R
@@ -81,7 +81,7 @@ module _ {A : Type 0} (F : Format A) (ok : A → Bool) (x : ReadingRule) (place 
       → drop at s ≡ F .write v ++ t → guardParse s at stop go ≡ go v (at + length (F .write v))
   guard-complete s at v t stop go h e = F .complete s at v t stop _ (h .0) e ∙ rw (h .1)
 
-  -- the place is inside the value, or at its end
+  -- the place is inside the value, or just past it
   module _ (within : (at : ℕ) (a : A) → F .Good a → place at a ≤ at + length (F .write a)) where
     unfoldable pub guardAt : Format A
     guardAt =
@@ -99,12 +99,12 @@ module _ {A : Type 0} (F : Format A) (ok : A → Bool) (x : ReadingRule) (place 
               (λ a m ga sa i. pick-placed (length s) (ok a) (by x (place at a)) a m e (omega (arith, within at a ga)));
         }
 
--- the usual place: where the value starts
+-- the usual place is the start of the value
 unfoldable pub guard : {A : Type 0} → Format A → (A → Bool) → ReadingRule → Format A
 unfolding guardAt
 guard F ok x = guardAt F ok x (λ at a. at) (λ at a h. omega arith)
 
--- ---- the same bytes, as another type: `Fit` says which of its values the format has
+-- ---- the same bytes as a value of another type; `Fit` says which of its values the format has
 
 pub record Same {A B : Type 0} (Has : A → Type 0) (Fit : B → Type 0) : Type 0 where
   pub to : A → B
@@ -145,7 +145,7 @@ module _ {A B : Type 0} (F : Format A) (Fit : B → Type 0) (i : Same (F .Good) 
         placed = λ s at e bs h. parse-placed F s at _ e bs h (λ a m ga sa j q. took-refused (i .to a) m e q);
       }
 
--- a record type, or another that has a way back
+-- a record type, or any other type with an inverse
 module _ {A B : Type 0} (F : Format A) (to : A → B) (from : B → A) (from-to : (a : A) → F .Good a → from (to a) ≡ a) (to-from : (b : B) → to (from b) ≡ b) where
   unfoldable pub named : Format B
   unfolding «as»
@@ -160,7 +160,7 @@ module _ {A B : Type 0} (F : Format A) (to : A → B) (from : B → A) (from-to 
         to-from = λ b h. to-from b;
       }
 
--- ---- no bytes, for the one value a
+-- ---- no bytes, for the single value a
 
 module _ {A : Type 0} (a : A) where
   pub only-sound : (s : List ℕ) (at : ℕ) (v : A) (next : ℕ) → Bytes s → took a at ≡ took v next → (v ≡ a) × Stands s at [] next
@@ -181,10 +181,10 @@ module _ {A : Type 0} (a : A) where
         placed = λ s at e bs h q. took-refused a at e q;
       }
 
--- ---- a number that stands for one of the kinds listed; any other is refused by x, at its start
+-- ---- an integer that stands for one of the tags listed; any other is refused by x, at its start
 
 module _ {K : Type 0} (code : K → ℕ) where
-  -- where a kind of that number is listed, what goes on with it; else the other
+  -- `go` of the first listed tag with the integer n, or `other` if there is none
   abbrev pub find : {R : Type 0} → List K → ℕ → (K → R) → R → R
   find [] n go other = other
   find (k ∷ ks) n go other = pick (eqb n (code k)) (go k) (find ks n go other)

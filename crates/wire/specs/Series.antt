@@ -1,4 +1,4 @@
--- Lists: so many elements, each read in view of the bytes of the one before; the two orders; a count in front. Assumes nothing.
+-- Lists of n elements, each read given the bytes of the element before; the two orders; a list after its count. Assumes nothing.
 use mathlib.Core.Path.{_≡_, refl, sym, ap, _∙_}
 use Prim.Native.Nat.{ℕ, zero, suc, _+_, _≤_}
 use native.Mathlib.Omega.{arith}
@@ -14,7 +14,7 @@ use Rattle.wire.specs.Format.{result-placed, parse-inv, parse-same, pars
 use Rattle.wire.specs.Format.{took-refused}
 use Rattle.wire.specs.Sequence.{andThen, guard, named}
 
--- ---- n elements; an element's format may depend on a state that the elements before it have left
+-- ---- n elements; an element's format may depend on a state that the elements before it determine
 
 module _ {A S : Type 0} (P : S → Format A) (step : S → A → S) where
   unfoldable pub listParse : {R : Type 0} → ℕ → S → List ℕ → ℕ → (Refusal → R) → (List A → ℕ → R) → R
@@ -25,7 +25,7 @@ module _ {A S : Type 0} (P : S → Format A) (step : S → A → S) where
   listWrite st [] = []
   listWrite st (a ∷ l) = P st .write a ++ listWrite (step st a) l
 
-  -- each is good in the state that those before it have left
+  -- each element is good in the state that the elements before it determine
   abbrev pub Chain : S → List A → Type 0
   Chain st [] = Unit {0}
   Chain st (a ∷ l) = P st .Good a × Chain (step st a) l
@@ -137,12 +137,12 @@ module _ {A S : Type 0} (P : S → Format A) (step : S → A → S) where
         placed = list-placed n st;
       }
 
--- a list has as many elements as it was asked for
+-- a good list has n elements
 pub items-sized : {A S : Type 0} (P : S → Format A) (step : S → A → S) (st : S) (n : ℕ) (l : List A) → items P step st n .Good l → length l ≡ n
 unfolding items
 items-sized P step st n l h = h .0
 
--- ---- n elements, each read in view of the bytes of the one before: [] before the first, which is below every other string
+-- ---- n elements, each read given the bytes of the element before; the first is given [], which is below every other string
 
 module _ {A : Type 0} (E : List ℕ → Format A) where
   abbrev pub left : List ℕ → A → List ℕ
@@ -154,11 +154,11 @@ module _ {A : Type 0} (E : List ℕ → Format A) where
   abbrev pub series : ℕ → Format (List A)
   series n = seriesFrom [] n
 
--- an element that is strictly above `prev`: its whole writing is compared with it
+-- an element that is strictly above `prev`: all of its written bytes are compared
 abbrev pub above : {A : Type 0} → Format A → List ℕ → Format A
 above F prev = guard F (λ a. below prev (F .write a)) outOfOrder
 
--- an element that is not below `prev`, in the same way
+-- an element that is not below `prev`, compared in the same way
 abbrev pub notBelow : {A : Type 0} → Format A → List ℕ → Format A
 notBelow F prev = guard F (λ a. not (below (F .write a) prev)) outOfOrder
 
@@ -168,11 +168,11 @@ increasing F = series (above F)
 abbrev pub nondecreasing : {A : Type 0} → Format A → ℕ → Format (List A)
 nondecreasing F = series (notBelow F)
 
--- elements of no order
+-- elements in any order
 abbrev pub unordered : {A : Type 0} → Format A → ℕ → Format (List A)
 unordered F = series (λ prev. F)
 
--- ---- a count and as many elements
+-- ---- a count, then that many elements
 
 module _ {A : Type 0} (C : Format ℕ) (E : List ℕ → Format A) where
   unfoldable pub countPrefixed : Format (List A)

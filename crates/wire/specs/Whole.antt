@@ -1,4 +1,4 @@
--- The whole of a byte string as one value: at most so many bytes, and nothing behind the value. Assumes nothing.
+-- A whole byte string as one value: at most `most` bytes, and nothing after the value. Assumes nothing.
 use mathlib.Core.Path.{_≡_, refl, sym, ap, _∙_}
 use Prim.Native.Nat.{ℕ, _≤_}
 use native.Mathlib.Omega.{arith}
@@ -22,7 +22,7 @@ module _ {A : Type 0} (F : Format A) (most : ℕ) where
       (F .parse s 0 stop λ v n. pick (eqb n (length s)) (go v n) (stop (refusal bytesAfterEnd n)))
       (stop (refusal tooLong 0))
 
-  -- what is taken whole is a value of the format, its writing is the bytes, and these are not too many
+  -- what is read is a value of the format, its written bytes are the whole string, and they are at most `most`
   pub whole-sound : (s : List ℕ) (v : A) (n : ℕ) → Bytes s → whole s refused took ≡ took v n → F .Good v × (F .write v ≡ s) × (n ≡ length s) × (length s ≤ most)
   whole-sound s v n bs e =
       let (fits, e₁) = pick-inv (leb (length s) most) (refusal tooLong 0) _ v n e in
@@ -34,7 +34,7 @@ module _ {A : Type 0} (F : Format A) (most : ℕ) where
       moved (λ w k. F .Good w × (F .write w ≡ s) × (k ≡ length s) × (length s ≤ most)) e₃
       (ga, sym (sa .there ∙ ap (λ (r : List ℕ). F .write a ++ r) gone ∙ append-nil (F .write a)), len, leb-true (length s) most fits)
 
-  -- the writing of a value of the format is taken whole
+  -- the written bytes of a value of the format are read as that value, if they are at most `most`
   pub whole-complete : {R : Type 0} (v : A) (stop : Refusal → R) (go : A → ℕ → R) → F .Good v → length (F .write v) ≤ most
       → whole (F .write v) stop go ≡ go v (length (F .write v))
   whole-complete v stop go g h =
@@ -60,7 +60,7 @@ module _ {A : Type 0} (F : Format A) (most : ℕ) where
       fits true = inner
       fits false = refl
 
-  -- a refusal other than 2 is kept when bytes are added behind, as long as there are not too many
+  -- a refusal other than 2 stays when bytes are appended, if they are still at most `most`
   pub whole-stable : (s t : List ℕ) (e : Refusal) → Bytes s → (e .rule ≡ ruleOf cutShort → ⊥) → length (s ++ t) ≤ most → whole s refused took ≡ refused e
       → whole (s ++ t) refused took ≡ refused e
   whole-stable s t e bs ne h q =
@@ -76,7 +76,7 @@ module _ {A : Type 0} (F : Format A) (most : ℕ) where
       behind v n true q l r = let r′ : took v n ≡ refused e = rw q at r in took-refused v n e r′
       behind v n false q l r = rw (ne-eqb n (length (s ++ t)) (λ z. eqb-false n (length s) q (omega (arith, length-append s t)))) (rw q at r)
 
-  -- refused by a number of the table, 1 to 13
+  -- a refusal's number is one of the table, from 1 to 13
   pub whole-ruled : (s : List ℕ) (e : Refusal) → whole s refused took ≡ refused e → (1 ≤ numberOf e) × (numberOf e ≤ 13)
   whole-ruled s e = fits (leb (length s) most)
     where
@@ -98,7 +98,7 @@ module _ {A : Type 0} (F : Format A) (most : ℕ) where
       fits true q = inside (read F s 0) refl (sym (F .same s 0 refused _) ∙ q)
       fits false q = let z = ap ruleNumber (refused-rule {A = A} (refusal tooLong 0) e q) in (omega arith, omega arith)
 
-  -- refused at a place inside the bytes, or at their end
+  -- a refusal's place is inside the bytes, or at their end
   pub whole-placed : (s : List ℕ) (e : Refusal) → Bytes s → whole s refused took ≡ refused e → e .place ≤ length s
   whole-placed s e bs = fits (leb (length s) most)
     where

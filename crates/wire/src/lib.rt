@@ -1,5 +1,5 @@
-// Fields of a byte string at a place: a part of some width, a big-endian number, an identifier or an address handed over whole; the order of byte
-// strings; numbers and bytes put into a buffer.
+// Fields at an offset of a byte string: a fixed number of bytes, a big-endian integer, an identifier or an address returned by value. Also the order
+// of byte strings, and storing integers and bytes into a buffer.
 ghost use mathlib.Core.Path.{_≡_};
 ghost use Prim.Native.Nat.{_-_, _%_, _^_, _≤_, _<_, min};
 ghost use mathlib.Core.List.{_++_};
@@ -36,26 +36,26 @@ pub enum Rule {
     NotASignature,
 }
 
-// Why a reading or a request ends: the rule that is broken, and the place. The place stands first, where `End::At` has its own: they would
-// otherwise be taken apart and put together byte by byte.
+// Why a parse or a request ends: the rule that is broken, and the place. `place` comes first to line up with the offset of `End::At`: in the other
+// order the compiler moves the answer byte by byte.
 pub struct Refusal {
     pub place: usize,
     pub rule: Rule,
 }
 
-// A part that is wholly there, with the place behind it.
+// The offset just past a field that is wholly there, or why the field is refused.
 pub enum End {
     At(usize),
     Refused(Refusal),
 }
 
-// A number that is wholly there, with the place behind it.
+// An integer that is wholly there and the offset just past it, or why it is refused.
 pub enum Integer {
     Value(u64, usize),
     Refused(Refusal),
 }
 
-// How one byte string stands to another.
+// How one byte string compares with another.
 pub enum Order {
     Below,
     Equal,
@@ -91,14 +91,14 @@ pub fn number_of(rule: Rule) -> u32
     }
 }
 
-// Every refusal is made here, so that each names a rule of the table.
+// Makes a refusal. Every refusal is made here, so that each names a rule of the table.
 pub fn refuse(rule: Rule, place: usize) -> Refusal
     ensures { λ r. ⌜ r ≡ refusal rule place ⌝ }
 {
     Refusal { place, rule }
 }
 
-// The same rule at place 0, for what has no place in the bytes.
+// The same rule at place 0, for a refusal that has no place in the bytes.
 pub fn without_place(refused: Refusal) -> Refusal
     ensures { λ r. ⌜ r ≡ refusal (refused .rule) 0 ⌝ }
 {
@@ -106,15 +106,15 @@ pub fn without_place(refused: Refusal) -> Refusal
     refuse(rule, 0)
 }
 
-// Cut short: of the width bytes from at, not all are there.
+// The refusal of a field that is cut short: from `at` on there are fewer than `width` bytes.
 pub fn cut(s: &[u8], at: usize, width: usize) -> Refusal
     ensures { λ r. ⌜ r ≡ cutAt width (now (s .entry)) at ⌝ }
 {
     refuse(Rule::CutShort, at)
 }
 
-// Are there width bytes from at on? Where width is 0 there are, at any place. The width is compared with all bytes first: the compiler knows it,
-// and of fields behind one another makes that test once.
+// Whether there are `width` bytes from `at` on. If `width` is 0 there are, at any offset. `width` is compared with the whole length first: the
+// compiler knows `width`, so for consecutive fields it makes that test once.
 fn are_there(s: &[u8], at: usize, width: usize) -> bool
     ensures { λ r. ⌜ r ≡ leb width (length (now (s .entry)) - at) ⌝ }
 {
@@ -127,6 +127,7 @@ fn are_there(s: &[u8], at: usize, width: usize) -> bool
     true
 }
 
+// A field of `width` bytes.
 pub fn field_at(s: &[u8], at: usize, width: usize) -> End
     ensures { λ r. ⌜ r ≡ ended (blob width) (now (s .entry)) at ⌝ }
 {
@@ -136,7 +137,7 @@ pub fn field_at(s: &[u8], at: usize, width: usize) -> End
     End::Refused(cut(s, at, width))
 }
 
-// The number that width bytes make, all of which are there.
+// The integer in `width` bytes, all of which are there.
 fn value_at(s: &[u8], at: usize, width: usize) -> u64
     requires { ⌜ (width ≤ 8) × (width ≤ length (now s) - at) ⌝ }
     ensures { λ r. ⌜ r ≡ value (take width (drop at (now (s .entry)))) ⌝ }
@@ -151,7 +152,7 @@ fn value_at(s: &[u8], at: usize, width: usize) -> u64
     v
 }
 
-// A number of any width that a u64 holds.
+// An integer of any width that fits a u64.
 fn integer_at(s: &[u8], at: usize, width: usize) -> Integer
     requires { ⌜ width ≤ 8 ⌝ }
     ensures { λ r. ⌜ r ≡ valued (integer width) (now (s .entry)) at ⌝ }
@@ -186,7 +187,7 @@ pub fn u64_at(s: &[u8], at: usize) -> Integer
     integer_at(s, at, 8)
 }
 
-// The bytes from a up to e, as far as they are there.
+// The bytes from `a` up to `e`, as far as they are there.
 pub fn between(s: &[u8], a: usize, e: usize) -> &[u8]
     ensures { λ r. ⌜ now r ≡ between a e (now (s .entry)) ⌝ }
 {
@@ -202,7 +203,7 @@ pub fn between(s: &[u8], a: usize, e: usize) -> &[u8]
     &s[a..e]
 }
 
-// Copies as many bytes as both have.
+// Copies the start of `from` to the start of `room`, as many bytes as both have.
 pub fn put_bytes(room: &mut [u8], from: &[u8])
     ensures { λ _. ⌜ now (room .exit) ≡ take (length (now (room .entry))) (now (from .entry)) ++ drop (length (now (from .entry))) (now (room .entry)) ⌝ }
 {
@@ -213,8 +214,8 @@ pub fn put_bytes(room: &mut [u8], from: &[u8])
     bytes::copy(&from[..room.len()], room);
 }
 
-// Fills room, which has some, with the bytes from at, and leaves it where they are not all there. As many are taken as room has, so that the
-// compiler knows their number where it knows the room's: it copies them with no loop.
+// Fills `room`, which is not empty, with the bytes from `at` on; leaves it unchanged if they are not all there. It copies `room.len()` bytes, so
+// where the compiler knows that length it copies without a loop.
 fn copy_field(room: &mut [u8], s: &[u8], at: usize)
     requires { ⌜ 0 < length (now room) ⌝ }
     ensures { λ _. ⌜ now (room .exit) ≡ blob (length (now (room .entry))) .parse (now (s .entry)) at (λ e. now (room .entry)) (λ b n. b) ⌝ }
@@ -224,7 +225,7 @@ fn copy_field(room: &mut [u8], s: &[u8], at: usize)
     }
 }
 
-// The 32 bytes of an identifier, or zeros where they are not all there.
+// The 32 bytes of an identifier, or zeros if they are not all there.
 pub fn id_at(s: &[u8], at: usize) -> [u8; 32]
     ensures { λ r. ⌜ r ≡ wholeAt 32 (now (s .entry)) at ⌝ }
 {
@@ -233,7 +234,7 @@ pub fn id_at(s: &[u8], at: usize) -> [u8; 32]
     id
 }
 
-// The 20 bytes of an address, or zeros where they are not all there.
+// The 20 bytes of an address, or zeros if they are not all there.
 pub fn address_at(s: &[u8], at: usize) -> [u8; 20]
     ensures { λ r. ⌜ r ≡ wholeAt 20 (now (s .entry)) at ⌝ }
 {
@@ -242,7 +243,7 @@ pub fn address_at(s: &[u8], at: usize) -> [u8; 20]
     address
 }
 
-// The order of bytes that are handed over by value.
+// Compares two byte strings three ways, for identifiers and addresses that callers hold by value.
 pub fn order_of(a: &[u8], b: &[u8]) -> Order
     ensures { λ r. ⌜ r ≡ order (now (a .entry)) (now (b .entry)) ⌝ }
 {
@@ -274,7 +275,7 @@ fn shorter(a: usize, b: usize) -> usize
     b
 }
 
-// Is a strictly below b? Parts of the input can be long and differ late, so an equal byte costs one comparison, of bytes both are known to have.
+// Whether `a` is strictly below `b`. Long elements usually differ late, so equal bytes cost one comparison.
 pub fn is_below(a: &[u8], b: &[u8]) -> bool
     ensures { λ r. ⌜ r ≡ below (now (a .entry)) (now (b .entry)) ⌝ }
 {
@@ -289,7 +290,7 @@ pub fn is_below(a: &[u8], b: &[u8]) -> bool
     i < b.len()
 }
 
-// Of two parts that stand next to each other, from a up to b and from b up to c: is the second strictly below the first?
+// Whether, of the adjacent byte ranges from `a` up to `b` and from `b` up to `c`, the second is strictly below the first.
 pub fn next_below(s: &[u8], a: usize, b: usize, c: usize) -> bool
     ensures { λ r. ⌜ r ≡ below (between b c (now (s .entry))) (between a b (now (s .entry))) ⌝ }
 {
@@ -321,7 +322,7 @@ pub fn address_below(a: [u8; 20], b: [u8; 20]) -> bool
     }
 }
 
-// By identifier, then by index.
+// Compares keys by identifier, then by index.
 pub fn key_below(a: [u8; 32], i: u64, b: [u8; 32], j: u64) -> bool
     ensures { λ r. ⌜ r ≡ keyBelow a i b j ⌝ }
 {
@@ -332,7 +333,7 @@ pub fn key_below(a: [u8; 32], i: u64, b: [u8; 32], j: u64) -> bool
     }
 }
 
-// Fills room with the lowest bytes of value, the highest of them first.
+// Fills `room` with the lowest bytes of `value`, most significant first.
 pub fn put_integer(room: &mut [u8], value: u64)
     ensures { λ _. ⌜ now (room .exit) ≡ digits (length (now (room .entry))) (value % 256 ^ length (now (room .entry))) ⌝ }
 {
