@@ -1,4 +1,4 @@
--- The formats of a transaction's parts have exactly the values that specs/Good says. Assumes nothing.
+-- The formats of a transaction's elements have exactly the values that specs/Good says. Assumes nothing.
 use mathlib.Core.Path.{_≡_, refl, ap, subst, subst⁻¹}
 use mathlib.Core.Logic.{_↔_, Iff·rfl, Iff·trans, Iff·and, _⊎_, inl, inr}
 use Prim.Native.Nat.{ℕ, suc, _^_, _≤_, _<_}

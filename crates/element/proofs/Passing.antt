@@ -1,5 +1,5 @@
--- What each element is to a function that passes it: the same bytes, in the fields that the code steps over. Its contract is entered by a law
--- `..-passed` or `..-told`; the laws `..-next`, `..-refused` and `..-whole` go on behind a call, as those of wire's proofs/Passing do.
+-- Laws for functions that skip an element: its bytes, as the fields that the code steps over. A contract is entered by a law `..-passed` or
+-- `..-told`; the laws `..-next`, `..-refused` and `..-whole` continue after a call, as those of wire's proofs/Passing do.
 -- Assumes nothing.
 use Prim.Native.Nat.{ℕ, _+_, _*_, _^_, _≤_, _<_}
 use mathlib.Core.Path.{_≡_, refl, sym, ap, subst}

@@ -1,11 +1,11 @@
--- How the readers of this crate meet their formats. Each law of the form z ≡ (the reading) goes one step into a reading, where it is known what
--- the code found, as the laws of wire's proofs/Reading do; the proofs of the functions walk by `search` over the rulesets.
---   answers          what the answer of a reader says of its format's reading: said once, for any answer
---   order            what code compares, and what the format compares
---   lists            what is left of a list, by what code keeps of the element before
---   addresses .. initial states    for each part of a transaction: how the reading of what holds it goes on from its answer (`on-..`,
+-- Laws for the readers of this crate, in the form of those of wire's proofs/Reading: each law of the form z ≡ (the parse) goes one step into a
+-- format's parser, by what the code has found. The proofs of the functions use `search` over the rulesets.
+--   answers          what the answer of a reader says of its format's parser, stated once for any answer
+--   order            what the code compares, and what the format compares
+--   lists            the rest of a list, by what the code keeps of the element before
+--   addresses .. initial states    for each element: how the parser of what holds it continues from the reader's answer (`on-..`,
 --                    `on-..-refused`)
---   rulesets         a chain up to a refusal or to an answer that is handed up
+--   rulesets         a chain that ends in a refusal or in an answer that is returned
 -- Assumes nothing.
 use Prim.Native.Nat.{ℕ, zero, suc, _-_, _^_, _≤_, _<_}
 use mathlib.Core.Path.{_≡_, refl, sym, ap, _∙_}

@@ -1,4 +1,4 @@
--- By which rules the parts of a transaction are refused. Assumes nothing.
+-- The rules that the elements of a transaction are refused by. Assumes nothing.
 use Prim.Native.Nat.{ℕ}
 use mathlib.Core.Path.{refl}
 use mathlib.Core.List.{List, [], _∷_}

@@ -1,4 +1,4 @@
--- The formats write the bytes of specs/Layout. Each law holds of every value, good or not. Assumes nothing.
+-- The formats write the bytes of specs/PlainBytes. Each law holds of every value, good or not. Assumes nothing.
 use mathlib.Core.Path.{_≡_, refl, ap, ap₂}
 use Prim.Native.Nat.{ℕ}
 use mathlib.Core.List.{List, [], _∷_, _++_, append-assoc}

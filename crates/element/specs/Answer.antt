@@ -1,4 +1,5 @@
--- What the readers of this crate answer, as the two ends of a format's reading. Most answer where it ends (`ended`, of wire). Assumes nothing.
+-- What the readers of this crate return, as the two continuations of a format's parser. Most return the offset just past the value (`ended`, of
+-- wire). Assumes nothing.
 use Prim.Native.Nat.{ℕ}
 use mathlib.Core.Bool.{Bool, true}
 use mathlib.Core.List.{List}
@@ -16,9 +17,9 @@ Terms = List ℕ × (ℕ × List ℕ)
 abbrev pub Action : Type 0
 Action = (k : OperationType) × (Terms × OperationOwners k)
 
--- ---- orders as code keeps them: the first of a list has none before it
+-- ---- orders as the code checks them: the first element has none before it
 
--- what was read at this place is not below what stands from prev up to it
+-- the answer for what is read at `at`, refused if that is below the bytes from `prev` up to `at`
 abbrev pub inOrder : List ℕ → ℕ → ℕ → End → End
 inOrder s prev at (P.Refused e) = P.Refused e
 inOrder s prev at (P.At n) = pick (below (between at n s) (between prev at s)) (P.Refused (by outOfOrder at)) (P.At n)

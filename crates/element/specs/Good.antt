@@ -1,4 +1,4 @@
--- Which values the parts of a transaction have, in plain words: the widths of document 01's "Layout" and its "Rules and their moments".
+-- Which values the elements of a transaction have, in plain words: the widths of document 01's "Layout" and its "Rules and their moments".
 -- proofs/Good shows that these are exactly the values of the formats. Assumes nothing.
 use Prim.Native.Nat.{ℕ, _^_, _≤_, _<_}
 use mathlib.Core.List.{List, [], _∷_, map}
@@ -14,7 +14,7 @@ use Rattle.element.specs.PlainBytes.{outputBytes, keyBytes}
 
 -- ---- strings
 
--- bytes of any value: a memo of at most 256, a payload of at most 1,024
+-- any bytes: at most 256 in a memo, at most 1,024 in a payload
 pub record GoodString (most : ℕ) (b : List ℕ) : Type 0 where
   pub short : length b ≤ most
   pub bytes : Bytes b
@@ -45,23 +45,23 @@ pub record GoodAmount (n : ℕ) : Type 0 where
   pub positive : 0 < n
   pub width : n < 2 ^ 64
 
--- type 7
+-- an output of type 7
 pub record GoodSecpTransfer (amount : ℕ) (owners : Owners) : Type 0 where
   pub amount-good : GoodAmount amount
   pub owners-good : GoodOwners owners
 
--- type 10
+-- an output of type 10
 pub record GoodNftMint (group : ℕ) (owners : Owners) : Type 0 where
   pub group-width : group < 2 ^ 32
   pub owners-good : GoodOwners owners
 
--- type 11
+-- an output of type 11
 pub record GoodNftTransfer (group : ℕ) (payload : List ℕ) (owners : Owners) : Type 0 where
   pub group-width : group < 2 ^ 32
   pub payload-good : GoodString 1024 payload
   pub owners-good : GoodOwners owners
 
--- what stands behind an output's type; type 6 has owners only
+-- what follows an output's type; type 6 has owners only
 abbrev pub GoodOutputBody : (k : OutputType) → OutputBody k → Type 0
 GoodOutputBody secpMint owners = GoodOwners owners
 GoodOutputBody secpTransfer (amount, owners) = GoodSecpTransfer amount owners
@@ -73,7 +73,7 @@ pub record GoodOutput (types : List OutputType) (o : Output) : Type 0 where
   pub type : OneOf (o .0) types
   pub body : GoodOutputBody (o .0) (o .1)
 
--- base and exported outputs take type 7 only
+-- base and exported outputs have type 7 only
 pub record GoodTransferableOutput (o : TransferableOutput) : Type 0 where
   pub asset : Sized 32 (o .asset)
   pub output : GoodOutput (secpTransfer ∷ []) (o .output)
@@ -91,8 +91,8 @@ pub record GoodKey (id : List ℕ) (index : ℕ) : Type 0 where
   pub id-good : Sized 32 id
   pub index-width : index < 2 ^ 32
 
--- that inputs strictly increase by (id, index) is said of their list: by these bytes, keys are in order by the id, and by the index where the
--- ids are equal (`key-order`, of proofs/Good)
+-- inputs strictly increase by (id, index), which is said of their list: in byte order, keys compare by id, then by index (`key-order`, of
+-- proofs/Good)
 pub record GoodInput (i : Input) : Type 0 where
   pub key : GoodKey (i .txid) (i .index)
   pub asset : Sized 32 (i .asset)
@@ -104,7 +104,7 @@ inputKey i = keyBytes (i .txid) (i .index)
 
 -- ---- operations
 
--- type 12 has a list of owners, of no order and perhaps empty; type 13 has owners
+-- type 12 has a list of owners, in any order and perhaps empty; type 13 has owners
 pub record GoodRecipients (l : List Owners) : Type 0 where
   pub count : length l < 2 ^ 32
   pub each : All GoodOwners l
@@ -118,7 +118,7 @@ pub record GoodTerms (indices : List ℕ) (group : ℕ) (payload : List ℕ) : T
   pub group-width : group < 2 ^ 32
   pub payload-good : GoodString 1024 payload
 
--- the (id, index) pairs strictly increase
+-- (id, index) pairs strictly increase
 pub record GoodOperation (v : Operation) : Type 0 where
   pub asset : Sized 32 (v .asset)
   pub count : length (v .outputs) < 2 ^ 32
@@ -134,7 +134,7 @@ abbrev pub outputsUnder : Fx → List OutputType
 outputsUnder secpFx = secpMint ∷ secpTransfer ∷ []
 outputsUnder nftFx = nftMint ∷ nftTransfer ∷ []
 
--- outputs non-decreasing as byte strings; that FxIDs strictly increase is said of their list
+-- outputs do not decrease as byte strings; that FxIDs strictly increase is said of the list of states
 pub record GoodInitialState (v : InitialState) : Type 0 where
   pub count : length (v .outputs) < 2 ^ 32
   pub outputs : All (GoodOutput (outputsUnder (v .fx))) (v .outputs)

@@ -1,4 +1,4 @@
--- Transferable inputs: they strictly increase by transaction id and output index, judged when the index is read. Assumes nothing.
+-- Transferable inputs, which strictly increase by transaction id and output index, checked when the index is read. Assumes nothing.
 use mathlib.Core.Path.{refl}
 use Prim.Native.Nat.{ℕ, _-_, _*_}
 use mathlib.Core.List.{List}
@@ -19,7 +19,7 @@ key = andThen (blob 32) (λ id. integer 4)
 abbrev pub keyWidth : ℕ
 keyWidth = 36
 
--- address indices, each above the one before
+-- address indices, each strictly above the one before
 unfoldable pub indices : Format (List ℕ)
 unfolding countPrefixed
 indices = countPrefixed (integer 4) (above (integer 4))
@@ -31,12 +31,12 @@ pub record Input : Type 0 where
   pub amount : ℕ
   pub indices : List ℕ
 
--- an input behind its key: asset id, type 5, amount, indices
+-- what follows an input's key: asset id, type 5, amount, indices
 unfoldable pub spend : Format (List ℕ × (Unit {0} × (ℕ × List ℕ)))
 unfolding andThen constant amount indices
 spend = andThen (blob 32) (λ asset. andThen (constant 4 5 unknownType) (λ type. andThen amount (λ n. indices)))
 
--- an input whose key is above the key bytes `before`
+-- an input whose key is strictly above the key bytes `before`
 unfoldable pub inputAfter : List ℕ → Format Input
 unfolding named andThen
 inputAfter before =
@@ -46,7 +46,7 @@ inputAfter before =
     (λ v h. refl)
     (λ i. refl)
 
--- `prev` is the bytes of the input before, [] before the first
+-- `prev` is the bytes of the input before, or [] for the first input
 abbrev pub input : List ℕ → Format Input
 input prev = inputAfter (take keyWidth prev)
 

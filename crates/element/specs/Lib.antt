@@ -1,4 +1,4 @@
--- The parts of a transaction as formats, in the order of document 01's "Layout"
+-- The elements of a transaction as formats, in the order of document 01's "Layout"
 pub mod Owners
 pub mod Outputs
 pub mod Inputs

@@ -35,7 +35,7 @@ pub operationType-code : (k : OperationType) → operationType (operationCode k)
 operationType-code mintNft = refl
 operationType-code transferNft = refl
 
--- a mint has a list of owners, of no order; a transfer has owners
+-- a mint has a list of owners, in any order; a transfer has owners
 abbrev pub OperationOwners : OperationType → Type 0
 OperationOwners mintNft = List Owners
 OperationOwners transferNft = Owners
@@ -49,7 +49,7 @@ unfoldable pub terms : Format (List ℕ × (ℕ × List ℕ))
 unfolding andThen indices
 terms = andThen indices (λ list. andThen (integer 4) (λ group. payload))
 
--- type, terms, and what the type has
+-- type, terms, and the recipients of that type
 unfoldable pub action : Format ((k : OperationType) × ((List ℕ × (ℕ × List ℕ)) × OperationOwners k))
 unfolding andThen countPrefixed
 action =
@@ -62,7 +62,7 @@ pub record Operation : Type 0 where
   pub terms : List ℕ × (ℕ × List ℕ)
   pub owners : (k : OperationType) × OperationOwners k
 
--- asset id, the outputs consumed as (id, index) pairs, and the action
+-- asset id, the consumed outputs as (id, index) pairs, and the action
 unfoldable pub operation : Format Operation
 unfolding named andThen countPrefixed
 operation =
@@ -102,12 +102,12 @@ pub record InitialState : Type 0 where
   pub fx : Fx
   pub outputs : List Output
 
--- the outputs that an FxID allows, none below the one before
+-- outputs of the types that an FxID allows, none below the one before
 unfoldable pub stateOutputs : Fx → Format (List Output)
 unfolding countPrefixed
 stateOutputs k = countPrefixed (integer 4) (notBelow (output (fxOutputs k)))
 
--- an initial state whose FxID is above the bytes `before`
+-- an initial state whose FxID is strictly above the bytes `before`
 unfoldable pub initialStateAfter : List ℕ → Format InitialState
 unfolding named andThen
 initialStateAfter before =
@@ -117,7 +117,7 @@ initialStateAfter before =
     (λ v h. refl)
     (λ v. refl)
 
--- `prev` is the bytes of the initial state before, [] before the first
+-- `prev` is the bytes of the initial state before, or [] for the first
 abbrev pub initialState : List ℕ → Format InitialState
 initialState prev = initialStateAfter (take 4 prev)
 
@@ -133,7 +133,7 @@ termsFields at end (list, (group, p)) =
       «payload_length» = length p;
     }
 
--- the owners of a mint stand from `first` on, behind their count
+-- the owners of a mint start at `first`, just past their count
 abbrev pub recipients : ℕ → ℕ → (k : OperationType) × OperationOwners k → Recipients
 recipients first end (mintNft, l) = R.Mint first (length l)
 recipients first end (transferNft, o) = R.Transfer (ownersFields end o)

@@ -1,4 +1,4 @@
--- Outputs of the four types, and transferable outputs, which have an asset id in front. Assumes nothing.
+-- Outputs of the four types, and transferable outputs, which start with an asset id. Assumes nothing.
 use mathlib.Core.Path.{_≡_, refl}
 use Prim.Native.Nat.{ℕ, _+_}
 use mathlib.Core.List.{List, [], _∷_}
@@ -36,7 +36,7 @@ outputType-code secpTransfer = refl
 outputType-code nftMint = refl
 outputType-code nftTransfer = refl
 
--- what stands behind the type: owners; amount and owners; group and owners; group, payload and owners
+-- what follows the type: owners; amount and owners; group and owners; group, payload and owners
 abbrev pub OutputBody : OutputType → Type 0
 OutputBody secpMint = Owners
 OutputBody secpTransfer = ℕ × Owners
@@ -61,7 +61,7 @@ unfoldable pub output : List OutputType → Format Output
 unfolding andThen tag
 output types = andThen (tag outputCode outputType outputType-code (integer 4) types unknownType) outputBody
 
--- ---- an output with its asset id; base and exported outputs take type 7 only
+-- ---- an output after its asset id; base and exported outputs have type 7 only
 
 pub record TransferableOutput : Type 0 where
   pub asset : List ℕ

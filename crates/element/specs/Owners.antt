@@ -24,7 +24,7 @@ addressWidth = 20
 abbrev pub thresholdFits : ℕ → ℕ → Bool
 thresholdFits threshold addresses = leb threshold addresses
 
--- the threshold is judged when the number of addresses is read, at the threshold
+-- the threshold is checked when the number of addresses is read, and refused at the threshold's place
 unfoldable pub owners : Format Owners
 unfolding named andThen guard
 owners =
@@ -38,7 +38,7 @@ owners =
     (items-sized (above (blob addressWidth)) (left (above (blob addressWidth))) [] (v .1 .0 .1) (v .1 .1) (h .1 .1)))
     (λ o. refl)
 
--- the numbers of owners that end at `end`: their addresses are the last of their bytes
+-- the fields of owners that end at `end`: the addresses are their last bytes
 abbrev pub ownersFields : ℕ → Owners → OwnersFields
 ownersFields end o =
     record {

@@ -1,4 +1,4 @@
--- The bytes of a transaction's parts, field after field in the order of document 01's "Layout". Nothing here depends on a format: proofs/Writing
+-- The bytes of a transaction's elements, field after field in the order of document 01's "Layout". Nothing here depends on a format: proofs/Writing
 -- shows that the formats write exactly these bytes. Assumes nothing.
 use Prim.Native.Nat.{ℕ}
 use mathlib.Core.List.{List, [], _∷_, _++_}
@@ -9,7 +9,7 @@ use Rattle.element.specs.Outputs.{secpMint, secpTransfer, nftMint, nftTr
 use Rattle.element.specs.Inputs.{Input}
 use Rattle.element.specs.Operations.{OperationType, mintNft, transferNft, OperationOwners, Operation, Fx, secpFx, nftFx, InitialState}
 
--- ---- numbers are big-endian
+-- ---- integers are big-endian
 
 abbrev pub u8 : ℕ → List ℕ
 u8 = digits 1
@@ -25,20 +25,20 @@ u64 = digits 8
 
 -- ---- lists and strings
 
--- the elements' bytes, one after another
+-- the bytes of the elements, one after another
 unfoldable pub joined : {A : Type 0} → (A → List ℕ) → List A → List ℕ
 joined f [] = []
 joined f (a ∷ l) = f a ++ joined f l
 
--- a count, and the elements
+-- a count, then the elements
 abbrev pub listBytes : {A : Type 0} → (A → List ℕ) → List A → List ℕ
 listBytes f l = u32 (length l) ++ joined f l
 
--- a memo or a payload: its length in 32 bits
+-- a memo or a payload, after its length in 32 bits
 abbrev pub stringBytes : List ℕ → List ℕ
 stringBytes b = u32 (length b) ++ b
 
--- a name or a symbol: its length in 16 bits
+-- a name or a symbol, after its length in 16 bits
 abbrev pub textBytes : List ℕ → List ℕ
 textBytes b = u16 (length b) ++ b
 
@@ -55,7 +55,7 @@ outputBytes (secpTransfer, (amount, owners)) = u32 7 ++ u64 amount ++ ownersByte
 outputBytes (nftMint, (group, owners)) = u32 10 ++ u32 group ++ ownersBytes owners
 outputBytes (nftTransfer, (group, (payload, owners))) = u32 11 ++ u32 group ++ stringBytes payload ++ ownersBytes owners
 
--- asset id, output
+-- asset id, then output
 unfoldable pub transferableOutputBytes : TransferableOutput → List ℕ
 transferableOutputBytes o = o .asset ++ outputBytes (o .output)
 
@@ -80,7 +80,7 @@ unfoldable pub actionBytes : List ℕ × (ℕ × List ℕ) → (k : OperationTyp
 actionBytes terms (mintNft, list) = u32 12 ++ termsBytes terms ++ listBytes ownersBytes list
 actionBytes terms (transferNft, owners) = u32 13 ++ termsBytes terms ++ ownersBytes owners
 
--- asset id, the outputs consumed, and the action
+-- asset id, the consumed outputs, and the action
 unfoldable pub operationBytes : Operation → List ℕ
 operationBytes v = v .asset ++ listBytes (λ (id, index). keyBytes id index) (v .outputs) ++ actionBytes (v .terms) (v .owners)
 
@@ -90,6 +90,6 @@ abbrev pub plainFxId : Fx → ℕ
 plainFxId secpFx = 0
 plainFxId nftFx = 1
 
--- FxID, outputs
+-- FxID, then outputs
 unfoldable pub initialStateBytes : InitialState → List ℕ
 initialStateBytes v = u32 (plainFxId (v .fx)) ++ listBytes outputBytes (v .outputs)

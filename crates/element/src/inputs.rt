@@ -1,4 +1,4 @@
-// Inputs: they strictly increase by transaction id and output index.
+// Inputs, which strictly increase by transaction id and output index.
 ghost use mathlib.Core.Path.{_≡_};
 ghost use Rattle.wire.specs.Fields.{integer};
 ghost use Rattle.wire.specs.Series.{increasing, series};
@@ -10,7 +10,7 @@ use wire::End;
 use wire::Integer;
 use wire::Rule;
 
-// May this number stand behind the one before, if there is any?
+// Whether `integer` may come after `prev`; if there is none before it (`any` is false), it may.
 pub(crate) fn integer_follows(any: bool, prev: u64, integer: u64) -> bool
     ensures { λ r. ⌜ r ≡ integerFollows any prev integer ⌝ }
 {
@@ -20,7 +20,7 @@ pub(crate) fn integer_follows(any: bool, prev: u64, integer: u64) -> bool
     true
 }
 
-// May this key stand behind the one before, if there is any?
+// Whether the key (`id`, `index`) may come after (`prev`, `last`); if there is none before it (`any` is false), it may.
 pub(crate) fn key_follows(any: bool, prev: [u8; 32], last: u64, id: [u8; 32], index: u64) -> bool
     ensures { λ r. ⌜ r ≡ keyFollows any prev last id index ⌝ }
 {
@@ -30,7 +30,7 @@ pub(crate) fn key_follows(any: bool, prev: [u8; 32], last: u64, id: [u8; 32], in
     true
 }
 
-// So many address indices from start, each above the one before.
+// `count` address indices from `start` on, each strictly above the one before.
 pub(crate) fn indices_from(s: &[u8], start: usize, count: u64) -> End
     ensures { λ r. ⌜ r ≡ ended (increasing (integer 4) count) (now (s .entry)) start ⌝ }
 {
@@ -78,7 +78,7 @@ fn spend_at(s: &[u8], at: usize) -> End
     }
 }
 
-// So many inputs from start.
+// `count` inputs from `start` on.
 pub fn inputs_from(s: &[u8], start: usize, count: u64) -> End
     ensures { λ r. ⌜ r ≡ ended (series input count) (now (s .entry)) start ⌝ }
 {

@@ -1,4 +1,4 @@
-// Elements that were read, passed by their lengths: nothing is judged again. Bytes that were not read get some answer, and no promise.
+// Skips elements that were read, by their lengths: no rule is checked again. On bytes that were not read the answer means nothing.
 ghost use mathlib.Core.List.{List};
 ghost use Prim.Native.Nat.{ℕ, _≤_};
 ghost use lib.ListN.{length};
@@ -28,7 +28,7 @@ use crate::SECP_TRANSFER;
 use wire::End;
 use wire::Integer;
 
-// A count and as many elements of one width: tells the count. The width is small, so that the product is a usize.
+// A count, then that many elements of `width` bytes each; returns the count. The width is small, so the product fits a usize.
 fn list_past(s: &[u8], at: usize, width: usize) -> Integer
     requires { ⌜ width ≤ 64 ⌝ }
     ensures { λ r. ⌜ Tells (byCount width) (λ v. v .0) (now (s .entry)) at r ⌝ }
@@ -54,7 +54,7 @@ fn owners_past(s: &[u8], at: usize) -> End
     }
 }
 
-// Owners behind a field of some width.
+// Owners after a field of `width` bytes.
 fn owners_behind(s: &[u8], at: usize, width: usize) -> End
     ensures { λ r. ⌜ Passes (andThen (blob width) (λ field. owners)) (now (s .entry)) at r ⌝ }
 {
@@ -64,7 +64,7 @@ fn owners_behind(s: &[u8], at: usize, width: usize) -> End
     owners_past(s, next)
 }
 
-// `count` owners from start, in any order.
+// `count` owners from `start` on, in any order.
 fn owners_list_past(s: &[u8], start: usize, count: u64) -> End
     ensures { λ r. ⌜ Passes (unordered owners count) (now (s .entry)) start r ⌝ }
 {
@@ -84,7 +84,7 @@ fn owners_list_past(s: &[u8], start: usize, count: u64) -> End
     End::At(at)
 }
 
-// Type 11 behind its type: group, payload, owners.
+// What follows type 11: group, payload, owners.
 fn payload_past(s: &[u8], at: usize) -> End
     ensures { λ r. ⌜ Passes (andThen (blob 4) (λ group. andThen payload (λ p. owners))) (now (s .entry)) at r ⌝ }
 {
@@ -116,7 +116,7 @@ pub fn output_past(s: &[u8], at: usize) -> End
     payload_past(s, body)
 }
 
-// An output behind its asset id.
+// A transferable output: asset id, then output.
 pub fn transferable_past(s: &[u8], at: usize) -> End
     ensures { λ r. ⌜ ((prev : List ℕ) → Passes (notBelow transferableOutput prev) (now (s .entry)) at r) ⌝ }
 {
@@ -126,7 +126,7 @@ pub fn transferable_past(s: &[u8], at: usize) -> End
     output_past(s, next)
 }
 
-// An input: tells how many address indices it has. One test finds all that stands before the indices, with their count.
+// An input; returns the number of its address indices. One test covers all fields before the indices, and their count.
 pub fn input_past(s: &[u8], at: usize) -> Integer
     ensures { λ r. ⌜ ((prev : List ℕ) → Tells (input prev) (λ v. length (v .indices)) (now (s .entry)) at r) ⌝ }
 {
@@ -143,7 +143,7 @@ pub fn input_past(s: &[u8], at: usize) -> Integer
     }
 }
 
-// Address indices, group, payload: tells how many address indices there are.
+// Address indices, group, payload; returns the number of address indices.
 fn terms_past(s: &[u8], at: usize) -> Integer
     ensures { λ r. ⌜ Tells terms (λ v. length (v .0)) (now (s .entry)) at r ⌝ }
 {
@@ -161,7 +161,7 @@ fn terms_past(s: &[u8], at: usize) -> Integer
     }
 }
 
-// Behind the terms, by the operation's type: a mint has a list of owners, a transfer has owners.
+// What follows the terms, by the operation's type: a list of owners for a mint, owners for a transfer.
 fn recipients_past(s: &[u8], at: usize, type_id: u64) -> End
     ensures { λ r. ⌜ Passes (operationOwners (operationType «type_id»)) (now (s .entry)) at r ⌝ }
 {
@@ -174,7 +174,7 @@ fn recipients_past(s: &[u8], at: usize, type_id: u64) -> End
     owners_past(s, at)
 }
 
-// What follows an operation's pairs: type, terms, recipients.
+// What follows an operation's pairs: type, terms, recipients. Returns the number of address indices.
 fn action_past(s: &[u8], at: usize) -> Integer
     ensures { λ r. ⌜ Tells action (λ v. length (v .1 .0 .0)) (now (s .entry)) at r ⌝ }
 {
@@ -190,7 +190,7 @@ fn action_past(s: &[u8], at: usize) -> Integer
     }
 }
 
-// An operation: tells how many address indices it has.
+// An operation; returns the number of its address indices.
 pub fn operation_past(s: &[u8], at: usize) -> Integer
     ensures { λ r. ⌜ Tells operation (λ v. length (v .terms .0)) (now (s .entry)) at r ⌝ }
 {
@@ -203,7 +203,7 @@ pub fn operation_past(s: &[u8], at: usize) -> Integer
     }
 }
 
-// `count` outputs of an initial state from start.
+// `count` outputs of an initial state, from `start` on.
 fn outputs_past(s: &[u8], start: usize, count: u64) -> End
     ensures { λ r. ⌜ ((fx : Fx) → Passes (nondecreasing (output (fxOutputs fx)) count) (now (s .entry)) start r) ⌝ }
 {
@@ -223,7 +223,7 @@ fn outputs_past(s: &[u8], start: usize, count: u64) -> End
     End::At(at)
 }
 
-// An initial state: FxID, and a list of outputs.
+// An initial state: FxID, then a list of outputs.
 pub fn state_past(s: &[u8], at: usize) -> End
     ensures { λ r. ⌜ ((prev : List ℕ) → Passes (initialState prev) (now (s .entry)) at r) ⌝ }
 {

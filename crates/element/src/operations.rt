@@ -11,7 +11,7 @@ use wire::End;
 use wire::Integer;
 use wire::Rule;
 
-// So many (id, index) pairs from start, each above the one before.
+// `count` (id, index) pairs from `start` on, each strictly above the one before.
 fn pairs_from(s: &[u8], start: usize, count: u64) -> End
     ensures { λ r. ⌜ r ≡ ended (increasing key count) (now (s .entry)) start ⌝ }
 {
@@ -59,7 +59,7 @@ fn terms_at(s: &[u8], at: usize) -> End
     }
 }
 
-// Behind the terms, by the operation's type: a mint (12) has a list of owners, a transfer (13) has owners.
+// What follows the terms, by the operation's type: a list of owners for a mint (12), owners for a transfer (13).
 fn recipients_at(s: &[u8], at: usize, type_id: u64) -> End
     ensures { λ r. ⌜ r ≡ ended (operationOwners (operationType «type_id»)) (now (s .entry)) at ⌝ }
 {
@@ -72,7 +72,7 @@ fn recipients_at(s: &[u8], at: usize, type_id: u64) -> End
     owners::owners_at(s, at)
 }
 
-// What follows an operation's pairs: type, terms, and what the type has.
+// What follows an operation's pairs: type, terms, recipients.
 fn action_at(s: &[u8], at: usize) -> End
     ensures { λ r. ⌜ r ≡ ended action (now (s .entry)) at ⌝ }
 {
@@ -91,7 +91,7 @@ fn action_at(s: &[u8], at: usize) -> End
     }
 }
 
-// Asset id, (id, index) pairs, action.
+// An operation: asset id, (id, index) pairs, action.
 pub fn operation_at(s: &[u8], at: usize) -> End
     ensures { λ r. ⌜ r ≡ ended operation (now (s .entry)) at ⌝ }
 {
@@ -107,7 +107,7 @@ pub fn operation_at(s: &[u8], at: usize) -> End
     }
 }
 
-// So many operations from start, of no order.
+// `count` operations from `start` on, in any order.
 pub fn operations_from(s: &[u8], start: usize, count: u64) -> End
     ensures { λ r. ⌜ r ≡ ended (unordered operation count) (now (s .entry)) start ⌝ }
 {
@@ -127,7 +127,7 @@ pub fn operations_from(s: &[u8], start: usize, count: u64) -> End
     End::At(at)
 }
 
-// The outputs of an initial state: their count, and as many of the types that its FxID allows.
+// The outputs of an initial state: their count, then that many outputs of the types that its FxID allows.
 pub fn state_outputs_at(s: &[u8], at: usize, fx: u64) -> End
     ensures { λ r. ⌜ r ≡ ended (stateOutputs (fxOf fx)) (now (s .entry)) at ⌝ }
 {
@@ -140,7 +140,7 @@ pub fn state_outputs_at(s: &[u8], at: usize, fx: u64) -> End
     outputs::nft_from(s, first, count)
 }
 
-// So many initial states from start, whose FxIDs increase.
+// `count` initial states from `start` on, with strictly increasing FxIDs.
 pub fn states_from(s: &[u8], start: usize, count: u64) -> End
     ensures { λ r. ⌜ r ≡ ended (series initialState count) (now (s .entry)) start ⌝ }
 {

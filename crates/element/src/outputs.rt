@@ -10,7 +10,7 @@ use wire::End;
 use wire::Integer;
 use wire::Rule;
 
-// An amount, which is not 0.
+// An amount, which must not be 0.
 pub(crate) fn amount_at(s: &[u8], at: usize) -> End
     ensures { λ r. ⌜ r ≡ ended amount (now (s .entry)) at ⌝ }
 {
@@ -23,7 +23,7 @@ pub(crate) fn amount_at(s: &[u8], at: usize) -> End
     End::At(next)
 }
 
-// Type 7 behind its type: amount, owners.
+// What follows type 7: amount, owners.
 fn transfer_body_at(s: &[u8], at: usize) -> End
     ensures { λ r. ⌜ r ≡ ended transferBody (now (s .entry)) at ⌝ }
 {
@@ -33,7 +33,7 @@ fn transfer_body_at(s: &[u8], at: usize) -> End
     }
 }
 
-// Under FxID 0: type 6, owners; or type 7.
+// An output under FxID 0: type 6 and owners, or type 7, amount and owners.
 pub(crate) fn secp_at(s: &[u8], at: usize) -> End
     ensures { λ r. ⌜ r ≡ ended (output (fxOutputs secpFx)) (now (s .entry)) at ⌝ }
 {
@@ -49,7 +49,7 @@ pub(crate) fn secp_at(s: &[u8], at: usize) -> End
     transfer_body_at(s, a)
 }
 
-// Under FxID 1: type 10, group, owners; or type 11, group, payload, owners.
+// An output under FxID 1: type 10, group and owners, or type 11, group, payload and owners.
 pub(crate) fn nft_at(s: &[u8], at: usize) -> End
     ensures { λ r. ⌜ r ≡ ended (output (fxOutputs nftFx)) (now (s .entry)) at ⌝ }
 {
@@ -74,7 +74,7 @@ pub(crate) fn nft_at(s: &[u8], at: usize) -> End
     }
 }
 
-// A transferable output: asset id, and type 7.
+// A transferable output: asset id, then an output of type 7.
 pub(crate) fn transferable_at(s: &[u8], at: usize) -> End
     ensures { λ r. ⌜ r ≡ ended transferableOutput (now (s .entry)) at ⌝ }
 {
@@ -90,7 +90,7 @@ pub(crate) fn transferable_at(s: &[u8], at: usize) -> End
     transfer_body_at(s, a)
 }
 
-// An output that was read at this place, if it is not below the one that stands from prev up to it.
+// The answer `read` for the output at `at`, refused if that output is below the one from `prev` up to `at`.
 fn in_order(s: &[u8], prev: usize, at: usize, read: End) -> End
     ensures { λ r. ⌜ r ≡ inOrder (now (s .entry)) prev at read ⌝ }
 {
@@ -105,7 +105,7 @@ fn in_order(s: &[u8], prev: usize, at: usize, read: End) -> End
     }
 }
 
-// So many transferable outputs from start.
+// `count` transferable outputs from `start` on, none below the one before.
 pub fn outputs_from(s: &[u8], start: usize, count: u64) -> End
     ensures { λ r. ⌜ r ≡ ended (nondecreasing transferableOutput count) (now (s .entry)) start ⌝ }
 {
@@ -127,7 +127,7 @@ pub fn outputs_from(s: &[u8], start: usize, count: u64) -> End
     End::At(at)
 }
 
-// So many outputs under FxID 0 from start.
+// `count` outputs under FxID 0 from `start` on, none below the one before.
 pub(crate) fn secp_from(s: &[u8], start: usize, count: u64) -> End
     ensures { λ r. ⌜ r ≡ ended (nondecreasing (output (fxOutputs secpFx)) count) (now (s .entry)) start ⌝ }
 {
@@ -149,7 +149,7 @@ pub(crate) fn secp_from(s: &[u8], start: usize, count: u64) -> End
     End::At(at)
 }
 
-// So many outputs under FxID 1 from start.
+// `count` outputs under FxID 1 from `start` on, none below the one before.
 pub(crate) fn nft_from(s: &[u8], start: usize, count: u64) -> End
     ensures { λ r. ⌜ r ≡ ended (nondecreasing (output (fxOutputs nftFx)) count) (now (s .entry)) start ⌝ }
 {

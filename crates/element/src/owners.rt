@@ -8,8 +8,8 @@ use wire::End;
 use wire::Integer;
 use wire::Rule;
 
-// So many addresses from start, each strictly above the one before. That the one before is there is asked again in each turn: the compiler then
-// knows it of both addresses, and hands them over with no further test.
+// `count` addresses from `start` on, each strictly above the one before. Each turn tests again that the address before is there: the compiler then
+// knows it of both addresses, and passes them without another test.
 pub fn addresses_from(s: &[u8], start: usize, count: u64) -> End
     ensures { λ r. ⌜ r ≡ ended (increasing (blob 20) count) (now (s .entry)) start ⌝ }
 {
@@ -38,14 +38,14 @@ pub fn addresses_from(s: &[u8], start: usize, count: u64) -> End
     wire::field_at(s, prev, 20)
 }
 
-// Is this threshold allowed for so many addresses? The reader and the writer both ask here.
+// Whether a threshold is allowed for this many addresses. The reader and the writer both use this test.
 pub fn threshold_fits(threshold: u64, addresses: u64) -> bool
     ensures { λ r. ⌜ r ≡ thresholdFits threshold addresses ⌝ }
 {
     threshold <= addresses
 }
 
-// Where the owners at this place end.
+// Owners at `at`: locktime, threshold, addresses.
 pub(crate) fn owners_at(s: &[u8], at: usize) -> End
     ensures { λ r. ⌜ r ≡ ended owners (now (s .entry)) at ⌝ }
 {
@@ -64,7 +64,7 @@ pub(crate) fn owners_at(s: &[u8], at: usize) -> End
     addresses_from(s, first, count)
 }
 
-// So many owners from start, of no order.
+// `count` owners from `start` on, in any order.
 pub(crate) fn owners_list_at(s: &[u8], start: usize, count: u64) -> End
     ensures { λ r. ⌜ r ≡ ended (unordered owners count) (now (s .entry)) start ⌝ }
 {
