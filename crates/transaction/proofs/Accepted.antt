@@ -1,4 +1,4 @@
--- What is accepted, and what it is read as, from the codec of every family and the layout. Assumes nothing.
+-- What is accepted, and what it is read as: from the codec of every family and the plain bytes. Assumes nothing.
 use mathlib.Core.Path.{sym, ap, _∙_}
 use Prim.Native.Nat.{ℕ}
 use mathlib.Core.List.{List}

@@ -1,4 +1,4 @@
--- The check as the chain that the code is: length, unsigned part, credentials beside it, nothing behind. Assumes nothing.
+-- The check as the chain of steps of the code: length, unsigned part, credentials, nothing after them. Assumes nothing.
 use Prim.Native.Nat.{ℕ}
 use mathlib.Core.Path.{_≡_, sym, ap, _∙_}
 use mathlib.Core.List.{List}

@@ -1,4 +1,4 @@
--- Laws of the list of credentials, each one induction over its pieces. Assumes nothing.
+-- Laws of the list of credentials, each by induction over its pieces. Assumes nothing.
 use mathlib.Core.Path.{_≡_, refl, sym, ap, _∙_, subst}
 use mathlib.Core.Logic.{inl, inr}
 use mathlib.Core.List.{List, [], _∷_, _++_, append-assoc, map}

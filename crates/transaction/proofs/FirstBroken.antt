@@ -1,5 +1,5 @@
--- The refusal of every family's check names the first broken rule. Shown once of any format read whole under any limit: each beginning of the
--- bytes is cut short or is read as the whole is, so the shortest beginning that is not cut short settles the answer. Assumes nothing.
+-- The refusal of every family's check names the first broken rule. Proved once for any format that is read whole under any limit: each prefix of the
+-- bytes is cut short or gives the result of the whole, so the shortest prefix that is not cut short settles the answer. Assumes nothing.
 use mathlib.Core.Path.{_≡_, refl, sym, ap, _∙_, subst}
 use mathlib.Core.Logic.{_↔_, _⊎_, inl, inr, ⊎-elim}
 use mathlib.Core.Bool.{Bool, true, false}

@@ -1,4 +1,4 @@
--- The signed format has exactly the transactions that specs/Transaction says. Assumes nothing.
+-- The signed format has exactly the values that specs/Transaction calls good. Assumes nothing.
 use mathlib.Core.Path.{_≡_, refl, ap, ap₂, _∙_}
 use mathlib.Core.Logic.{_↔_, Iff·rfl, Iff·trans, Iff·and, inl, inr}
 use Prim.Native.Nat.{ℕ, zero, suc, _+_, _^_, _≤_, _<_}

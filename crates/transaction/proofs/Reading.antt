@@ -1,4 +1,4 @@
--- How the readers of this crate meet their formats: what each answer says of the reading that its function ensures. Assumes nothing.
+-- Laws for the readers of this crate: what each answer says of the parse that its function ensures. Assumes nothing.
 use Prim.Native.Nat.{ℕ, _+_}
 use mathlib.Core.Path.{_≡_, sym, _∙_}
 use mathlib.Core.Bool.{Bool, true, false, not}

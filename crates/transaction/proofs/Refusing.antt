@@ -1,4 +1,4 @@
--- By which rules the unsigned part of a transaction and the whole are refused. Assumes nothing.
+-- The rules that the unsigned part of a transaction and the whole are refused by. Assumes nothing.
 use mathlib.Core.Path.{_≡_, refl, sym, subst}
 use Prim.Native.Nat.{ℕ}
 use mathlib.Core.List.{List, [], _∷_}

@@ -1,4 +1,4 @@
--- A signed transaction is its unsigned part and its signatures. Of any unsigned format and any credentials wanted. Assumes nothing.
+-- A signed transaction is its unsigned part and its signatures, for any unsigned format and any credentials wanted. Assumes nothing.
 use mathlib.Core.Path.{_≡_, refl, sym, ap, ap₂, _∙_, subst, subst⁻¹}
 use mathlib.Core.Bool.{true, false≢true}
 use mathlib.Core.List.{List}

@@ -1,4 +1,4 @@
--- What a caller of the check knows by its answer: the number, the place and the verdict. Assumes nothing.
+-- What the check's answer tells a caller: the number, the place and the verdict. Assumes nothing.
 use Prim.Native.Nat.{ℕ, _≤_}
 use mathlib.Core.Path.{_≡_, refl, sym, ap}
 use mathlib.Core.Bool.{Bool, true, false}

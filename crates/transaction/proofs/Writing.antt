@@ -1,4 +1,4 @@
--- The signed format writes the bytes of specs/Layout. Each law holds of every value, good or not. Assumes nothing.
+-- The signed format writes the bytes of specs/PlainBytes. Each law holds of every value, good or not. Assumes nothing.
 use mathlib.Core.Path.{_≡_, refl, ap, _∙_}
 use Prim.Native.Nat.{ℕ, zero, suc}
 use mathlib.Core.List.{List, [], _∷_, _++_, append-nil, append-assoc}

@@ -1,4 +1,4 @@
--- What is accepted, and what every accepted transaction is read as: the first half of demand 2, of AVM transactions and in bytes. Assumes nothing.
+-- What is accepted, and what every accepted transaction is read as: the first half of demand 2, for AVM transactions and in bytes. Assumes nothing.
 use mathlib.Core.Path.{_≡_}
 use mathlib.Core.Logic.{_↔_}
 use mathlib.Core.Bool.{true}
@@ -16,7 +16,7 @@ use Rattle.transaction.specs.PlainBytes.{bytesOf}
 use Rattle.transaction.specs.declared.TransactionType.{TransactionType}
 use Rattle.transaction.specs.declared.TransactionType.the-variants as K
 
--- ---- the transaction that a value of the signed format is, and the value that a transaction is
+-- ---- a value of the signed format as a transaction, and a transaction as a value of the format
 
 unfoldable pub ownOf : (k : TransactionType) → Value (ownPlan k) → Own
 ownOf K.Base v = plain
@@ -61,23 +61,23 @@ valueOf most t =
 
 -- ---- what is accepted
 
--- s is the good transaction t, byte by byte, and has at most 65,536 bytes
+-- s is the bytes of the good transaction t, at most 65,536 of them
 pub record Encodes (most : ℕ) (s : List ℕ) (t : Transaction) : Type 0 where
   pub good : GoodTransaction most t
   pub written : bytesOf t ≡ s
   pub short : length s ≤ 65536
 
--- for memos of at most `most` bytes, 256 in the base; proved for every `most` as `transactions`, of proofs/Accepted
+-- for memos of at most `most` bytes, 256 in the base; proved for every `most` as `transactions` (proofs/Accepted)
 pub record Transactions (most : ℕ) : Type 0 where
-  -- bytes are accepted exactly when they are a good transaction of at most 65,536 bytes
+  -- bytes are accepted exactly if they are a good transaction of at most 65,536 bytes
   pub accepted-exactly : (s : List ℕ) → Bytes s → (accepted (avm most) s ≡ true) ↔ ((t : Transaction) × Encodes most s t)
-  -- every accepted transaction has one reading
+  -- no bytes encode two transactions
   pub one-reading : (s : List ℕ) (t u : Transaction) → Encodes most s t → Encodes most s u → t ≡ u
-  -- what is read writes the same bytes, and the place reported is their number
+  -- what is read encodes to the same bytes, and the place reported is their number
   pub write-after-read : (s : List ℕ) (v : Signed (avm most)) (n : ℕ) → Bytes s → check (avm most) s ≡ took v n
       → Encodes most s (reading most v) × (n ≡ length s)
-  -- what is written is read
+  -- what is encoded is read
   pub read-after-write : (s : List ℕ) (t : Transaction) → Encodes most s t → check (avm most) s ≡ took (valueOf most t) (length s)
-  -- a transaction and a value of the format are the same thing
+  -- transactions and values of the format correspond one to one
   pub reading-value : (t : Transaction) → reading most (valueOf most t) ≡ t
   pub value-reading : (v : Signed (avm most)) → valueOf most (reading most v) ≡ v

@@ -1,4 +1,4 @@
--- What the readers of a transaction answer, as the two ends of a format's reading. Assumes nothing.
+-- What the readers of a transaction return, as the two continuations of a format's parser. Assumes nothing.
 use Prim.Native.Nat.{ℕ, _+_}
 use mathlib.Core.Path.{_≡_}
 use mathlib.Core.List.{List}
@@ -29,18 +29,18 @@ use Rattle.transaction.specs.declared.Checked.the-variants as C
 abbrev pub memoMost : ℕ
 memoMost = 256
 
--- a list: how many elements it has, and the place behind them
+-- a list: the number of its elements, and the offset just past them
 abbrev pub listAt : ListName → ℕ → List ℕ → ℕ → Integer
 listAt l least s at = listOf l least .parse s at M.Refused (λ v n. M.Value (length v) n)
 
--- codec, type, network, chain id, in which the memo's limit plays no part: the type's number, and the place behind them
+-- codec, type, network, chain id: the type's number, and the offset just past them; the memo's limit does not matter here
 abbrev pub headAt : List ℕ → ℕ → Integer
 headAt s at = head (avm memoMost) .parse s at M.Refused (λ h n. M.Value (typeId (h .type)) n)
 
 -- ---- with memos of at most `most` bytes
 
 module _ (most : ℕ) where
-  -- what is known of a transaction whose outputs' count is at `at`
+  -- the layout of a transaction whose outputs' count is at `at`
   abbrev pub layoutFrom : (k : TransactionType) → ℕ → Value (plan k) → Layout
   layoutFrom k at v =
       record {
@@ -56,23 +56,23 @@ module _ (most : ℕ) where
   abbrev pub unsignedAt : List ℕ → UnsignedRead
   unsignedAt s = unsigned (avm most) .parse s 0 U.Refused (λ u n. U.Whole (layout u))
 
-  -- the check
+  -- the answer of the check
   abbrev pub checked : List ℕ → Checked
   checked s = onResult (check (avm most) s) C.Refused (λ v n. C.Accepted (layout (v .0)) n)
 
--- the credentials behind an unsigned part that was read
+-- r is the answer for the credentials that follow an unsigned part with layout w
 abbrev pub CredentialsAt : Layout → List ℕ → End → Type 0
 CredentialsAt w s r =
     (most : ℕ) (u : Unsigned (avm most)) (at : ℕ) → read (unsigned (avm most)) s 0 ≡ took u at → w ≡ layout most u
     → r ≡ ended (credentials (wants (avm most) u)) s at
 
--- these, and nothing behind
+-- r is the answer for these credentials with nothing after them
 abbrev pub SignedAt : Layout → List ℕ → Checked → Type 0
 SignedAt w s r =
     (most : ℕ) (u : Unsigned (avm most)) (at : ℕ) → read (unsigned (avm most)) s 0 ≡ took u at → w ≡ layout most u
     → r ≡ credentials (wants (avm most) u) .parse s at C.Refused (λ l n. pick (eqb n (length s)) (C.Accepted w n) (C.Refused (refusal bytesAfterEnd n)))
 
--- the number and the place that an answer reports: accepted is 0, with the bytes of the transaction
+-- the number and the place that an answer reports: 0 and the length for an accepted transaction
 abbrev pub checkedNumber : Checked → ℕ
 checkedNumber (C.Accepted layout bytes) = 0
 checkedNumber (C.Refused e) = numberOf e

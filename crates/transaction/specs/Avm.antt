@@ -4,6 +4,6 @@ use Rattle.transaction.specs.Plan.{typeId, typeOf, typeOf-id, types, pla
 use Rattle.transaction.specs.Family.{Family}
 use Rattle.transaction.specs.declared.TransactionType.{TransactionType}
 
--- with memos of at most `most` bytes
+-- the family with memos of at most `most` bytes
 abbrev pub avm : ℕ → Family
 avm most = record { TransactionType = TransactionType; typeId = typeId; typeOf = typeOf; typeOf-id = typeOf-id; types = types; plan = plan; memoMost = most }

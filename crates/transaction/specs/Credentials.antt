@@ -1,6 +1,6 @@
--- The list of credentials as a format, whatever credentials are wanted; and where its signatures stand.
--- Once the credentials wanted are known, every field of the list but the signatures is a known number too. So the list is a flat run of pieces,
--- and its value is the list of signatures, as slots count them. Assumes nothing.
+-- The list of credentials as a format, for any credentials wanted; and where its signatures stand. Once the credentials wanted are known, so is the
+-- value of every field of the list except the signatures. So the list is a flat sequence of pieces, and its value is the list of signatures, in the
+-- order of the slots. Assumes nothing.
 use mathlib.Core.Path.{_≡_, refl}
 use mathlib.Core.List.{List, [], _∷_}
 use Prim.Native.Nat.{ℕ, zero, suc, _+_}
@@ -18,22 +18,22 @@ abbrev pub credentialCode : CredentialType → ℕ
 credentialCode secpCredential = 9
 credentialCode nftCredential = 14
 
--- a credential that an element asks for: its type, and how many signatures
+-- a credential that an element asks for: its type and its number of signatures
 pub record Want : Type 0 where
   pub type : CredentialType
   pub signatures : ℕ
 
--- a field of the list: a 32-bit number that has to be v, refused by rule x (due x v); or a signature
+-- a field of the list: a 32-bit integer that must be v, else refused by rule x (`due x v`); or a signature
 pub data Piece : Type 0 where
   due : ReadingRule → ℕ → Piece
   signature : Piece
 
--- n signatures, and then ps
+-- n signatures, then ps
 unfoldable pub signatures : ℕ → List Piece → List Piece
 signatures zero ps = ps
 signatures (suc n) ps = signature ∷ signatures n ps
 
--- one credential of type t and n signatures, and then ps: its type, its count, its signatures
+-- a credential of type t with n signatures, then ps: its type, its count, its signatures
 abbrev pub credentialPieces : ℕ → ℕ → List Piece → List Piece
 credentialPieces t n ps = due unknownType t ∷ due wrongCount n ∷ signatures n ps
 
@@ -45,7 +45,7 @@ unfolding signatures
 each [] = []
 each (w ∷ ws) = credential w (each ws)
 
--- the list: how many credentials, and these
+-- the whole list: the number of credentials, then the credentials
 unfoldable pub layout : List Want → List Piece
 unfolding each
 layout ws = due wrongCount (length ws) ∷ each ws
@@ -60,7 +60,7 @@ abbrev pub rest : List (List ℕ) → List (List ℕ)
 rest [] = []
 rest (b ∷ l) = l
 
--- one byte string, and a list of them
+-- a byte string, then a list of byte strings
 module _ (F : Format (List ℕ)) (G : Format (List (List ℕ))) where
   abbrev pub Front : List (List ℕ) → Type 0
   Front [] = ⊥
@@ -97,7 +97,7 @@ unfoldable pub credentials : List Want → Format (List (List ℕ))
 unfolding pieces layout
 credentials ws = pieces (layout ws)
 
--- ---- where the signatures stand, in a run of pieces that starts at p
+-- ---- the offsets of the signatures, in pieces that start at p
 
 unfoldable pub places : ℕ → List Piece → List ℕ
 places p [] = []
@@ -109,14 +109,14 @@ size [] = 0
 size (due x v ∷ ps) = 4 + size ps
 size (signature ∷ ps) = signatureWidth + size ps
 
--- ---- the blank value: every signature empty
+-- ---- the blank value, in which every signature is empty
 
 unfoldable pub blanks : List Piece → List (List ℕ)
 blanks [] = []
 blanks (due x v ∷ ps) = blanks ps
 blanks (signature ∷ ps) = blank ∷ blanks ps
 
--- how many signatures are wanted
+-- the number of signatures wanted
 unfoldable pub total : List Want → ℕ
 total [] = 0
 total (w ∷ ws) = w .signatures + total ws

@@ -1,4 +1,4 @@
--- Entries: the rows of the table, and the typed fields of each, from the values and where they stand. Assumes nothing.
+-- Entries: the rows of the table and the typed fields of each entry, from the values and their offsets. Assumes nothing.
 use Prim.Native.Nat.{ℕ, _+_, _-_, _*_}
 use mathlib.Core.List.{List, [], _∷_, _++_}
 use mathlib.Core.Option.{Option, none, some}
@@ -24,7 +24,7 @@ entryKind (E.ExportedOutput f) = 5
 entryKind (E.InitialStateOutput f) = 6
 entryKind (E.Credential f) = 7
 
--- an entry from `start` up to `end`: its typed fields, and the identifiers beside them, zero bytes where it has none
+-- an entry from `start` up to `end`: its typed fields, and its identifiers beside them (zero bytes for one that it does not have)
 pub record EntryAt : Type 0 where
   pub fields : Entry
   pub start : ℕ
@@ -32,11 +32,11 @@ pub record EntryAt : Type 0 where
   pub asset : List ℕ
   pub txid : List ℕ
 
--- the three numbers of a row: kind, start, length
+-- a row's three numbers: kind, start, length
 abbrev pub row : EntryAt → List ℕ
 row e = entryKind (e .fields) ∷ e .start ∷ (e .end - e .start) ∷ []
 
--- entry n, from 0
+-- entry n, counted from 0
 unfoldable pub nth : List EntryAt → ℕ → Option EntryAt
 nth [] n = none
 nth (e ∷ l) n = pick (eqb n 0) (some e) (nth l (n - 1))
@@ -48,7 +48,7 @@ rows (e ∷ l) = row e ++ rows l
 abbrev pub noId : List ℕ
 noId = replicate 32 0
 
--- ---- what each element comes to, from its start and its end
+-- ---- the entries of each element, from its start and its end
 
 abbrev pub outputEntry : ℕ → ℕ → TransferableOutput → List EntryAt
 outputEntry at end o = record { fields = E.Output (outputFields (at + 32) end (o .output)); start = at; end = end; asset = o .asset; txid = noId } ∷ []
@@ -69,18 +69,18 @@ operationEntry at end o = record { fields = E.Operation (operationFields at end 
 abbrev pub stateOutputEntry : ℕ → ℕ → Output → List EntryAt
 stateOutputEntry at end o = record { fields = E.InitialStateOutput (outputFields at end o); start = at; end = end; asset = noId; txid = noId } ∷ []
 
--- elements one behind the other from `at` on
+-- the entries of consecutive elements from `at` on
 module _ {A : Type 0} (E : List ℕ → Format A) (entry : ℕ → ℕ → A → List EntryAt) where
   unfoldable pub entriesFrom : List ℕ → ℕ → List A → List EntryAt
   entriesFrom prev at [] = []
   entriesFrom prev at (a ∷ l) =
       entry at (at + length (E prev .write a)) a ++ entriesFrom (E prev .write a) (at + length (E prev .write a)) l
 
--- an initial state's outputs stand behind its FxID and their count
+-- an initial state's outputs follow its FxID and their count
 abbrev pub stateEntries : ℕ → ℕ → InitialState → List EntryAt
 stateEntries at end v = entriesFrom (notBelow (output (fxOutputs (v .fx)))) stateOutputEntry [] (at + 8) (v .outputs)
 
--- a credential's signatures are the last of its bytes
+-- a credential's signatures are its last bytes
 abbrev pub credentialEntry : Want → ℕ → EntryAt
 credentialEntry w at =
     record {

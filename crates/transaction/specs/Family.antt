@@ -1,5 +1,5 @@
--- A family of transactions: its types, their numbers, and the plan of each; from these the signed format, the check and the entries.
--- Assumes nothing.
+-- A family of transactions: its types, their numbers, and the plan of each. The signed format, the check and the entries are made from these. Assumes
+-- nothing.
 use mathlib.Core.Path.{_≡_, refl}
 use Prim.Native.Nat.{ℕ, _+_}
 use mathlib.Core.Bool.{Bool}
@@ -23,7 +23,7 @@ pub record Family : Type 1 where
   pub typeOf-id : (k : TransactionType) → typeOf (typeId k) ≡ k
   pub types : List TransactionType
   pub plan : TransactionType → Plan
-  -- the most bytes that a memo has
+  -- the most bytes of a memo
   pub memoMost : ℕ
 
 -- codec, type, network, chain id

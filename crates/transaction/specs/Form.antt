@@ -1,4 +1,4 @@
--- What a plan comes to: the value of its segments, their format, the credentials that they want, and their entries. Assumes nothing.
+-- What a plan describes: the value of its segments, their format, the credentials that they want, and their entries. Assumes nothing.
 use Prim.Native.Nat.{ℕ, _+_}
 use mathlib.Core.List.{List, [], _∷_, _++_}
 use lib.ListN.{length}
@@ -14,7 +14,7 @@ use Rattle.transaction.specs.Plan.{Plan, shut, end, field, many, Content
 use Rattle.transaction.specs.declared.FieldName.{FieldName}
 use Rattle.transaction.specs.declared.ListName.{ListName}
 
--- a count of at least `least`, and as many elements
+-- a count of at least `least`, then that many elements
 unfoldable pub atLeast : {A : Type 0} → ℕ → (List ℕ → Format A) → Format (List A)
 unfolding countPrefixed guard
 atLeast least E = countPrefixed (guard (integer 4) (λ n. leb least n) emptyList) E
@@ -28,7 +28,7 @@ Value end = Unit {0}
 Value (field f q) = Content f × Value q
 Value (many l least q) = List (elementsOf l .Element) × Value q
 
--- what a field asks for, and what an element of a list does
+-- the credentials that a field asks for, and those that an element of a list asks for
 abbrev pub fieldAsks : (f : FieldName) → Content f → List Want
 fieldAsks f v = wantOf (fieldCredential f) (fieldSignatures f v)
 
@@ -57,7 +57,7 @@ module _ (most : ℕ) where
   form (field f q) = andThen (contentOf most f) (λ v. form q)
   form (many l least q) = andThen (listOf l least) (λ v. form q)
 
-  -- the entries of segments that start at `at`
+  -- the entries of the segments from `at` on
   unfoldable pub planEntries : (p : Plan) → Value p → ℕ → List EntryAt
   unfolding entriesFrom
   planEntries shut v at = []

@@ -1,4 +1,4 @@
--- A signed transaction: slots, credentials, plans, the AVM's rows, entries, and what is certain of the reading
+-- A signed transaction: slots, credentials, plans, the AVM's rows, entries, and what is proved of the format
 pub mod Slots
 pub mod Credentials
 pub mod Signed

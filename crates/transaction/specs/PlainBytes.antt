@@ -1,5 +1,5 @@
--- The bytes of a signed transaction, field after field in the order of document 01's "Layout". Nothing here depends on a format: proofs/Writing
--- shows that the signed format writes exactly these bytes. Assumes nothing.
+-- The bytes of a signed transaction, field after field in the order of document 01's "Layout". Nothing here depends on a format: proofs/Writing shows
+-- that the signed format writes exactly these bytes. Assumes nothing.
 use Prim.Native.Nat.{ℕ}
 use mathlib.Core.List.{List, [], _∷_, _++_}
 use lib.ListN.{length, take, drop}
@@ -17,7 +17,7 @@ plainTypeId (operate operations) = 2
 plainTypeId (importFrom chain inputs) = 3
 plainTypeId (exportTo chain outputs) = 4
 
--- what a type has behind the memo
+-- what follows the memo, by type
 unfoldable pub ownBytes : Own → List ℕ
 ownBytes plain = []
 ownBytes (createAsset name symbol denomination states) = textBytes name ++ textBytes symbol ++ u8 denomination ++ listBytes initialStateBytes states
@@ -37,7 +37,7 @@ abbrev pub plainCredentialType : CredentialType → ℕ
 plainCredentialType secpCredential = 9
 plainCredentialType nftCredential = 14
 
--- each has its type, the number of its signatures, and that many signatures from the front of the list
+-- for each credential: its type, its number of signatures, and that many signatures from the front of the list
 unfoldable pub credentialBytes : List Want → List (List ℕ) → List ℕ
 credentialBytes [] signatures = []
 credentialBytes (w ∷ ws) signatures =

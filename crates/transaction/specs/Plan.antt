@@ -1,6 +1,6 @@
--- The plans: what each type of transaction consists of behind the chain id. A name stands for a field or a list; a row has the names of a type in
--- byte order, and how many elements a list needs. Value, format, credentials wanted, entries and the writer's due order come from the names
--- (specs/Form). A new field is a name here, a new type a row. Assumes nothing.
+-- The plans: what a transaction of each type has after the chain id. A name stands for a field or a list; a row has the names of a type in byte
+-- order, and the least number of elements of each list. Value, format, credentials wanted, entries and the writer's order of steps come from the
+-- names (specs/Form). A new field is a name here, a new type a row. Assumes nothing.
 use mathlib.Core.Path.{_≡_, refl}
 use Prim.Native.Nat.{ℕ, suc, _<_}
 use native.Mathlib.Omega.{arith}
@@ -29,23 +29,23 @@ use Rattle.transaction.specs.declared.ListName.the-variants as L
 
 -- ---- what a name stands for
 
--- elements of a counted list, each read in view of the bytes of the one before ([] before the first)
+-- the elements of a counted list, each read given the bytes of the one before ([] for the first)
 pub record Elements : Type 1 where
   pub Element : Type 0
   pub element : List ℕ → Format Element
-  -- no element is of no bytes
+  -- every element is non-empty
   pub nonEmpty : (prev : List ℕ) (v : Element) → element prev .Good v → 0 < length (element prev .write v)
-  -- the credential that each asks for, if they do, and of how many signatures
+  -- the credential that each element asks for, if any, and its number of signatures
   pub credential : Option CredentialType
   pub signatures : Element → ℕ
-  -- its entries, from its start and its end
+  -- the entries of an element, from its start and its end
   pub entries : ℕ → ℕ → Element → List EntryAt
 
 abbrev pub wantOf : Option CredentialType → ℕ → List Want
 wantOf none n = []
 wantOf (some t) n = record { type = t; signatures = n } ∷ []
 
--- ---- no element is of no bytes: each has a field of some width in front
+-- ---- every element is non-empty: it starts with a field of fixed width
 
 longer : (a b : List ℕ) (n : ℕ) → length a ≡ suc n → 0 < length (a ++ b)
 longer a b n h = omega (arith, length-append a b)
@@ -77,7 +77,7 @@ Content F.Symbol = List ℕ
 Content F.Denomination = ℕ
 Content F.Chain = List ℕ
 
--- the memo has at most `most` bytes
+-- the format of each field; a memo has at most `most` bytes
 abbrev pub contentOf : (most : ℕ) (f : FieldName) → Format (Content f)
 contentOf most F.Memo = memo most
 contentOf most F.Name = name
@@ -85,7 +85,7 @@ contentOf most F.Symbol = symbol
 contentOf most F.Denomination = denomination
 contentOf most F.Chain = blob 32
 
--- the credential that a field asks for, if it does, and of how many signatures
+-- the credential that a field asks for, if any, and its number of signatures
 abbrev pub fieldCredential : FieldName → Option CredentialType
 fieldCredential F.Memo = none
 fieldCredential F.Name = none
@@ -102,7 +102,7 @@ fieldSignatures F.Chain v = 0
 
 -- ---- lists
 
--- outputs do not decrease
+-- outputs do not decrease as byte strings
 abbrev pub outputs : (ℕ → ℕ → TransferableOutput → List EntryAt) → Elements
 outputs entry =
     record {
@@ -114,7 +114,7 @@ outputs entry =
       entries = entry;
     }
 
--- each input asks for a credential of as many signatures as it has indices
+-- each input asks for a credential with as many signatures as it has indices
 abbrev pub inputs : (ℕ → ℕ → Input → List EntryAt) → Elements
 inputs entry =
     record {
@@ -126,7 +126,7 @@ inputs entry =
       entries = entry;
     }
 
--- operations carry no order; each asks for a credential of as many signatures as it has indices
+-- operations are in any order; each asks for a credential with as many signatures as it has indices
 abbrev pub operations : Elements
 operations =
     record {
@@ -160,13 +160,13 @@ elementsOf L.Exported = outputs exportedEntry
 
 -- ---- the rows
 
--- `end`: only the credentials are still to come; `shut`: nothing is. A list has at least so many elements
+-- `field` is a field, `many` a list of at least that many elements; at `end` only the credentials are still to come, at `shut` nothing is
 pub data Plan : Type 0 where
   shut end : Plan
   field : FieldName → Plan → Plan
   many : ListName → ℕ → Plan → Plan
 
--- what a type has behind the memo
+-- what follows the memo, by type
 abbrev pub ownPlan : TransactionType → Plan
 ownPlan K.Base = end
 ownPlan K.CreateAsset = field F.Name (field F.Symbol (field F.Denomination (many L.State 1 end)))
@@ -174,11 +174,11 @@ ownPlan K.Operation = many L.Operation 1 end
 ownPlan K.Import = field F.Chain (many L.Imported 1 end)
 ownPlan K.Export = field F.Chain (many L.Exported 1 end)
 
--- outputs, inputs and memo in every type
+-- every type has outputs, inputs and memo
 abbrev pub plan : TransactionType → Plan
 plan k = many L.Output 0 (many L.Input 0 (field F.Memo (ownPlan k)))
 
--- ---- the types' numbers; between them there may be others
+-- ---- the types' numbers; they need not be consecutive
 
 abbrev pub typeId : TransactionType → ℕ
 typeId K.Base = 0

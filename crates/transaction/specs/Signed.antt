@@ -1,5 +1,5 @@
--- A signed transaction over any format of the part before the credentials (`body`: codec and unsigned part) and any rule that says which
--- credentials its value wants. Assumes nothing.
+-- A signed transaction, for any format of what stands before the credentials (`body`: codec and unsigned part) and any function that says which
+-- credentials a value wants. Assumes nothing.
 use mathlib.Core.Path.{_≡_}
 use mathlib.Core.Bool.{Bool, true, false}
 use mathlib.Core.List.{List, [], _++_}
@@ -10,7 +10,7 @@ use Rattle.wire.specs.Sequence.{andThen}
 use Rattle.wire.specs.Whole.{whole}
 use Rattle.transaction.specs.Credentials.{Want, layout, credentials, places}
 
--- rule 1
+-- the most bytes of a signed transaction (rule 1)
 abbrev pub mostBytes : ℕ
 mostBytes = 65536
 
@@ -18,7 +18,7 @@ abbrev pub taken : {A : Type 0} → Result A → Bool
 taken (took v n) = true
 taken (refused e) = false
 
--- where the part before the credential count ends, and where the slots are, by the reading of that part
+-- from the result of reading the body: the offset just past it, and the offsets of the slots
 abbrev pub endOf : {U : Type 0} → Result U → ℕ
 endOf (took u m) = m
 endOf (refused e) = 0
@@ -32,23 +32,23 @@ module _ {U : Type 0} (body : Format U) (wants : U → List Want) where
   unfolding andThen
   signed = andThen body (λ u. credentials (wants u))
 
-  -- the check: at most 65,536 bytes, one signed transaction, and nothing behind
+  -- the check: at most 65,536 bytes, one signed transaction, and nothing after it
   unfoldable pub check : List ℕ → Result (U × List (List ℕ))
   unfolding signed
   check s = whole signed mostBytes s refused took
 
-  -- accepted: none of the check's refusals holds
+  -- bytes are accepted if the check does not refuse them
   abbrev pub accepted : List ℕ → Bool
   accepted s = taken (check s)
 
-  -- where the credential count stands, where the signatures start
+  -- the offset of the credential count, and the offsets of the signatures
   abbrev pub credentialsAt : List ℕ → ℕ
   credentialsAt d = endOf (read body d 0)
 
   abbrev pub slotsAt : List ℕ → List ℕ
   slotsAt d = slotsOf wants (read body d 0)
 
-  -- a transaction is assembled from its unsigned part and its signatures
+  -- the bytes of a transaction, from its unsigned part and its signatures
   unfoldable pub assemble : U → List (List ℕ) → List ℕ
   unfolding credentials
   assemble u l = body .write u ++ credentials (wants u) .write l

@@ -1,4 +1,4 @@
--- Slots: the places in a transaction where signatures stand, and what is put into them. Assumes nothing.
+-- Slots: the 65 bytes of a transaction for each signature, and what is put into them. A slot is known by its offset. Assumes nothing.
 use mathlib.Core.Path.{_≡_}
 use mathlib.Core.Logic.{_⊎_}
 use mathlib.Core.List.{List, [], _∷_, _++_}
@@ -11,15 +11,15 @@ use Rattle.wire.specs.Bytes.{Bytes, bytes-take, bytes-drop}
 unfoldable pub signatureWidth : ℕ
 signatureWidth = 65
 
--- an empty slot: zero bytes only
+-- an empty slot: zeros only
 unfoldable pub blank : List ℕ
 blank = replicate signatureWidth 0
 
--- what stands in the slot that starts at p
+-- the bytes of the slot at offset p
 unfoldable pub slotAt : List ℕ → ℕ → List ℕ
 slotAt d p = take signatureWidth (drop p d)
 
--- d with s in place of the slot at p, and with f p in place of the slot at each p of a list
+-- d with the slot at p replaced by s, and d with the slot at each p of a list replaced by f p
 unfoldable pub putSlot : ℕ → List ℕ → List ℕ → List ℕ
 putSlot p s d = take p d ++ s ++ drop (p + signatureWidth) d
 
@@ -27,12 +27,12 @@ unfoldable pub putAll : List ℕ → (ℕ → List ℕ) → List ℕ → List �
 putAll [] f d = d
 putAll (p ∷ ps) f d = putAll ps f (putSlot p (f p) d)
 
--- the place n is in no slot
+-- the offset n is in no slot
 abbrev pub Outside : List ℕ → ℕ → Type 0
 Outside [] n = Unit {0}
 Outside (p ∷ ps) n = ((n < p) ⊎ (p + signatureWidth ≤ n)) × Outside ps n
 
--- the slots follow each other from lo on, and end by n
+-- the slots follow each other from lo on, and end at n at the latest
 abbrev pub Spaced : ℕ → List ℕ → ℕ → Type 0
 Spaced lo [] n = lo ≤ n
 Spaced lo (p ∷ ps) n = (lo ≤ p) × Spaced (p + signatureWidth) ps n

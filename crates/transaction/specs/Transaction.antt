@@ -1,5 +1,5 @@
--- A signed transaction as a reader of document 01 knows it, and which transactions there are, in plain words: its "Layout" and its "Rules and
--- their moments". proofs/Good shows that these are exactly the values of the signed format. Assumes nothing.
+-- A signed transaction as a reader of document 01 knows it, and which transactions are good, in plain words: its "Layout" and its "Rules and their
+-- moments". proofs/Good shows that these are exactly the values of the signed format. Assumes nothing.
 use mathlib.Core.Path.{_≡_}
 use Prim.Native.Nat.{ℕ, _^_, _≤_, _<_}
 use mathlib.Core.List.{List, [], _++_, map}
@@ -22,7 +22,7 @@ pub record Base : Type 0 where
   pub inputs : List Input
   pub memo : List ℕ
 
--- what a type has behind the base part, from type 0 to type 4
+-- what follows the base part, by type from 0 to 4
 pub data Own : Type 0 where
   plain : Own
   createAsset : (name symbol : List ℕ) (denomination : ℕ) (states : List InitialState) → Own
@@ -30,13 +30,13 @@ pub data Own : Type 0 where
   importFrom : (chain : List ℕ) (inputs : List Input) → Own
   exportTo : (chain : List ℕ) (outputs : List TransferableOutput) → Own
 
--- its signatures, across the credentials
+-- a transaction; its signatures are listed across the credentials
 pub record Transaction : Type 0 where
   pub base : Base
   pub own : Own
   pub signatures : List (List ℕ)
 
--- ---- the credentials that it wants: one for each input, in order, then for each operation or imported input; each of as many signatures as
+-- ---- the credentials that it wants: one for each input, in order, then one for each operation or imported input; each has as many signatures as
 -- that element has indices
 
 abbrev pub inputWant : Input → Want
@@ -57,32 +57,32 @@ credentialsOf t = map inputWant (t .base .inputs) ++ ownWants (t .own)
 
 -- ---- which transactions are good
 
--- not decreasing as byte strings, asset id included
+-- outputs do not decrease as byte strings, asset id included
 pub record GoodOutputs (l : List TransferableOutput) : Type 0 where
   pub count : length l < 2 ^ 32
   pub each : All GoodTransferableOutput l
   pub order : Nondecreasing (map transferableOutputBytes l)
 
--- strictly increasing by (id, index)
+-- inputs strictly increase by (id, index)
 pub record GoodInputs (l : List Input) : Type 0 where
   pub count : length l < 2 ^ 32
   pub each : All GoodInput l
   pub order : Increasing (map inputKey l)
 
--- in any order
+-- operations are in any order, and at least one
 pub record GoodOperations (l : List Operation) : Type 0 where
   pub some : 1 ≤ length l
   pub count : length l < 2 ^ 32
   pub each : All GoodOperation l
 
--- FxIDs strictly increase
+-- initial states are at least one, and their FxIDs strictly increase
 pub record GoodStates (l : List InitialState) : Type 0 where
   pub some : 1 ≤ length l
   pub count : length l < 2 ^ 32
   pub each : All GoodInitialState l
   pub order : Ascending (map (λ v. plainFxId (v .fx)) l)
 
--- the memo is of at most `most` bytes, 256 in the base, and its length is a number of 32 bits
+-- the memo has at most `most` bytes, 256 in the base, and its length fits 32 bits
 pub record GoodBase (most : ℕ) (b : Base) : Type 0 where
   pub network : b .network < 2 ^ 32
   pub chain : Sized 32 (b .chain)
@@ -115,7 +115,7 @@ GoodOwn (operate operations) = GoodOperations operations
 GoodOwn (importFrom chain inputs) = GoodImport chain inputs
 GoodOwn (exportTo chain outputs) = GoodExport chain outputs
 
--- the number of credentials is a number of 32 bits, and there are as many signatures as these want, of 65 bytes each
+-- the number of credentials fits 32 bits, and there are as many signatures as these want, of 65 bytes each
 pub record GoodTransaction (most : ℕ) (t : Transaction) : Type 0 where
   pub base : GoodBase most (t .base)
   pub own : GoodOwn (t .own)

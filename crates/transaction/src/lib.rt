@@ -1,24 +1,24 @@
-// A signed AVM transaction: its types, what a check and a reading of it answer, and each entry's typed fields.
+// A signed AVM transaction: its types, the answers of its check and its readers, and the typed fields of each entry.
 use element::InputFields;
 use element::OperationFields;
 use element::OutputFields;
 use wire::Refusal;
 
-// The most bytes that a signed transaction has.
+// The most bytes of a signed transaction.
 pub const MOST_BYTES: usize = 65536;
 
-// The most bytes that a memo has.
+// The most bytes of a memo.
 pub const MEMO_MOST: u64 = 256;
 
 // The bytes of a signature.
 pub const SIGNATURE_WIDTH: usize = 65;
 
-// The types of a credential: for an input, for an operation.
+// The types of a credential: for an input, and for an operation.
 pub const SECP_CREDENTIAL: u64 = 9;
 
 pub const NFT_CREDENTIAL: u64 = 14;
 
-// The types of a transaction: 0 to 4.
+// The types of a transaction, 0 to 4.
 pub enum TransactionType {
     Base,
     CreateAsset,
@@ -27,7 +27,7 @@ pub enum TransactionType {
     Export,
 }
 
-// What stands between the chain id and the credentials: fields and lists, by their names.
+// The names of the fields and lists between the chain id and the credentials.
 pub enum FieldName {
     Memo,
     Name,
@@ -51,7 +51,7 @@ pub struct CredentialFields {
     pub signatures_count: u64,
 }
 
-// An entry's typed fields, by its kind: 1 to 7.
+// The typed fields of an entry, by its kind (1 to 7).
 pub enum Entry {
     Output(OutputFields),
     Input(InputFields),
@@ -62,7 +62,7 @@ pub enum Entry {
     Credential(CredentialFields),
 }
 
-// The type's number, where the inputs' count stands, how many credentials are wanted, and where their count stands.
+// The layout of a transaction: its type's number, the offset of the inputs' count, the number of credentials wanted, and the offset of their count.
 pub struct Layout {
     pub type_id: u32,
     pub inputs_at: usize,
@@ -70,13 +70,13 @@ pub struct Layout {
     pub credentials_at: usize,
 }
 
-// An unsigned part that is wholly there.
+// The layout of an unsigned part that is wholly there, or why it is refused.
 pub enum UnsignedRead {
     Whole(Layout),
     Refused(Refusal),
 }
 
-// Where the lists of an accepted transaction stand, and how many bytes it has.
+// The layout of an accepted transaction and its length in bytes, or why it is refused.
 pub enum Checked {
     Accepted(Layout, usize),
     Refused(Refusal),
