@@ -1,4 +1,4 @@
--- The steps from one credential that is wanted to the next, in an unsigned part that was read. Assumes nothing.
+-- Laws of the steps from one wanted credential to the next, in an unsigned part that was read. Assumes nothing.
 use Prim.Native.Nat.{ℕ, suc, _+_, _-_, _≤_, _<_}
 use mathlib.Core.Path.{_≡_, refl, sym, ap, _∙_, subst, subst₂}
 use mathlib.Core.List.{List, [], _∷_, _++_}

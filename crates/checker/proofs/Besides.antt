@@ -1,4 +1,4 @@
--- The credentials beside what wants them, behind an unsigned part that was read. Assumes nothing.
+-- Laws of the credentials, each read together with what wants it, after an unsigned part that was read. Assumes nothing.
 use Prim.Native.Nat.{ℕ, _+_, _-_, _≤_, _<_}
 use mathlib.Core.Path.{_≡_, refl, sym, ap, ap₂, _∙_, subst, subst₂}
 use mathlib.Core.List.{List, [], _∷_, _++_}

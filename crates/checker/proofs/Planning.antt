@@ -1,4 +1,4 @@
--- The loop over a plan: each turn passes the segment that is due, and what is left of the plan gives the whole. Assumes nothing.
+-- The loop over a plan: each turn reads the segment that is due, and the rest of the plan gives the same answer as the whole. Assumes nothing.
 use Prim.Native.Nat.{ℕ, _+_, _^_, _≤_, _<_}
 use mathlib.Core.Path.{_≡_, refl, sym, ap, _∙_}
 use mathlib.Core.Option.{Option, none, some}

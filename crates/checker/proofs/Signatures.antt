@@ -1,4 +1,4 @@
--- How signatures are read: one test finds that all are there, and where they are not, the first that is cut is looked for. Assumes nothing.
+-- How signatures are read: one test finds whether all are there; if not, a loop finds the first that is cut short. Assumes nothing.
 use Prim.Native.Nat.{ℕ, zero, suc, _+_, _-_, _*_, _^_, _≤_, _<_}
 use mathlib.Core.Path.{_≡_, refl, ap, _∙_}
 use mathlib.Core.Bool.{Bool, true, false}

@@ -1,4 +1,4 @@
--- What is refused of signatures that are not all there. Assumes nothing.
+-- The refusal of signatures that are not all there. Assumes nothing.
 use Prim.Native.Nat.{ℕ}
 use mathlib.Core.List.{List, []}
 use Rattle.wire.specs.Numbers.{cutAt}
@@ -6,6 +6,6 @@ use Rattle.wire.specs.declared.Refusal.{Refusal}
 use Rattle.transaction.specs.Slots.{signatureWidth}
 use Rattle.transaction.specs.Credentials.{signatures, pieces}
 
--- the refusal of n signatures from `at` on; where all are there, that of one more
+-- the refusal of n signatures from `at` on; if all are there, that of one more
 abbrev pub firstCut : ℕ → List ℕ → ℕ → Refusal
 firstCut n s at = pieces (signatures n []) .parse s at (λ e. e) (λ l m. cutAt signatureWidth s m)

@@ -1,4 +1,4 @@
--- What the loop over a plan answers, with memos of at most `most` bytes. Assumes nothing.
+-- What the loop over a plan returns, with memos of at most `most` bytes. Assumes nothing.
 use Prim.Native.Nat.{ℕ, _+_}
 use mathlib.Core.List.{List}
 use lib.ListN.{length}
@@ -10,14 +10,14 @@ use Rattle.checker.specs.declared.Passed.{Passed}
 use Rattle.checker.specs.declared.Passed.the-variants as P
 
 module _ (most : ℕ) where
-  -- the first segment of a plan
+  -- the answer for the first segment of a plan
   abbrev pub passedAt : Plan → List ℕ → ℕ → Passed
   passedAt shut s at = P.Nothing
   passedAt end s at = P.Nothing
   passedAt (field f q) s at = contentOf most f .parse s at P.Refused (λ v n. P.Past (length (fieldAsks f v)) n)
   passedAt (many l least q) s at = listOf l least .parse s at P.Refused (λ v n. P.Past (length (asked (elementAsks l) v)) n)
 
-  -- all segments of a plan, which want so many credentials, besides w, in a transaction whose inputs stand from a place on
+  -- the answer for all segments of a plan, where w credentials are wanted before them and the inputs start at `inputs`
   abbrev pub planAt : ℕ → ℕ → ℕ → Plan → List ℕ → ℕ → UnsignedRead
   planAt «type_id» inputs w p s at =
       form most p .parse s at U.Refused (λ v n.

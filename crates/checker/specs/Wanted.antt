@@ -1,5 +1,5 @@
--- The credentials that are still wanted ahead of a cursor, in an unsigned part that was read, and what the steps from one to the next answer.
--- Assumes nothing.
+-- The credentials that are still wanted ahead of a cursor, in an unsigned part that was read, and what the steps from one to the next return. Assumes
+-- nothing.
 use mathlib.Core.Path.{_≡_}
 use Prim.Native.Nat.{ℕ, _<_}
 use mathlib.Core.List.{List, [], _∷_, _++_}
@@ -21,14 +21,14 @@ use Rattle.checker.specs.declared.Wanted.{Wanted}
 use Rattle.checker.specs.declared.Wanted.the-variants as W
 
 module _ (most : ℕ) (s : List ℕ) where
-  -- the segments of p stand from `at` on, and want ws
+  -- the segments of p stand from `at` on and want ws
   pub record WantsFrom (p : Plan) (at : ℕ) (ws : List Want) : Type 0 where
     pub value : Value p
     pub next : ℕ
     pub stands : read (form most p) s at ≡ took value next
     pub wants : ws ≡ wanted p value
 
-  -- of a list c elements stand from `at` on, each asks for a credential of the type `asks`, and then the segments of p; together they want ws
+  -- from `at` on stand c elements of a list, each asking for a credential of type `asks`, then the segments of p; together they want ws
   pub record WantsIn (asks c : ℕ) (p : Plan) (at : ℕ) (ws : List Want) : Type 0 where
     pub list : ListName
     pub type : 0 < c → asks ≡ credentialAsked (elementsOf list .credential)
@@ -41,7 +41,7 @@ module _ (most : ℕ) (s : List ℕ) where
     pub behind : WantsFrom p next later
     pub wants : ws ≡ asked (elementAsks list) elements ++ later
 
-  -- of ws the first is wanted by what was passed, which asks for type t and n signatures; the others are behind
+  -- the first of ws is wanted by what was just passed and has type t and n signatures; `others-are` holds of the others
   pub record First (t n : ℕ) (others-are : List Want → Type 0) (ws : List Want) : Type 0 where
     pub want : Want
     pub others : List Want
@@ -50,14 +50,14 @@ module _ (most : ℕ) (s : List ℕ) where
     pub signatures : n ≡ want .signatures
     pub behind : others-are others
 
-  -- a segment is begun, behind which is p
+  -- what r says of ws, if it enters a segment that p follows
   abbrev pub BegunAs : Plan → List Want → Begun → Type 0
   BegunAs p ws B.Nothing = ws ≡ []
   BegunAs p ws (B.Into asks c m) = WantsIn asks c p m ws
   BegunAs p ws (B.Asks t n m) = First t n (WantsFrom p m) ws
 
   module _ («type_id» : ℕ) where
-    -- ws are wanted ahead of a cursor, in a transaction of that type
+    -- ws are wanted ahead of a cursor, in a transaction of this type
     abbrev pub Wants : Wanting → List Want → Type 0
     Wants c ws = WantsIn (c .asks) (c .left) (due (c .phase) (planOf «type_id»)) (c .at) ws
 
@@ -68,11 +68,11 @@ module _ (most : ℕ) (s : List ℕ) where
 abbrev pub ListBegins : ListName → List ℕ → ℕ → Begun → Type 0
 ListBegins l s at r = (most least : ℕ) (p : Plan) (ws : List Want) → WantsFrom most s (many l least p) at ws → BegunAs most s p ws r
 
--- the first segment of p is begun
+-- r enters the first segment of p
 abbrev pub Begins : Plan → List ℕ → ℕ → Begun → Type 0
 Begins p s at r = (most : ℕ) (ws : List Want) → WantsFrom most s p at ws → BegunAs most s (tail p) ws r
 
--- nothing is begun where nothing is due, so that steps end on any bytes
+-- a segment is entered only if one is due, so that the steps end on any bytes
 abbrev pub BegunLive : Plan → Begun → Type 0
 BegunLive p B.Nothing = Unit {0}
 BegunLive p (B.Into asks c m) = Live p
@@ -81,14 +81,14 @@ BegunLive p (B.Asks t n m) = Live p
 abbrev pub NextWants : ℕ → List ℕ → Wanting → Wanted → Type 0
 NextWants «type_id» s c r = (most : ℕ) (ws : List Want) → Wants most s «type_id» c ws → Nexts most s «type_id» ws r
 
--- in a list, whatever is behind it
+-- the step inside a list does not depend on the type
 abbrev pub ElementWants : List ℕ → Wanting → Wanted → Type 0
 ElementWants s c r = («type_id» : ℕ) → NextWants «type_id» s c r
 
--- behind the outputs, which ask for nothing
+-- the cursor just past the outputs, which ask for nothing
 abbrev pub firstWanting : Layout → Wanting
 firstWanting l = record { phase = 2; asks = 0; at = l .«inputs_at»; left = 0 }
 
--- the place behind the credentials from `at` on, beside what is wanted ahead of a cursor, which is so much
+-- if `count` credentials are wanted ahead of the cursor, r is the offset just past the credentials from `at` on, or their refusal
 abbrev pub Beside : ℕ → List ℕ → Wanting → ℕ → ℕ → End → Type 0
 Beside «type_id» s c count at r = (most : ℕ) (ws : List Want) → Wants most s «type_id» c ws → length ws ≡ count → r ≡ ended (pieces (each ws)) s at

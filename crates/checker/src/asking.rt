@@ -1,5 +1,5 @@
-// What is wanted of the credentials, one after the other: each is asked for by an element of a list or by a field. The unsigned part has been read,
-// so its elements and fields are passed by their lengths.
+// The credentials wanted, one after another: each is asked for by an element of a list or by a field. The unsigned part has been read, so its
+// elements and fields are skipped by their lengths.
 ghost use Prim.Native.Nat.{_<_};
 ghost use Rattle.transaction.specs.Plan.{planOf};
 ghost use Rattle.plan.specs.Due.{due};
@@ -13,7 +13,7 @@ use transaction::ListName;
 use wire::End;
 use wire::Integer;
 
-// Into a list; one that asks for nothing is passed.
+// Enters a list; skips it if its elements ask for no credentials.
 fn list_begun(s: &[u8], at: usize, list: ListName) -> Begun
     ensures { λ r. ⌜ ListBegins list (now (s .entry)) at r ⌝ }
 {
@@ -30,7 +30,7 @@ fn list_begun(s: &[u8], at: usize, list: ListName) -> Begun
     Begun::Into(asks, count, first)
 }
 
-// Into the segment that comes next.
+// Enters the next segment.
 fn begun_at(s: &[u8], type_id: u32, phase: u32, at: usize) -> Begun
     ensures { λ r. ⌜ Begins (due phase (planOf «type_id»)) (now (s .entry)) at r ⌝ }
     ensures { λ r. ⌜ BegunLive (due phase (planOf «type_id»)) r ⌝ }
@@ -50,7 +50,7 @@ fn begun_at(s: &[u8], type_id: u32, phase: u32, at: usize) -> Begun
     }
 }
 
-// The element at hand, which asks.
+// The credential that the current element of a list asks for.
 fn element_wanted(s: &[u8], from: Wanting) -> Wanted
     requires { ⌜ 0 < from .left ⌝ }
     ensures { λ r. ⌜ ElementWants (now (s .entry)) from r ⌝ }
@@ -70,7 +70,7 @@ fn element_wanted(s: &[u8], from: Wanting) -> Wanted
     )
 }
 
-// What is wanted next. The cursor is held field by field, which is faster where this is not inlined.
+// The credential wanted next. The cursor is kept as separate locals, which is faster if this function is not inlined.
 pub fn next_wanted(s: &[u8], type_id: u32, from: Wanting) -> Wanted
     ensures { λ r. ⌜ NextWants «type_id» (now (s .entry)) from r ⌝ }
 {

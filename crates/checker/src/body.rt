@@ -16,7 +16,7 @@ use wire::End;
 use wire::Integer;
 use wire::Rule;
 
-// Codec, type, network, chain id: the type's number, and the place behind them.
+// Codec, type, network, chain id: the type's number, and the offset just past them.
 fn head_at(s: &[u8], at: usize) -> Integer
     ensures { λ r. ⌜ r ≡ headAt (now (s .entry)) at ⌝ }
 {
@@ -41,7 +41,7 @@ fn head_at(s: &[u8], at: usize) -> Integer
     Integer::Value(number, next)
 }
 
-// A list of at least so many elements: how many it has, and the place behind them.
+// A list of at least `least` elements: the number of its elements, and the offset just past them.
 fn list_at(s: &[u8], at: usize, list: ListName, least: u64) -> Integer
     ensures { λ r. ⌜ r ≡ listAt list least (now (s .entry)) at ⌝ }
 {
@@ -60,7 +60,7 @@ fn list_at(s: &[u8], at: usize, list: ListName, least: u64) -> Integer
     }
 }
 
-// The segment that is due: how many credentials it wants, and the place behind it.
+// The segment that is due: the number of credentials that it wants, and the offset just past it.
 fn segment_at(s: &[u8], at: usize, type_id: u32, phase: u32, most: u64) -> Passed
     ensures { λ r. ⌜ r ≡ passedAt most (due phase (planOf «type_id»)) (now (s .entry)) at ⌝ }
 {
@@ -88,7 +88,7 @@ fn segment_at(s: &[u8], at: usize, type_id: u32, phase: u32, most: u64) -> Passe
     }
 }
 
-// The segments behind the outputs, which end at `start`.
+// The segments after the outputs, which end at `start`.
 fn plan_at(s: &[u8], start: usize, type_id: u32, most: u64) -> UnsignedRead
     ensures { λ r. ⌜ r ≡ planAt most «type_id» start 0 (due 2 (planOf «type_id»)) (now (s .entry)) start ⌝ }
 {
@@ -117,7 +117,7 @@ fn plan_at(s: &[u8], start: usize, type_id: u32, most: u64) -> UnsignedRead
     }
 }
 
-// The outputs, with which every plan begins: in a function of its own, which is faster.
+// The outputs, which every plan starts with. A separate function is faster here.
 fn outputs_at(s: &[u8], at: usize) -> End
     ensures { λ r. ⌜ r ≡ ended (listOf ListName.Output 0) (now (s .entry)) at ⌝ }
 {

@@ -9,7 +9,7 @@ use transaction::UnsignedRead;
 use wire::End;
 use wire::Rule;
 
-// The whole behind an unsigned part that is there.
+// The credentials after an unsigned part with this layout, and nothing after them.
 fn signed_at(s: &[u8], layout: Layout) -> Checked
     ensures { λ r. ⌜ SignedAt layout (now (s .entry)) r ⌝ }
 {
@@ -24,7 +24,7 @@ fn signed_at(s: &[u8], layout: Layout) -> Checked
     }
 }
 
-// Accepted, or the first broken rule and its place. A memo has at most so many bytes.
+// Accepts the bytes, or names the first broken rule and its place. A memo has at most `most` bytes.
 pub fn check_within(s: &[u8], most: u64) -> Checked
     ensures { λ r. ⌜ r ≡ checked most (now (s .entry)) ⌝ }
 {

@@ -1,4 +1,4 @@
-// The credentials, each read beside the element or field that wants it.
+// The credentials, each read together with the element or field that wants it.
 ghost use mathlib.Core.Path.{_≡_};
 ghost use Prim.Native.Nat.{_<_, _^_};
 ghost use mathlib.Core.List.{[]};
@@ -16,8 +16,8 @@ use wire::Integer;
 use wire::Refusal;
 use wire::Rule;
 
-// Of so many signatures that are not all there, the first that is cut. In a function that answers refusals only, so that its loop stands outside
-// that over the credentials.
+// The first of `count` signatures that is cut short, given that they are not all there. A separate function that returns refusals only, so that its
+// loop is not nested in the loop over the credentials.
 fn first_cut(s: &[u8], start: usize, count: u64) -> Refusal
     ensures { λ r. ⌜ r ≡ firstCut count (now (s .entry)) start ⌝ }
 {
@@ -33,7 +33,7 @@ fn first_cut(s: &[u8], start: usize, count: u64) -> Refusal
     wire::cut(s, at, transaction::SIGNATURE_WIDTH)
 }
 
-// So many signatures: one test finds that all are there. Their number has 32 bits, so that the product is a usize.
+// `count` signatures; one test finds whether all are there. The count fits 32 bits, so the product fits a usize.
 fn signatures_at(s: &[u8], start: usize, count: u64) -> End
     requires { ⌜ count < 256 ^ 4 ⌝ }
     ensures { λ r. ⌜ r ≡ ended (pieces (signatures count [])) (now (s .entry)) start ⌝ }
@@ -44,7 +44,7 @@ fn signatures_at(s: &[u8], start: usize, count: u64) -> End
     }
 }
 
-// A credential of the type and of as many signatures as are wanted.
+// A credential of type `type_id` with `wanted` signatures.
 fn credential_at(s: &[u8], at: usize, type_id: u64, wanted: u64) -> End
     ensures { λ r. ⌜ r ≡ ended (pieces (credentialPieces «type_id» wanted [])) (now (s .entry)) at ⌝ }
 {
@@ -63,7 +63,7 @@ fn credential_at(s: &[u8], at: usize, type_id: u64, wanted: u64) -> End
     signatures_at(s, first, wanted)
 }
 
-// Before the first that may ask: behind the outputs, which ask for nothing.
+// The cursor just past the outputs, which ask for nothing: before the first element that may ask.
 pub fn first_wanting(layout: Layout) -> Wanting
     ensures { λ r. ⌜ r ≡ firstWanting layout ⌝ }
 {
@@ -75,7 +75,7 @@ pub fn first_wanting(layout: Layout) -> Wanting
     }
 }
 
-// So many credentials from start, each beside what wants it. The cursor is held field by field, which is faster.
+// `count` credentials from `start` on, each read together with what wants it. The cursor is kept as separate locals, which is faster.
 fn beside(s: &[u8], type_id: u32, from: Wanting, count: u64, start: usize) -> End
     ensures { λ r. ⌜ Beside «type_id» (now (s .entry)) from count start r ⌝ }
 {
@@ -113,7 +113,7 @@ fn beside(s: &[u8], type_id: u32, from: Wanting, count: u64, start: usize) -> En
     End::At(at)
 }
 
-// All of them: their count, and each beside what wants it.
+// The whole list of credentials: its count, then each credential read together with what wants it.
 pub(crate) fn credentials_at(s: &[u8], layout: Layout) -> End
     ensures { λ r. ⌜ CredentialsAt layout (now (s .entry)) r ⌝ }
 {

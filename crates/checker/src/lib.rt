@@ -6,15 +6,15 @@ pub mod credentials;
 
 use wire::Refusal;
 
-// A segment that is passed: how many credentials it wants, and the place behind it. End: there is none.
+// A segment that was read: the number of credentials that it wants, and the offset just past it. `Nothing` means that no segment is left.
 pub(crate) enum Passed {
     Nothing,
     Past(u64, usize),
     Refused(Refusal),
 }
 
-// Where the next credential is asked for: the phase of the segment that comes next, the place, and of the list at hand how many elements are left
-// and the type of the credential that each asks for.
+// The cursor to the next credential wanted: the phase of the next segment, the offset, and for the current list the number of elements left and the
+// type of the credential that each asks for.
 pub struct Wanting {
     pub phase: u32,
     pub asks: u64,
@@ -22,15 +22,15 @@ pub struct Wanting {
     pub left: u64,
 }
 
-// The segment that comes next: a list or field of which so many elements ask for a credential of a type, from a place on; or a field that asks for
-// one of so many signatures, and the place behind it.
+// The next segment. `Into`: the credential type that each element of a list asks for, their number, and the offset of the first; 0 elements if the
+// segment asks for none. `Asks`: the credential type that a field asks for, its number of signatures, and the offset just past the field.
 pub(crate) enum Begun {
     Nothing,
     Into(u64, u64, usize),
     Asks(u64, u64, usize),
 }
 
-// The credential that is wanted next: its type, its number of signatures, and the cursor behind what asks for it.
+// The credential wanted next: its type, its number of signatures, and the cursor just past what asks for it.
 pub enum Wanted {
     Nothing,
     Credential(u64, u64, Wanting),

@@ -1,3 +1,3 @@
--- What is proved of what is due
+-- What is proved of what is due by a plan
 pub mod RowLaws
 pub mod Passing

@@ -1,4 +1,4 @@
--- Fields and elements that were read are passed by their names. Assumes nothing.
+-- Laws for functions that skip a field or an element that was read, by its name. Assumes nothing.
 use Prim.Native.Nat.{ℕ, zero, suc, _-_, _≤_, _<_}
 use mathlib.Core.Path.{_≡_, sym, ap, _∙_, subst}
 use mathlib.Core.List.{List, _∷_}

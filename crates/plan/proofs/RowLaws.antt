@@ -1,4 +1,4 @@
--- What the code finds due is what the plan has there. Assumes nothing.
+-- The code's answer to what is due at a phase is the first segment of the plan there. Assumes nothing.
 use Prim.Native.Nat.{ℕ, zero, suc, _+_, _-_, _≤_}
 use mathlib.Core.Path.{_≡_, refl, sym, ap, _∙_, subst, subst₂}
 use mathlib.Core.Bool.{Bool, true, false, false≢true}

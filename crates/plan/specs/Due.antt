@@ -1,4 +1,4 @@
--- What is due by a plan, once so many of its parts are begun; and what code is told of it. Assumes nothing.
+-- What is due by a plan once a number of its segments are begun, and how the code represents it. Assumes nothing.
 use mathlib.Core.Path.{_≡_}
 use Prim.Native.Nat.{ℕ, zero, suc}
 use mathlib.Core.Bool.{Bool, true, false}
@@ -31,7 +31,7 @@ abbrev pub behind : ℕ → Plan → Plan
 behind zero p = p
 behind (suc k) p = tail (behind k p)
 
--- before the start nothing is due but the start
+-- what is due at a phase: at 0, before the start, nothing; at k + 1, the plan without its first k segments
 abbrev pub due : ℕ → Plan → Plan
 due zero p = shut
 due (suc k) p = behind k p
@@ -50,7 +50,7 @@ fieldCode F.Symbol = 2
 fieldCode F.Denomination = 3
 fieldCode F.Chain = 4
 
--- lists that are written by the same step have the same number
+-- lists that are written by the same step have the same code
 abbrev pub listCode : ListName → ℕ
 listCode L.Output = 0
 listCode L.Input = 1
@@ -59,9 +59,9 @@ listCode L.Operation = 3
 listCode L.Imported = 1
 listCode L.Exported = 0
 
--- ---- the first part of what is due
+-- ---- the first segment of what is due
 
--- the first part of a plan: its name, and how many elements it needs
+-- the first segment of a plan: its name, and the least number of elements of a list
 abbrev pub dueOf : Plan → Due
 dueOf shut = D.Nothing
 dueOf end = D.Finish
@@ -74,7 +74,7 @@ isList D.Finish = false
 isList (D.Field l) = false
 isList (D.List l n) = true
 
--- a field of that name is due; a list of that name is open
+-- whether this field is due; whether this list, or another that is written by the same step, is due
 abbrev pub isField : FieldName → Due → Bool
 isField l D.Nothing = false
 isField l D.Finish = false
@@ -87,21 +87,21 @@ isOpen l D.Finish = false
 isOpen l (D.Field m) = false
 isOpen l (D.List m n) = eqb (listCode l) (listCode m)
 
--- is the finish due?
+-- whether the finish is due
 abbrev pub isFinish : Due → Bool
 isFinish D.Nothing = false
 isFinish D.Finish = true
 isFinish (D.Field l) = false
 isFinish (D.List l n) = false
 
--- ---- what a name tells
+-- ---- what the code computes from a name
 
--- the number of a credential's type; 0 where none is asked for
+-- the number of a credential's type, or 0 if none is asked for
 abbrev pub credentialAsked : Option CredentialType → ℕ
 credentialAsked none = 0
 credentialAsked (some t) = credentialCode t
 
--- the kind of an element's entry; an initial state's outputs are entries of this kind
+-- the kind of an element's entry; for an initial state, the kind of its outputs
 abbrev pub entryOf : ListName → ℕ
 entryOf L.Output = 1
 entryOf L.Input = 2
@@ -118,21 +118,21 @@ abbrev pub silentOf : End → Integer
 silentOf (P.At n) = N.Value 0 n
 silentOf (P.Refused e) = N.Refused e
 
--- of a field that was read: the place behind it, and how many signatures it asks for
+-- if a field was read at `at`, r is the offset just past it; r is the number of signatures that it asks for
 abbrev pub FieldPast : FieldName → List ℕ → ℕ → ℕ → Type 0
 FieldPast f s at r = (most : ℕ) (v : Content f) (n : ℕ) → read (contentOf most f) s at ≡ took v n → r ≡ n
 
 abbrev pub FieldSigns : FieldName → List ℕ → ℕ → ℕ → Type 0
 FieldSigns f s at r = (most : ℕ) (v : Content f) (n : ℕ) → read (contentOf most f) s at ≡ took v n → r ≡ fieldSignatures f v
 
--- of an element that was read: how many signatures it asks for, and the place behind it
+-- if an element was read at `at`, r is the number of signatures that it asks for and the offset just past it
 abbrev pub ElementTells : ListName → List ℕ → ℕ → Integer → Type 0
 ElementTells l s at r = (prev : List ℕ) → Tells (elementsOf l .element prev) (elementsOf l .signatures) s at r
 
--- of c elements that were read: the place behind them
+-- if c elements were read at `at`, r is the offset just past them
 abbrev pub ElementsPast : ListName → ℕ → List ℕ → ℕ → End → Type 0
 ElementsPast l c s at r = (prev : List ℕ) → Passes (seriesFrom (elementsOf l .element) prev c) s at r
 
--- of an element that was read, and asks for a credential of the type c, whatever its list
+-- the same of an element of any list that asks for a credential of type c
 abbrev pub AskingTells : ℕ → List ℕ → ℕ → Integer → Type 0
 AskingTells c s at r = (l : ListName) → c ≡ credentialAsked (elementsOf l .credential) → (c ≡ 0 → ⊥) → ElementTells l s at r

@@ -1,2 +1,2 @@
--- What is due
+-- What is due by a plan
 pub mod Due

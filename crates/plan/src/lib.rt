@@ -1,11 +1,11 @@
-// What is due in a transaction that is written part by part.
+// What a transaction's plan has at each phase: for the checker the next segment, for the writer the next step.
 pub mod questions;
 pub mod rows;
 
 use transaction::FieldName;
 use transaction::ListName;
 
-// What is due: nothing, the finish, a field, or an element or the close of a list that needs so many elements.
+// What is due: nothing, the finish, a field, or a list with the least number of its elements (its next element or its close).
 pub enum Due {
     Nothing,
     Finish,

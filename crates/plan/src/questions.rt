@@ -1,4 +1,4 @@
-// What the writer asks of what is due.
+// The writer's questions about what is due.
 ghost use mathlib.Core.Path.{_≡_};
 ghost use Rattle.transaction.specs.Plan.{planOf};
 ghost use Rattle.plan.specs.Due.{fieldCode, listCode, due, dueOf, isList, isField, isOpen, isFinish};
@@ -7,7 +7,7 @@ use crate::rows;
 use transaction::FieldName;
 use transaction::ListName;
 
-// Is a list due?
+// Whether a list is due.
 pub fn list_at(type_id: u32, phase: u32) -> bool
     ensures { λ r. ⌜ r ≡ isList (dueOf (due phase (planOf «type_id»))) ⌝ }
 {
@@ -19,7 +19,7 @@ pub fn list_at(type_id: u32, phase: u32) -> bool
     }
 }
 
-// Is only the finish due?
+// Whether only the finish is due.
 pub fn end_at(type_id: u32, phase: u32) -> bool
     ensures { λ r. ⌜ r ≡ isFinish (dueOf (due phase (planOf «type_id»))) ⌝ }
 {
@@ -43,7 +43,7 @@ fn field_code(field: FieldName) -> u32
     }
 }
 
-// Lists that are written by the same step have the same number.
+// Lists that are written by the same step have the same code.
 fn list_code(list: ListName) -> u32
     ensures { λ r. ⌜ r ≡ listCode list ⌝ }
 {
@@ -57,7 +57,7 @@ fn list_code(list: ListName) -> u32
     }
 }
 
-// Is the field of this name due?
+// Whether this field is due.
 pub fn field_at(type_id: u32, phase: u32, field: FieldName) -> bool
     ensures { λ r. ⌜ r ≡ isField field (dueOf (due phase (planOf «type_id»))) ⌝ }
 {
@@ -69,7 +69,7 @@ pub fn field_at(type_id: u32, phase: u32, field: FieldName) -> bool
     }
 }
 
-// Is the list of this name open?
+// Whether this list, or another that is written by the same step, is due.
 pub fn open_at(type_id: u32, phase: u32, list: ListName) -> bool
     ensures { λ r. ⌜ r ≡ isOpen list (dueOf (due phase (planOf «type_id»))) ⌝ }
 {

@@ -1,5 +1,5 @@
-// The rows of the transaction types: their numbers, and what is due once so many parts are begun; and what each name of a field or a list stands
-// for. A new field is a name here, a new type a row.
+// The rows of the transaction types: their numbers and what is due at each phase; and what each name of a field or list stands for. A new field is a
+// name here, a new type a row.
 ghost use mathlib.Core.Path.{_≡_};
 ghost use Rattle.wire.specs.Series.{series};
 ghost use Rattle.wire.specs.Answer.{ended};
@@ -15,7 +15,7 @@ use wire::Integer;
 
 // ---- the rows
 
-// Is it the number of a type?
+// Whether `number` is the number of a type.
 pub fn is_type(number: u64) -> bool
     ensures { λ r. ⌜ r ≡ isType number ⌝ }
 {
@@ -94,7 +94,7 @@ fn export_due(begun: u32) -> Due
     Due::Nothing
 }
 
-// Behind the memo.
+// What is due after the memo, once `begun` segments after it are begun.
 fn own_due(type_id: u32, begun: u32) -> Due
     ensures { λ r. ⌜ r ≡ dueOf (behind begun (ownPlan (typeOf «type_id»))) ⌝ }
 {
@@ -133,7 +133,7 @@ pub fn due_at(type_id: u32, phase: u32) -> Due
 
 // ---- fields, by their names
 
-// The place behind a field; a memo has at most so many bytes.
+// The offset just past a field; a memo has at most `most` bytes.
 pub fn field_end(s: &[u8], at: usize, field: FieldName, most: u64) -> End
     ensures { λ r. ⌜ r ≡ ended (contentOf most field) (now (s .entry)) at ⌝ }
 {
@@ -146,7 +146,7 @@ pub fn field_end(s: &[u8], at: usize, field: FieldName, most: u64) -> End
     }
 }
 
-// The type of the credential that a field asks for; 0 where it asks for none.
+// The type of the credential that a field asks for, or 0 if it asks for none.
 pub fn field_credential(field: FieldName) -> u64
     ensures { λ r. ⌜ r ≡ credentialAsked (fieldCredential field) ⌝ }
 {
@@ -168,7 +168,7 @@ fn place_of(read: End, other: usize) -> usize
     }
 }
 
-// The place behind a field that was read, by its length.
+// The offset just past a field that was read, by its length.
 pub fn field_past(s: &[u8], at: usize, field: FieldName) -> usize
     ensures { λ r. ⌜ FieldPast field (now (s .entry)) at r ⌝ }
 {
@@ -181,7 +181,7 @@ pub fn field_past(s: &[u8], at: usize, field: FieldName) -> usize
     }
 }
 
-// How many signatures a field that was read asks for.
+// The number of signatures that a field that was read asks for.
 pub fn field_signatures(s: &[u8], at: usize, field: FieldName) -> u64
     ensures { λ r. ⌜ FieldSigns field (now (s .entry)) at r ⌝ }
 {
@@ -196,7 +196,7 @@ pub fn field_signatures(s: &[u8], at: usize, field: FieldName) -> u64
 
 // ---- lists, by their names
 
-// The place behind so many elements.
+// The offset just past `count` elements.
 pub fn elements_from(s: &[u8], first: usize, count: u64, list: ListName) -> End
     ensures { λ r. ⌜ r ≡ ended (series (elementsOf list .element) count) (now (s .entry)) first ⌝ }
 {
@@ -210,7 +210,7 @@ pub fn elements_from(s: &[u8], first: usize, count: u64, list: ListName) -> End
     }
 }
 
-// The type of the credential that each element asks for; 0 where it asks for none.
+// The type of the credential that each element asks for, or 0 if it asks for none.
 pub fn credential_of(list: ListName) -> u64
     ensures { λ r. ⌜ r ≡ credentialAsked (elementsOf list .credential) ⌝ }
 {
@@ -224,7 +224,7 @@ pub fn credential_of(list: ListName) -> u64
     }
 }
 
-// An element that asks for nothing, passed.
+// The answer for an element that asks for no signatures.
 fn silent(read: End) -> Integer
     ensures { λ r. ⌜ r ≡ silentOf read ⌝ }
 {
@@ -234,7 +234,7 @@ fn silent(read: End) -> Integer
     }
 }
 
-// How many signatures an element that was read asks for, and the place behind it, by its lengths.
+// The number of signatures that an element that was read asks for, and the offset just past it, by its lengths.
 pub fn element_past(s: &[u8], at: usize, list: ListName) -> Integer
     ensures { λ r. ⌜ ElementTells list (now (s .entry)) at r ⌝ }
 {
@@ -248,7 +248,7 @@ pub fn element_past(s: &[u8], at: usize, list: ListName) -> Integer
     }
 }
 
-// The place behind so many elements that were read.
+// The offset just past `count` elements that were read.
 pub fn elements_past(s: &[u8], first: usize, count: u64, list: ListName) -> End
     ensures { λ r. ⌜ ElementsPast list count (now (s .entry)) first r ⌝ }
 {
@@ -268,7 +268,7 @@ pub fn elements_past(s: &[u8], first: usize, count: u64, list: ListName) -> End
     End::At(at)
 }
 
-// An element that was read and asks for a credential of that type, whatever its list.
+// As `element_past`, for an element of any list that asks for a credential of this type.
 pub fn asking_past(s: &[u8], at: usize, credential: u64) -> Integer
     ensures { λ r. ⌜ AskingTells credential (now (s .entry)) at r ⌝ }
 {
@@ -278,7 +278,7 @@ pub fn asking_past(s: &[u8], at: usize, credential: u64) -> Integer
     element::lengths::input_past(s, at)
 }
 
-// The kind of an element's entry; an initial state's outputs are entries of this kind.
+// The kind of an element's entry. An initial state is no entry: this is the kind of its outputs.
 pub fn entry_of(list: ListName) -> u32
     ensures { λ r. ⌜ r ≡ entryOf list ⌝ }
 {
