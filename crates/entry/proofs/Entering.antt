@@ -1,4 +1,4 @@
--- Entry n, where it is known what the check answered and which row the walk found. Assumes nothing.
+-- Entry n, by what the check returned and which row was found. Assumes nothing.
 use Prim.Native.Nat.{ℕ, _-_}
 use mathlib.Core.Path.{_≡_, refl, sym, ap, ap₂, _∙_, subst}
 use mathlib.Core.Bool.{Bool, true, false}

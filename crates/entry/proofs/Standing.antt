@@ -1,4 +1,4 @@
--- In an accepted transaction each entry is what stands at its row, by its kind. Assumes nothing.
+-- In an accepted transaction, the typed fields at an entry's row are that entry. Assumes nothing.
 use Prim.Native.Nat.{ℕ, _+_}
 use mathlib.Core.Path.{_≡_, refl, sym, ap, _∙_, subst}
 use mathlib.Core.Bool.{Bool, not}

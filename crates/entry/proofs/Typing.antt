@@ -1,4 +1,4 @@
--- What was found at its place, as typed fields, where it is known what the code found. Assumes nothing.
+-- Laws for functions that find an entry's typed fields at an offset, by what the code has found. Assumes nothing.
 use Prim.Native.Nat.{ℕ}
 use mathlib.Core.Path.{_≡_, sym, ap, _∙_}
 use mathlib.Core.List.{List}

@@ -18,7 +18,7 @@ refusedEntry e = record { answer = A.Refused e; asset = noId; txid = noId }
 abbrev pub missingEntry : EntryRead
 missingEntry = refusedEntry (refusal noEntry 0)
 
--- an entry of a transaction of so many bytes
+-- an entry of a transaction of `bytes` bytes
 abbrev pub foundEntry : ℕ → EntryAt → EntryRead
 foundEntry bytes e = record { answer = A.Found (e .fields) (e .start) (e .end) bytes; asset = e .asset; txid = e .txid }
 
@@ -30,7 +30,7 @@ entryAnswer bytes (some e) = foundEntry bytes e
 abbrev pub entryOf : ℕ → List ℕ → ℕ → EntryRead
 entryOf most s n = onResult (check (avm most) s) refusedEntry (λ v end. entryAnswer end (entry (avm most) v n))
 
--- the number that an answer reports: done is 0
+-- the number that an answer reports: 0 if the entry is found
 abbrev pub entryNumber : EntryAnswer → ℕ
 entryNumber (A.Found fields start end bytes) = 0
 entryNumber (A.Refused e) = numberOf e

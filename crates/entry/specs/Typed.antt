@@ -1,5 +1,5 @@
--- What stands at a row, as typed fields by its kind alone. In an accepted transaction it is the row's entry (`entries-stand`, of
--- proofs/Standing). Assumes nothing.
+-- The typed fields at a row, by its kind alone. In an accepted transaction they are those of the row's entry (`entries-stand`, of proofs/Standing).
+-- Assumes nothing.
 use Prim.Native.Nat.{ℕ}
 use mathlib.Core.List.{List}
 use lib.Dec.{eqb}
@@ -25,7 +25,7 @@ use Rattle.entry.specs.declared.Typed.the-variants as T
 use Rattle.entry.specs.declared.EntryRead.{EntryRead}
 use Rattle.entry.specs.declared.EntryAnswer.the-variants as A
 
--- ---- what was found, as an entry of its kind
+-- ---- typed fields as an entry of their kind
 
 abbrev pub onOutput : OutputFound → (OutputFields → Entry) → Typed
 onOutput (O.Fields f) make = T.Entry (make f)
@@ -77,7 +77,7 @@ assetAt kind s at =
 abbrev pub txidAt : ℕ → List ℕ → ℕ → List ℕ
 txidAt kind s at = pick (eqb kind 2) (wholeAt 32 s at) (pick (eqb kind 4) (wholeAt 32 s at) noId)
 
--- ---- the entry of a row, in a transaction of so many bytes
+-- ---- the entry of a row, in a transaction of `bytes` bytes
 
 abbrev pub onTyped : Typed → List ℕ → ℕ → Row → EntryRead
 onTyped (T.Entry f) s bytes r =

@@ -1,4 +1,4 @@
-// Entry n of an accepted transaction, as typed fields: its row is found by the walk, and its fields by their places.
+// Entry `n` of an accepted transaction as typed fields: the steps over the entries find its row, and offsets in the row give its fields.
 ghost use mathlib.Core.Path.{_≡_};
 ghost use Rattle.transaction.specs.Answer.{memoMost};
 ghost use Rattle.entry.specs.Entry.{refusedEntry, missingEntry, entryOf};
@@ -17,13 +17,13 @@ use wire::Integer;
 use wire::Refusal;
 use wire::Rule;
 
-// An entry with its start, its end, and the bytes of the whole transaction.
+// An entry with its start, its end and the length of the whole transaction, or why there is none.
 pub enum EntryAnswer {
     Found(Entry, usize, usize, usize),
     Refused(Refusal),
 }
 
-// The identifiers stand beside the typed fields, zero bytes where the entry has none.
+// An entry and its identifiers; an identifier that the entry does not have is all zeros.
 pub struct EntryRead {
     pub answer: EntryAnswer,
     pub asset: [u8; 32],
@@ -100,7 +100,7 @@ fn credential_typed(s: &[u8], at: usize) -> Typed
     }))
 }
 
-// The fields of an entry of this kind.
+// The typed fields of an entry of this kind.
 fn typed_at(s: &[u8], kind: u32, at: usize) -> Typed
     ensures { λ r. ⌜ r ≡ typedAt kind (now (s .entry)) at ⌝ }
 {
@@ -122,7 +122,7 @@ fn typed_at(s: &[u8], kind: u32, at: usize) -> Typed
     output_typed(s, kind, at)
 }
 
-// An input's asset id stands behind its key.
+// An input's asset id, which follows its key.
 fn behind_key(s: &[u8], at: usize) -> [u8; 32]
     ensures { λ r. ⌜ r ≡ behindKey (now (s .entry)) at ⌝ }
 {
@@ -135,7 +135,7 @@ fn behind_key(s: &[u8], at: usize) -> [u8; 32]
     wire::id_at(s, a)
 }
 
-// Outputs and operations start with their asset id.
+// The asset id of an entry of this kind; outputs and operations start with it.
 fn asset_at(s: &[u8], kind: u32, at: usize) -> [u8; 32]
     ensures { λ r. ⌜ r ≡ assetAt kind (now (s .entry)) at ⌝ }
 {
@@ -154,7 +154,7 @@ fn asset_at(s: &[u8], kind: u32, at: usize) -> [u8; 32]
     wire::id_at(s, at)
 }
 
-// Only inputs have a transaction id: it is the first of them.
+// The transaction id of an entry of this kind; only inputs have one, and they start with it.
 fn txid_at(s: &[u8], kind: u32, at: usize) -> [u8; 32]
     ensures { λ r. ⌜ r ≡ txidAt kind (now (s .entry)) at ⌝ }
 {
@@ -177,14 +177,14 @@ fn refused(refusal: Refusal) -> EntryRead
     }
 }
 
-// There is no such entry.
+// The refusal of an entry number that no entry has.
 fn missing() -> EntryRead
     ensures { λ r. ⌜ r ≡ missingEntry ⌝ }
 {
     refused(wire::refuse(Rule::NoEntry, 0))
 }
 
-// The entry of a row, in a transaction of so many bytes.
+// The entry of a row, in a transaction of `bytes` bytes.
 fn row_entry(s: &[u8], row: Row, bytes: usize) -> EntryRead
     ensures { λ r. ⌜ r ≡ rowEntry (now (s .entry)) bytes row ⌝ }
 {
@@ -198,7 +198,7 @@ fn row_entry(s: &[u8], row: Row, bytes: usize) -> EntryRead
     }
 }
 
-// Reads entry n, from 0, where a memo has at most so many bytes. Bytes that are not accepted get the check's own refusal.
+// Reads entry `n`, counted from 0. A memo has at most `most` bytes. Bytes that are not accepted get the check's own refusal.
 fn entry_within(s: &[u8], n: u64, most: u64) -> EntryRead
     ensures { λ r. ⌜ r ≡ entryOf most (now (s .entry)) n ⌝ }
 {

@@ -1,4 +1,4 @@
--- What was read is found again by its places: the fields of owners, outputs, inputs and operations. Assumes nothing.
+-- The fields of owners, outputs, inputs and operations that were read are found again by their offsets. Assumes nothing.
 use Prim.Native.Nat.{ℕ, _+_, _-_, _*_, _≤_}
 use mathlib.Core.Path.{_≡_, sym, ap, ap₂, _∙_, subst}
 use mathlib.Core.List.{List, [], _∷_}

@@ -1,4 +1,4 @@
--- What was found at its place, where it is known what the code found. Assumes nothing.
+-- Laws for functions that find fields by their offsets, by what the code has found. Assumes nothing.
 use Prim.Native.Nat.{ℕ, _*_, _^_, _≤_, _<_}
 use mathlib.Core.Path.{_≡_, sym, ap, _∙_}
 use mathlib.Core.List.{List}

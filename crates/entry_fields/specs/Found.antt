@@ -1,4 +1,5 @@
--- The typed fields of what stands at a place, by their places alone. Where an element was read they are its fields (proofs/Finding). Assumes nothing.
+-- The typed fields of an element at an offset, found by their offsets alone. If an element was read there, they are its fields (proofs/Finding).
+-- Assumes nothing.
 use Prim.Native.Nat.{ℕ, _*_}
 use mathlib.Core.List.{List}
 use lib.Dec.{eqb}
@@ -31,7 +32,7 @@ ownersFound s at =
     integer 4 .parse s n (λ e. W.Missing) λ count first.
     W.Fields record { locktime = locktime; threshold = threshold; «addresses_at» = first; «addresses_count» = count }
 
--- ---- outputs, behind their type
+-- ---- outputs: what follows the type, then the output with its type
 
 abbrev pub outputOf : OwnersFound → (OwnersFields → OutputFields) → OutputFound
 outputOf (W.Fields o) make = O.Fields (make o)
@@ -72,7 +73,7 @@ inputFound s at =
     integer 4 .parse s n (λ e. I.Missing) λ count first.
     I.Fields record { index = index; amount = amount; «indices_at» = first; «indices_count» = count }
 
--- ---- operations, behind their type
+-- ---- operations: terms, recipients, then the whole operation
 
 abbrev pub termsFound : List ℕ → ℕ → TermsFound
 termsFound s at =
@@ -99,7 +100,7 @@ abbrev pub onRecipients : RecipientsFound → (Recipients → OperationFields) �
 onRecipients (R.Fields r) make = Y.Fields (make r)
 onRecipients R.Missing make = Y.Missing
 
--- an operation whose pairs stand from `place` on
+-- an operation whose pairs start at the offset `place`
 abbrev pub operationOf : ℕ → ℕ → TermsFields → Recipients → OperationFields
 operationOf place count t r = record { «outputs_at» = place; «outputs_count» = count; terms = t; recipients = r }
 

@@ -1,4 +1,4 @@
-// The typed fields of what stands at a place of an accepted transaction, found by their places alone: the check has judged them.
+// The typed fields of an element of an accepted transaction, found by their offsets alone: the check has already applied every rule.
 ghost use mathlib.Core.Path.{_≡_};
 ghost use Rattle.entry_fields.specs.Found.{ownersFound, mintFound, transferFound, nftMintFound, nftTransferFound, outputFound, inputFound};
 ghost use Rattle.entry_fields.specs.Found.{termsFound, recipientsFound, actionFound, operationFound};
@@ -11,7 +11,7 @@ use element::TermsFields;
 use wire::End;
 use wire::Integer;
 
-// The fields of what stands at a place, if they are all there.
+// The typed fields of an element, if they are all there.
 enum OwnersFound {
     Fields(OwnersFields),
     Missing,
@@ -27,7 +27,7 @@ pub enum InputFound {
     Missing,
 }
 
-// With the place behind them.
+// The fields of an operation's terms, and the offset just past the terms.
 enum TermsFound {
     Fields(TermsFields, usize),
     Missing,
@@ -63,7 +63,7 @@ fn owners_at(s: &[u8], at: usize) -> OwnersFound
     })
 }
 
-// Type 6 behind its type: owners.
+// What follows type 6: owners.
 fn mint_at(s: &[u8], at: usize) -> OutputFound
     ensures { λ r. ⌜ r ≡ mintFound (now (s .entry)) at ⌝ }
 {
@@ -73,7 +73,7 @@ fn mint_at(s: &[u8], at: usize) -> OutputFound
     }
 }
 
-// Type 7: amount, owners.
+// What follows type 7: amount, owners.
 fn transfer_at(s: &[u8], at: usize) -> OutputFound
     ensures { λ r. ⌜ r ≡ transferFound (now (s .entry)) at ⌝ }
 {
@@ -89,7 +89,7 @@ fn transfer_at(s: &[u8], at: usize) -> OutputFound
     }
 }
 
-// Type 10: group, owners.
+// What follows type 10: group, owners.
 fn nft_mint_at(s: &[u8], at: usize) -> OutputFound
     ensures { λ r. ⌜ r ≡ nftMintFound (now (s .entry)) at ⌝ }
 {
@@ -102,7 +102,7 @@ fn nft_mint_at(s: &[u8], at: usize) -> OutputFound
     }
 }
 
-// Type 11: group, payload, owners.
+// What follows type 11: group, payload, owners.
 fn nft_transfer_at(s: &[u8], at: usize) -> OutputFound
     ensures { λ r. ⌜ r ≡ nftTransferFound (now (s .entry)) at ⌝ }
 {
@@ -175,7 +175,7 @@ pub fn input_at(s: &[u8], at: usize) -> InputFound
     })
 }
 
-// An operation's address indices, group and payload, and the place behind them.
+// An operation's address indices, group and payload, and the offset just past them.
 fn terms_at(s: &[u8], at: usize) -> TermsFound
     ensures { λ r. ⌜ r ≡ termsFound (now (s .entry)) at ⌝ }
 {
@@ -206,7 +206,7 @@ fn terms_at(s: &[u8], at: usize) -> TermsFound
     )
 }
 
-// Behind the terms: a mint (12) has a list of owners, a transfer (13) has owners.
+// What follows the terms: a list of owners for a mint (12), owners for a transfer (13).
 fn recipients_at(s: &[u8], at: usize, type_id: u64) -> RecipientsFound
     ensures { λ r. ⌜ r ≡ recipientsFound «type_id» (now (s .entry)) at ⌝ }
 {
@@ -225,7 +225,7 @@ fn recipients_at(s: &[u8], at: usize, type_id: u64) -> RecipientsFound
     }
 }
 
-// What follows an operation's pairs.
+// What follows an operation's pairs: type, terms, recipients.
 fn action_at(s: &[u8], at: usize, outputs_at: usize, outputs_count: u64) -> OperationFound
     ensures { λ r. ⌜ r ≡ actionFound «outputs_at» «outputs_count» (now (s .entry)) at ⌝ }
 {
@@ -246,7 +246,7 @@ fn action_at(s: &[u8], at: usize, outputs_at: usize, outputs_count: u64) -> Oper
     }
 }
 
-// An operation: asset id, (id, index) pairs, and what follows them.
+// An operation: asset id, (id, index) pairs, action.
 pub fn operation_at(s: &[u8], at: usize) -> OperationFound
     ensures { λ r. ⌜ r ≡ operationFound (now (s .entry)) at ⌝ }
 {

@@ -1,4 +1,5 @@
--- What the loops over the steps keep: where entries are ahead of the first cursor, some of them are ahead of the one at hand. Assumes nothing.
+-- The invariants of the loops over the steps: for the entries ahead of the first cursor, which entries are ahead of the current one, and how the
+-- two relate. Assumes nothing.
 use Prim.Native.Nat.{ℕ, suc, _+_, _-_, _*_, _≤_, _<_}
 use mathlib.Core.Path.{_≡_, refl, sym, ap, _∙_, subst}
 use mathlib.Core.List.{List, [], _∷_, _++_, append-assoc}

@@ -1,4 +1,4 @@
--- The check with a table: what is put is the rows of the entries. Assumes nothing.
+-- The check with a table: what is stored is the rows of the entries. Assumes nothing.
 use Prim.Native.Nat.{ℕ, suc, _+_, _-_, _*_, _/_, _%_, _≤_, _<_}
 use mathlib.Core.Path.{_≡_, refl, sym, ap, ap₂, _∙_, subst}
 use mathlib.Core.Bool.{Bool, true, false}

@@ -1,4 +1,5 @@
--- Rows put into a table, counted, and found by their number; and what is said of them where es are ahead of the first cursor. Assumes nothing.
+-- Rows stored in a table, counted, and found by index; and what the code says of them if es are the entries ahead of the first cursor. Assumes
+-- nothing.
 use mathlib.Core.Path.{_≡_}
 use Prim.Native.Nat.{ℕ, _+_, _-_, _*_, _%_}
 use mathlib.Core.List.{List, [], _∷_, _++_}
@@ -14,20 +15,20 @@ use Rattle.entry_table.specs.declared.Count.the-variants as C
 use Rattle.entry_table.specs.declared.Nth.{Nth}
 use Rattle.entry_table.specs.declared.Nth.the-variants as N
 
--- kind, start, length, as 32-bit numbers
+-- kind, start, length, as 32-bit integers
 abbrev pub numbers : Row → List ℕ
 numbers r = r .kind ∷ r .start % 4294967296 ∷ (r .end - r .start) % 4294967296 ∷ []
 
--- row i of a table, where it has room for it
+-- t with row i stored, if it has room for it
 unfoldable pub putRow : ℕ → Row → List ℕ → List ℕ
 putRow i r t = take (3 * i) t ++ (numbers r ++ drop (3 * i + 3) t)
 
--- rows from the i-th on
+-- t with the rows of all entries stored, from row i on
 unfoldable pub putRows : ℕ → List EntryAt → List ℕ → List ℕ
 putRows i [] t = t
 putRows i (e ∷ es) t = putRows (i + 1) es (putRow i (located e) t)
 
--- how many, if there is room
+-- the number of entries, if there is room for that many
 abbrev pub countedRows : ℕ → List EntryAt → Count
 countedRows room es = pick (leb (length es) room) (C.Rows (length es)) C.TooMany
 

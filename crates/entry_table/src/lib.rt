@@ -1,13 +1,13 @@
-// The table of an accepted transaction's entries, in byte order: rows counted, written and found by their number.
+// The table of an accepted transaction's entries, in byte order: its rows are counted, written, and found by index.
 pub mod rows;
 
 use entry_walk::Row;
 use wire::Refusal;
 
-// The numbers of a row: kind, start, length.
+// The integers of a row: kind, start, length.
 pub(crate) const ROW_NUMBERS: usize = 3;
 
-// How many entries there are, if not more than asked for.
+// The number of entries, or `TooMany` if there is no room for them.
 pub(crate) enum Count {
     Rows(usize),
     TooMany,
@@ -18,7 +18,7 @@ pub enum Nth {
     Missing,
 }
 
-// How many rows were written, and how many bytes the transaction has.
+// The number of rows written and the length of the transaction in bytes, or why there is no table.
 pub enum Tabled {
     Listed(usize, usize),
     Refused(Refusal),

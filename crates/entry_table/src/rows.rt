@@ -1,4 +1,4 @@
-// The rows of the table: counted, written, and found by their number; and the check with a lent table.
+// The rows of the table: counted, written, and found by index; and the check that fills a caller's table.
 ghost use mathlib.Core.Path.{_≡_};
 ghost use Prim.Native.Nat.{_+_, _-_, _*_, _≤_};
 ghost use lib.ListN.{length};
@@ -15,7 +15,7 @@ use entry_walk::steps;
 use transaction::Checked;
 use wire::Rule;
 
-// How many entries there are, if there is room for them.
+// The number of entries, if there is room for that many.
 fn count(s: &[u8], type_id: u32, room: usize) -> Count
     ensures { λ r. ⌜ Counts room «type_id» (now (s .entry)) r ⌝ }
 {
@@ -40,7 +40,7 @@ fn count(s: &[u8], type_id: u32, room: usize) -> Count
     }
 }
 
-// The n-th entry, from 0.
+// Entry `n`, counted from 0.
 pub fn find(s: &[u8], type_id: u32, n: u64) -> Nth
     ensures { λ r. ⌜ Finds n «type_id» (now (s .entry)) r ⌝ }
 {
@@ -65,7 +65,7 @@ pub fn find(s: &[u8], type_id: u32, n: u64) -> Nth
     }
 }
 
-// The bytes of an entry.
+// The length of an entry in bytes.
 fn span(row: Row) -> usize
     ensures { λ r. ⌜ r ≡ row .end - row .start ⌝ }
 {
@@ -75,7 +75,7 @@ fn span(row: Row) -> usize
     row.end - row.start
 }
 
-// Puts a row into its three numbers.
+// Stores row `i`, as three integers.
 fn put_row(table: &mut [u32], i: usize, row: Row)
     requires { ⌜ 3 * i + 3 ≤ length (now table) ⌝ }
     ensures { λ _. ⌜ now (table .exit) ≡ putRow i row (now (table .entry)) ⌝ }
@@ -86,7 +86,7 @@ fn put_row(table: &mut [u32], i: usize, row: Row)
     table[at + 2] = (span(row) % 4294967296) as u32;
 }
 
-// Puts n rows, for which there is room.
+// Stores the first `n` rows, for which there is room.
 fn put_rows(s: &[u8], type_id: u32, n: usize, table: &mut [u32])
     requires { ⌜ 3 * n ≤ length (now table) ⌝ }
     ensures { λ _. ⌜ Puts n «type_id» (now (s .entry)) (now (table .entry)) (now (table .exit)) ⌝ }
@@ -113,7 +113,7 @@ fn put_rows(s: &[u8], type_id: u32, n: usize, table: &mut [u32])
     }
 }
 
-// Checks the bytes, where a memo has at most so many of them, and writes a row of three numbers for each entry.
+// Checks the bytes and writes a row of three integers for each entry. A memo has at most `most` bytes.
 fn check_table_within(s: &[u8], table: &mut [u32], most: u64) -> Tabled
     ensures { λ r. ⌜ filled r (now (table .exit)) ≡ tabled most (now (s .entry)) (now (table .entry)) ⌝ }
 {

@@ -1,4 +1,4 @@
--- What holds of the entries of each element and of each credential that was read holds of all entries ahead. Assumes nothing.
+-- What holds of the entries of each element and of each credential that was read holds of all entries ahead of a cursor. Assumes nothing.
 use Prim.Native.Nat.{ℕ, zero, suc}
 use mathlib.Core.Path.{_≡_, sym, subst}
 use mathlib.Core.List.{List, [], _∷_, _++_}

@@ -1,4 +1,4 @@
--- Ahead of the first cursor are the entries of a transaction that was read. Assumes nothing.
+-- The entries ahead of the first cursor are those of the transaction that was read. Assumes nothing.
 use Prim.Native.Nat.{ℕ, _+_}
 use mathlib.Core.Path.{_≡_, sym, ap, ap₂, _∙_, subst, subst₂}
 use mathlib.Core.List.{List, [], _++_, append-assoc}

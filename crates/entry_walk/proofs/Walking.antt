@@ -1,4 +1,4 @@
--- Steps from one entry to the next: what was read is taken apart along the code's readings. Assumes nothing.
+-- Laws of the steps from one entry to the next: what was read is taken apart as the code takes it. Assumes nothing.
 use Prim.Native.Nat.{ℕ, zero, suc, _+_, _-_, _*_, _≤_, _<_}
 use mathlib.Core.Path.{_≡_, refl, sym, ap, ap₂, _∙_, subst, subst₂}
 use mathlib.Core.Bool.{not}

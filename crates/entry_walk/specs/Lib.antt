@@ -1,2 +1,2 @@
--- Entries as code walks them
+-- The steps from one entry to the next
 pub mod Walk

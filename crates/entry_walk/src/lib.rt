@@ -1,20 +1,20 @@
-// From one entry of an accepted transaction to the next, in byte order. The bytes have been checked, so what stands there is passed by its length
-// and not judged again.
+// Steps from one entry of an accepted transaction to the next, in byte order. The bytes have been checked, so elements are skipped by their lengths
+// and no rule is checked again.
 pub mod steps;
 
-// The kinds of entries that are no elements of a list: an initial state's output, a credential.
+// The kinds of entries that are not elements of a list: an initial state's output, and a credential.
 pub(crate) const STATE_OUTPUT: u32 = 6;
 
 pub(crate) const CREDENTIAL: u32 = 7;
 
-// Codec, type, network and chain id, before the first segment.
+// The bytes before the first segment: codec, type, network and chain id.
 pub(crate) const HEAD_WIDTH: usize = 42;
 
-// The phase of the longest plan's last segment.
+// The phase of the credentials in the longest plan.
 pub(crate) const LAST_PHASE: u32 = 8;
 
-// Where the next entry stands: how many of the plan's segments are begun, the place, and how many elements of the last one begun are left; the
-// credentials are the last. Among initial states: the outputs that are left of the one at hand.
+// The position of the next entry: the number of the plan's segments begun (the credentials count as the last), the offset, the number of elements
+// left in the segment begun last, and `inner`, the number of outputs left in the current initial state.
 pub struct Cursor {
     pub phase: u32,
     pub at: usize,

@@ -1,4 +1,4 @@
-// From one entry of an accepted transaction to the next. On other bytes the steps come to an end, with no promise.
+// Steps from one entry of an accepted transaction to the next. On other bytes the steps end too, but the entries mean nothing.
 ghost use mathlib.Core.Path.{_≡_};
 ghost use Prim.Native.Nat.{_<_};
 ghost use Rattle.wire.specs.Answer.{ended};
@@ -18,7 +18,7 @@ use transaction::ListName;
 use wire::End;
 use wire::Integer;
 
-// Before the first segment.
+// The cursor before the first segment.
 pub fn first() -> Cursor
     ensures { λ r. ⌜ r ≡ start ⌝ }
 {
@@ -30,7 +30,7 @@ pub fn first() -> Cursor
     }
 }
 
-// Into the list whose count is at hand.
+// Enters the list whose count is at `at`.
 fn advance_counted(s: &[u8], phase: u32, at: usize) -> Advance
     ensures { λ r. ⌜ CountedAdvance phase (now (s .entry)) at r ⌝ }
     ensures { λ r. ⌜ Entered phase r ⌝ }
@@ -46,7 +46,7 @@ fn advance_counted(s: &[u8], phase: u32, at: usize) -> Advance
     })
 }
 
-// Into the next segment, or past it if it is a field.
+// Enters the next segment, or skips it if it is a field.
 fn advance_later(s: &[u8], type_id: u32, c: Cursor) -> Advance
     ensures { λ r. ⌜ LaterAdvance «type_id» (now (s .entry)) c r ⌝ }
     ensures { λ r. ⌜ Shorter c r ⌝ }
@@ -68,7 +68,7 @@ fn advance_later(s: &[u8], type_id: u32, c: Cursor) -> Advance
     }
 }
 
-// Into an initial state: behind its FxID and the count of its outputs.
+// Enters an initial state, just past its FxID and the count of its outputs.
 fn advance_state(s: &[u8], c: Cursor) -> Advance
     requires { ⌜ 0 < c .left ⌝ }
     ensures { λ r. ⌜ ElementAdvance L.State (now (s .entry)) c r ⌝ }
@@ -88,7 +88,7 @@ fn advance_state(s: &[u8], c: Cursor) -> Advance
     })
 }
 
-// An element: an entry, or an initial state, whose outputs are entries.
+// Steps over an element, which is an entry; enters an initial state, whose outputs are the entries.
 fn advance_element(s: &[u8], list: ListName, c: Cursor) -> Advance
     requires { ⌜ 0 < c .left ⌝ }
     ensures { λ r. ⌜ ElementAdvance list (now (s .entry)) c r ⌝ }
@@ -139,7 +139,7 @@ fn advance_state_output(s: &[u8], c: Cursor) -> Advance
     }
 }
 
-// The place behind a credential: its type, the count of its signatures, and these.
+// The offset just past a credential: its type, the count of its signatures, and the signatures.
 fn credential_past(s: &[u8], at: usize) -> End
     ensures { λ r. ⌜ r ≡ ended credentialBytes (now (s .entry)) at ⌝ }
 {
@@ -175,7 +175,7 @@ fn advance_credential(s: &[u8], c: Cursor) -> Advance
     }
 }
 
-// The entry at a cursor and the cursor behind it; or, where a segment is at its end, the cursor in the next one.
+// The entry at a cursor and the cursor just past it; or, at the end of a segment, the cursor in the next one.
 pub fn advance(s: &[u8], type_id: u32, c: Cursor) -> Advance
     ensures { λ r. ⌜ AdvanceAhead «type_id» (now (s .entry)) c r ⌝ }
     ensures { λ r. ⌜ Shorter c r ⌝ }
