@@ -1,5 +1,5 @@
--- The credentials that are still wanted ahead of a cursor, in an unsigned part that was read, and what the steps from one to the next return. Assumes
--- nothing.
+-- The credentials that are still wanted ahead of a cursor, in an unsigned part that was read, and what the steps from one to the next return.
+-- Assumes nothing.
 use mathlib.Core.Path.{_≡_}
 use Prim.Native.Nat.{ℕ, _<_}
 use mathlib.Core.List.{List, [], _∷_, _++_}

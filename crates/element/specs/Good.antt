@@ -91,8 +91,7 @@ pub record GoodKey (id : List ℕ) (index : ℕ) : Type 0 where
   pub id-good : Sized 32 id
   pub index-width : index < 2 ^ 32
 
--- inputs strictly increase by (id, index), which is said of their list: in byte order, keys compare by id, then by index (`key-order`, of
--- proofs/Good)
+-- inputs strictly increase by (id, index), which is said of their list: in byte order, keys compare by id, then by index (`key-order`, of proofs/Good)
 pub record GoodInput (i : Input) : Type 0 where
   pub key : GoodKey (i .txid) (i .index)
   pub asset : Sized 32 (i .asset)

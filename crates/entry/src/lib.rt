@@ -1,4 +1,4 @@
-// Entry `n` of an accepted transaction as typed fields: the steps over the entries find its row, and offsets in the row give its fields.
+// Entry `n` of an accepted transaction as typed fields: its row is found step by step, and its fields by their offsets.
 ghost use mathlib.Core.Path.{_≡_};
 ghost use Rattle.transaction.specs.Answer.{memoMost};
 ghost use Rattle.entry.specs.Entry.{refusedEntry, missingEntry, entryOf};

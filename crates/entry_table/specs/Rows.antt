@@ -1,5 +1,5 @@
--- Rows stored in a table, counted, and found by index; and what the code says of them if es are the entries ahead of the first cursor. Assumes
--- nothing.
+-- Rows stored in a table, counted, and found by index; and what the code says of them if es are the entries ahead of the first cursor.
+-- Assumes nothing.
 use mathlib.Core.Path.{_≡_}
 use Prim.Native.Nat.{ℕ, _+_, _-_, _*_, _%_}
 use mathlib.Core.List.{List, [], _∷_, _++_}

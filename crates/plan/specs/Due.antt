@@ -1,4 +1,4 @@
--- What is due by a plan once a number of its segments are begun, and how the code represents it. Assumes nothing.
+-- What is due by a plan at each phase, and how the code represents it. Assumes nothing.
 use mathlib.Core.Path.{_≡_}
 use Prim.Native.Nat.{ℕ, zero, suc}
 use mathlib.Core.Bool.{Bool, true, false}

@@ -94,7 +94,7 @@ fn export_due(begun: u32) -> Due
     Due::Nothing
 }
 
-// What is due after the memo, once `begun` segments after it are begun.
+// What is due after the memo, past the first `begun` segments there.
 fn own_due(type_id: u32, begun: u32) -> Due
     ensures { λ r. ⌜ r ≡ dueOf (behind begun (ownPlan (typeOf «type_id»))) ⌝ }
 {

@@ -1,5 +1,5 @@
--- A family of transactions: its types, their numbers, and the plan of each. The signed format, the check and the entries are made from these. Assumes
--- nothing.
+-- A family of transactions: its types, their numbers, and the plan of each. The signed format, the check and the entries are made from these.
+-- Assumes nothing.
 use mathlib.Core.Path.{_≡_, refl}
 use Prim.Native.Nat.{ℕ, _+_}
 use mathlib.Core.Bool.{Bool}

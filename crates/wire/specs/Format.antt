@@ -83,7 +83,7 @@ pub result-inv : {A B : Type 0} (o : Result A) (k : A → ℕ → Result B) (b :
 result-inv (took a m) k b n q = (a, m, refl, q)
 result-inv (refused e) k b n q = refused-took e b n q
 
--- if a parser followed by k takes a value, the parser itself took one, and k takes the rest
+-- if a parser followed by k takes b, the parser itself takes some a, and k of a takes b
 pub parse-inv : {A B : Type 0} (F : Format A) (s : List ℕ) (at : ℕ) (k : A → ℕ → Result B) (b : B) (n : ℕ) → F .parse s at refused k ≡ took b n
     → (a : A) × (m : ℕ) × (F .parse s at refused took ≡ took a m) × (k a m ≡ took b n)
 parse-inv F s at k b n q = result-inv (F .parse s at refused took) k b n (sym (F .same s at refused k) ∙ q)
