@@ -1,3 +1,3 @@
--- What is proved of the buffer
+-- Laws of the buffer
 pub mod Stores
 pub mod Numbering

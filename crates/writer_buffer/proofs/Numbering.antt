@@ -1,4 +1,4 @@
--- Numbers of four bytes, put one behind the other. Assumes nothing.
+-- Integers of four bytes each, written one after the other. Assumes nothing.
 use Prim.Native.Nat.{ℕ, _+_, _*_, _≤_, _<_}
 use mathlib.Core.Path.{_≡_, refl, sym, ap, _∙_}
 use mathlib.Core.List.{List, _++_}

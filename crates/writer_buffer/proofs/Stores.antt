@@ -1,4 +1,4 @@
--- Room in the buffer, and stores one behind the other. Assumes nothing.
+-- Room in the buffer, and stores one after the other. Assumes nothing.
 use Prim.Native.Nat.{ℕ, _+_, _≤_, _-_, _%_, _^_, _<_}
 use mathlib.Core.Path.{_≡_, refl, sym, ap, _∙_, ap₂}
 use mathlib.Core.Bool.{Bool, true, false}

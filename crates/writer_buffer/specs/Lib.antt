@@ -1,2 +1,2 @@
--- The buffer that the writer is lent
+-- The buffer lent to the writer
 pub mod Stores

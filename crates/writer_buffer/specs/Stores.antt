@@ -13,26 +13,26 @@ use Rattle.writer_rules.specs.declared.Verdict.{Verdict}
 use Rattle.writer_rules.specs.declared.Verdict.the-variants as J
 use Rattle.writer_rules.specs.Judged.{refusedBy}
 
--- n bytes in all pass neither the buffer's end nor 65,536
+-- n bytes in all exceed neither the buffer's length nor 65,536
 abbrev pub roomIn : ℕ → ℕ → Verdict
 roomIn n length = pick (leb n length) (pick (leb n mostBytes) J.Allowed (refusedBy noRoom)) (refusedBy noRoom)
 
 unfoldable pub roomFor : ℕ → List ℕ → Verdict
 roomFor n s = roomIn n (length s)
 
--- s with ys in place of as many bytes from `at` on
+-- s with as many bytes from `at` on overwritten by ys
 unfoldable pub overwrite : List ℕ → ℕ → List ℕ → List ℕ
 overwrite s at ys = take at s ++ (ys ++ drop (length ys) (drop at s))
 
--- the count that is written as 0, where a list is due next
+-- the count of 0 that is written if a list is due next
 abbrev pub countOf : Bool → List ℕ
 countOf opens = pick opens (digits 4 0) []
 
--- s with the number n in the four bytes from `at` on, where these are there
+-- s with n in the four bytes from `at` on, if s has them
 unfoldable pub withInteger : List ℕ → ℕ → ℕ → List ℕ
 withInteger s at n = pick (leb (at + 4) (length s)) (overwrite s at (digits 4 (n % 256 ^ 4))) s
 
--- what a store answers, and what it leaves in the buffer s: the place n behind it, and t; or, where something bars it, why, and s
+-- the answer of a store, and the buffer afterwards: the offset n just past it, and t; or why it is refused, and s unchanged
 unfoldable pub stored : Verdict → ℕ → List ℕ → List ℕ → End × List ℕ
 stored J.Allowed n s t = (P.At n, t)
 stored (J.Refuse e) n s t = (P.Refused e, s)

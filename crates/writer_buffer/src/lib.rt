@@ -1,4 +1,4 @@
-// The lent buffer: room in it, and stores that are made whole or not at all.
+// The lent buffer: whether there is room in it, and stores that are made whole or not at all.
 ghost use mathlib.Core.Path.{_≡_};
 ghost use Prim.Native.Nat.{_+_, _*_, _≤_};
 ghost use mathlib.Core.List.{_++_};
@@ -9,7 +9,7 @@ use wire::End;
 use wire::Rule;
 use writer_rules::Verdict;
 
-// Puts a number into the four bytes at a place, where these are there.
+// Writes `value` into the four bytes at `at`, if the buffer has them.
 pub fn put_u32(buf: &mut [u8], at: usize, value: u64)
     ensures { λ _. ⌜ now (buf .exit) ≡ withInteger (now (buf .entry)) at value ⌝ }
 {
@@ -22,7 +22,7 @@ pub fn put_u32(buf: &mut [u8], at: usize, value: u64)
     wire::put_integer(&mut buf[at..at + 4], value);
 }
 
-// Puts bytes at a place, with room for them.
+// Copies `from` into the buffer at offset `at`.
 fn put_at(buf: &mut [u8], at: usize, from: &[u8])
     requires { ⌜ at + length (now from) ≤ length (now buf) ⌝ }
     ensures { λ _. ⌜ now (buf .exit) ≡ overwrite (now (buf .entry)) at (now (from .entry)) ⌝ }
@@ -30,7 +30,7 @@ fn put_at(buf: &mut [u8], at: usize, from: &[u8])
     wire::put_bytes(&mut buf[at..at + from.len()], from);
 }
 
-// Puts numbers of four bytes, one behind the other.
+// Writes integers of four bytes each, one after the other.
 fn put_integers(buf: &mut [u8], start: usize, numbers: &[u32])
     requires { ⌜ start + 4 * length (now numbers) ≤ length (now buf) ⌝ }
     ensures { λ _. ⌜ now (buf .exit) ≡ overwrite (now (buf .entry)) start (integersBytes (now (numbers .entry))) ⌝ }
@@ -44,7 +44,7 @@ fn put_integers(buf: &mut [u8], start: usize, numbers: &[u32])
     }
 }
 
-// Puts two byte strings and numbers, one behind the other.
+// Writes two byte strings and then integers, one after the other.
 fn put_all(buf: &mut [u8], at: usize, first: &[u8], second: &[u8], numbers: &[u32])
     requires { ⌜ at + length ((now first ++ now second) ++ integersBytes (now numbers)) ≤ length (now buf) ⌝ }
     ensures { λ _. ⌜ now (buf .exit) ≡ overwrite (now (buf .entry)) at ((now (first .entry) ++ now (second .entry)) ++ integersBytes (now (numbers .entry))) ⌝ }
@@ -54,7 +54,7 @@ fn put_all(buf: &mut [u8], at: usize, first: &[u8], second: &[u8], numbers: &[u3
     put_integers(buf, at + first.len() + second.len(), numbers);
 }
 
-// Do n bytes more fit, in a buffer of so many bytes and in a transaction?
+// Do `n` more bytes fit into a buffer of `limit` bytes, and into a transaction?
 fn room_for(at: usize, n: usize, limit: usize) -> Verdict
     ensures { λ r. ⌜ r ≡ roomIn (at + n) limit ⌝ }
 {
@@ -73,7 +73,7 @@ fn room_for(at: usize, n: usize, limit: usize) -> Verdict
     Verdict::Allowed
 }
 
-// Do two byte strings and numbers fit?
+// Do two byte strings and integers fit into a buffer of `limit` bytes, and into a transaction?
 fn room_of(at: usize, first: &[u8], second: &[u8], numbers: &[u32], limit: usize) -> Verdict
     ensures { λ r. ⌜ r ≡ roomIn (at + length ((now (first .entry) ++ now (second .entry)) ++ integersBytes (now (numbers .entry)))) limit ⌝ }
 {
@@ -89,7 +89,7 @@ fn room_of(at: usize, first: &[u8], second: &[u8], numbers: &[u32], limit: usize
     room_for(at, first.len() + second.len() + 4 * numbers.len(), limit)
 }
 
-// Stores two byte strings and numbers, one behind the other, where there is room. Answers the place behind them.
+// Stores two byte strings and then integers, one after the other, if there is room. Returns the offset just past them.
 pub fn store(buf: &mut [u8], at: usize, first: &[u8], second: &[u8], numbers: &[u32]) -> End
     ensures { λ r. ⌜ (r, now (buf .exit)) ≡ stored
         (roomFor (at + length ((now (first .entry) ++ now (second .entry)) ++ integersBytes (now (numbers .entry)))) (now (buf .entry)))

@@ -1,4 +1,4 @@
--- What reading a field back comes to, as tests on what was given. Assumes nothing.
+-- Reading a field back gives the same verdict as tests on what was given. Assumes nothing.
 use Prim.Native.Nat.{ℕ, suc, _+_, _*_, _%_, _^_, _≤_, _<_}
 use mathlib.Core.Path.{_≡_, refl, sym, ap, ap₂, _∙_}
 use mathlib.Core.Bool.{Bool, true, false}

@@ -1,4 +1,4 @@
--- Bytes put behind others, one field after the other. Assumes nothing.
+-- The fields of a head, written one after the other. Assumes nothing.
 use Prim.Native.Nat.{ℕ, _+_, _-_, _%_, _^_, _≤_}
 use mathlib.Core.Path.{_≡_, sym, ap, _∙_}
 use mathlib.Core.List.{List, _++_, append-assoc, append-nil}

@@ -1,5 +1,5 @@
--- What reading the writing of fields comes to, whether they keep the rules or not: fields are read back as they were written, and the first rule
--- that one breaks is the verdict. So a step that is given fields is judged by tests on them. Assumes nothing.
+-- Fields are read back as they were written, whether they keep the rules or not, and the first rule that one breaks is the verdict. So a step that
+-- is given fields is judged by tests on them. Assumes nothing.
 use Prim.Native.Nat.{ℕ, suc, _+_, _-_, _%_, _^_, _≤_}
 use mathlib.Core.Path.{_≡_, refl, sym, ap, _∙_}
 use mathlib.Core.Bool.{Bool, true, false}

@@ -1,4 +1,4 @@
--- What is proved of verdicts
+-- Laws of verdicts
 pub mod Verdicts
 pub mod FieldLaws
 pub mod Heads

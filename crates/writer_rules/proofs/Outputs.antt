@@ -1,4 +1,4 @@
--- An output that is given as fields: what it is judged by, and its bytes. Assumes nothing.
+-- An output given as fields: the tests that judge it, and its bytes. Assumes nothing.
 use Prim.Native.Nat.{ℕ, zero, suc, _+_, _*_, _/_, _%_, _^_, _≤_, _<_}
 use mathlib.Core.Path.{_≡_, refl, sym, ap, _∙_}
 use mathlib.Core.Bool.{Bool, true, false, not}

@@ -1,4 +1,4 @@
--- A string that stands in two pieces, compared with a whole one. Assumes nothing.
+-- A string given in two pieces, compared with a whole one. Assumes nothing.
 use Prim.Native.Nat.{ℕ, _-_, _/_, _%_, _^_, _≤_, _<_}
 use mathlib.Core.Path.{_≡_, refl, sym, ap, ap₂, _∙_}
 use mathlib.Core.Bool.{Bool, true, false}

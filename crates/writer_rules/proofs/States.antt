@@ -1,4 +1,4 @@
--- The order of initial states, where the code has compared the first four bytes. Assumes nothing.
+-- The order of initial states, of which the code compares the first four bytes. Assumes nothing.
 use Prim.Native.Nat.{ℕ, _≤_}
 use mathlib.Core.Path.{_≡_, sym, ap, ap₂, _∙_}
 use mathlib.Core.Bool.{Bool, true, false}

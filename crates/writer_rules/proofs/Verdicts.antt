@@ -1,4 +1,4 @@
--- Verdicts taken apart. Assumes nothing.
+-- Case analysis of verdicts. Assumes nothing.
 use Prim.Native.Nat.{ℕ}
 use mathlib.Core.Path.{_≡_, refl, sym, ap, _∙_}
 use mathlib.Core.Bool.{Bool, true, false, _&&_}

@@ -1,4 +1,4 @@
--- The elements that a step builds of fields: the bytes in front of an element's list, the list's own bytes, and whether the list is in order.
+-- Elements that a step builds from fields: the bytes before an element's list, the bytes of the list, and whether the list is in order.
 -- Assumes nothing.
 use Prim.Native.Nat.{ℕ}
 use mathlib.Core.Bool.{Bool, true, false}
@@ -11,26 +11,26 @@ use Rattle.wire.specs.Format.{Format}
 unfoldable pub outputFront : List ℕ → ℕ → ℕ → ℕ → List ℕ
 outputFront asset amount locktime threshold = asset ++ digits 4 7 ++ digits 8 amount ++ digits 8 locktime ++ digits 4 threshold
 
--- and the number of its addresses
+-- the front of an output, and the count of its addresses
 unfoldable pub outputHead : List ℕ → ℕ → ℕ → ℕ → ℕ → List ℕ
 outputHead asset amount locktime threshold count = outputFront asset amount locktime threshold ++ digits 4 count
 
--- an input's key, asset id, type, amount and the number of its indices
+-- an input's key, asset id, type, amount and the count of its indices
 unfoldable pub inputHead : List ℕ → ℕ → List ℕ → ℕ → ℕ → List ℕ
 inputHead txid index asset amount count = txid ++ digits 4 index ++ asset ++ digits 4 5 ++ digits 8 amount ++ digits 4 count
 
--- numbers of 4 bytes, one behind the other
+-- integers of 4 bytes each, one after the other
 unfoldable pub integersBytes : List ℕ → List ℕ
 integersBytes [] = []
 integersBytes (n ∷ l) = digits 4 n ++ integersBytes l
 
--- each number above the one before
+-- each integer is above the one before
 unfoldable pub rising : List ℕ → Bool
 rising [] = true
 rising (m ∷ []) = true
 rising (m ∷ (n ∷ l)) = pick (ltb m n) (rising (n ∷ l)) false
 
--- each element's bytes above those before it
+-- the bytes of each element are above those of the one before; those of the first are above `before`
 module _ {A : Type 0} (F : Format A) where
   unfoldable pub eachAbove : List ℕ → List A → Bool
   eachAbove before [] = true

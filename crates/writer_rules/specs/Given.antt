@@ -9,7 +9,7 @@ use Rattle.element.specs.Owners.{addressWidth}
 use Rattle.element.specs.Outputs.{secpTransfer, TransferableOutput, transferableOutput}
 use Rattle.element.specs.Inputs.{Input, input}
 
--- what a step is given: the bytes that it would add, and whether they could be made: an address slice that is no multiple of 20 is cut short
+-- the bytes that a step would add, and whether they are whole: a slice of addresses whose length is not a multiple of 20 is cut short
 pub record Given : Type 0 where
   pub whole : Bool
   pub bytes : List ℕ
@@ -17,13 +17,13 @@ pub record Given : Type 0 where
 abbrev pub given : List ℕ → Given
 given ys = record { whole = true; bytes = ys }
 
--- ---- built of fields, by the format's own writing
+-- ---- built from fields, by the format's own `write`
 
 -- codec, type, network and chain id
 abbrev pub headBytes : ℕ → ℕ → List ℕ → List ℕ
 headBytes «type_id» network chain = digits 2 0 ++ (digits 4 «type_id» ++ (digits 4 network ++ chain))
 
--- n addresses that stand one behind the other
+-- the first n addresses of s, one after the other
 unfoldable pub addressesOf : ℕ → List ℕ → List (List ℕ)
 addressesOf zero s = []
 addressesOf (suc n) s = take addressWidth s ∷ addressesOf n (drop addressWidth s)
@@ -38,7 +38,7 @@ outputOf asset amount locktime threshold addresses =
       );
     }
 
--- an address slice that is no multiple of 20 is cut short
+-- a slice of addresses whose length is not a multiple of 20 is cut short
 abbrev pub outputGiven : List ℕ → ℕ → ℕ → ℕ → List ℕ → Given
 outputGiven asset amount locktime threshold addresses =
     record { whole = eqb (length addresses % addressWidth) 0; bytes = transferableOutput .write (outputOf asset amount locktime threshold addresses) }

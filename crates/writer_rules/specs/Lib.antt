@@ -1,4 +1,4 @@
--- What a step of the writer is given, and what bars it
+-- What a step of the writer is given, and why it is refused
 pub mod Given
 pub mod Judged
 pub mod Texts

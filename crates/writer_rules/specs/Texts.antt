@@ -1,5 +1,5 @@
--- What the formats of fields come to, as tests on what a step is given; that it is the same is proved (`string-judged` and the others, of
--- proofs/FieldLaws). Assumes nothing.
+-- The rules of field formats, as tests on what a step is given. proofs/FieldLaws proves that they agree with the formats (`string-judged` and the
+-- laws beside it). Assumes nothing.
 use Prim.Native.Nat.{ℕ}
 use mathlib.Core.List.{List}
 use lib.ListN.{length}
@@ -18,7 +18,7 @@ typeRules «type_id» = pick (isType «type_id») J.Allowed (refusedBy (ruleOf u
 abbrev pub listRules : ℕ → ℕ → Verdict
 listRules count least = pick (leb least count) J.Allowed (refusedBy (ruleOf emptyList))
 
--- a memo of n bytes, of at most `most`
+-- a memo has at most `most` bytes; this one has n
 abbrev pub memoRules : ℕ → ℕ → Verdict
 memoRules most n = pick (leb n most) J.Allowed (refusedBy (ruleOf badLength))
 

@@ -1,4 +1,4 @@
-// The rules of elements that are given as their own bytes: those of the reader, and no byte may be left over.
+// The rules for an element given as bytes: the reader's own rules, and no byte may be left over.
 ghost use mathlib.Core.Path.{_≡_};
 ghost use Rattle.element.specs.Operations.{operation, initialState};
 ghost use Rattle.writer_rules.specs.Judged.{judged};
@@ -22,7 +22,7 @@ pub fn operation_rules(bytes: &[u8]) -> Verdict
     }
 }
 
-// Its FxID is above that of the last one.
+// Judges an initial state. Its FxID must be above that of `last`, the bytes of the state before it.
 pub fn state_rules(last: &[u8], bytes: &[u8]) -> Verdict
     ensures { λ r. ⌜ r ≡ judged (initialState (now (last .entry))) (given (now (bytes .entry))) Verdict.Allowed ⌝ }
 {

@@ -1,4 +1,4 @@
-// What bars a step of the writer, by the fields or the bytes that it is given.
+// Why a step of the writer is refused, judged by the fields or bytes it is given.
 ghost use mathlib.Core.Path.{_≡_};
 ghost use Rattle.writer_rules.specs.Judged.{refusedBy};
 use wire::Refusal;
@@ -8,13 +8,13 @@ pub mod elements;
 pub mod transfers;
 pub mod values;
 
-// What bars a step, if anything does.
+// Whether a step is allowed, or why it is refused.
 pub enum Verdict {
     Allowed,
     Refuse(Refusal),
 }
 
-// What a step would add has no place in the bytes yet: the place is 0.
+// Refuses a step by a rule. The place is 0: what the step would add is not in the buffer yet.
 pub fn refuse_step(rule: Rule) -> Verdict
     ensures { λ r. ⌜ r ≡ refusedBy rule ⌝ }
 {

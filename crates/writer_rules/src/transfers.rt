@@ -1,5 +1,6 @@
-// The rules of the steps that are given an output or an input as fields, in the order in which the reading of its bytes judges them; and its head,
-// the bytes in front of its addresses or indices, which is made once: to be compared, and for the step to store.
+// The rules for an output or input given as fields, in the order in which the reader judges its bytes.
+//
+// The head is the bytes before the addresses or indices. It is built once: to be compared, and to be stored by the step.
 ghost use mathlib.Core.Path.{_≡_};
 ghost use Prim.Native.Nat.{_+_, _/_, _%_, _^_, _≤_};
 ghost use mathlib.Core.List.{[], _++_};
@@ -17,7 +18,7 @@ use wire::End;
 use wire::Order;
 use wire::Rule;
 
-// Puts bytes behind the first at of room.
+// Copies `from` into `room` at offset `at`.
 fn put_bytes_after(room: &mut [u8], at: usize, from: &[u8])
     requires { ⌜ at + length (now from) ≤ length (now room) ⌝ }
     ensures { λ _. ⌜ take (at + length (now (from .entry))) (now (room .exit)) ≡ take at (now (room .entry)) ++ now (from .entry) ⌝ }
@@ -25,7 +26,7 @@ fn put_bytes_after(room: &mut [u8], at: usize, from: &[u8])
     wire::put_bytes(&mut room[at..at + from.len()], from);
 }
 
-// Puts the lowest width bytes of a number behind the first at of room.
+// Writes the lowest `width` bytes of `value` into `room` at offset `at`.
 fn put_integer_after(room: &mut [u8], at: usize, width: usize, value: u64)
     requires { ⌜ at + width ≤ length (now room) ⌝ }
     ensures { λ _. ⌜ take (at + width) (now (room .exit)) ≡ take at (now (room .entry)) ++ digits width (value % 256 ^ width) ⌝ }
@@ -33,7 +34,7 @@ fn put_integer_after(room: &mut [u8], at: usize, width: usize, value: u64)
     wire::put_integer(&mut room[at..at + width], value);
 }
 
-// An output in front of its addresses. Of their number, the lowest four bytes.
+// The bytes of an output before its addresses. Only the lowest four bytes of their count are written.
 fn output_head(asset: [u8; 32], amount: u64, locktime: u64, threshold: u32, count: u64) -> [u8; 60]
     ensures { λ r. ⌜ r ≡ outputHead asset amount locktime threshold (count % 256 ^ 4) ⌝ }
 {
@@ -47,7 +48,7 @@ fn output_head(asset: [u8; 32], amount: u64, locktime: u64, threshold: u32, coun
     head
 }
 
-// An input in front of its indices. Of their number, the lowest four bytes.
+// The bytes of an input before its address indices. Only the lowest four bytes of their count are written.
 fn input_head(txid: [u8; 32], index: u32, asset: [u8; 32], amount: u64, count: u64) -> [u8; 84]
     ensures { λ r. ⌜ r ≡ inputHead txid index asset amount (count % 256 ^ 4) ⌝ }
 {
@@ -61,7 +62,7 @@ fn input_head(txid: [u8; 32], index: u32, asset: [u8; 32], amount: u64, count: u
     head
 }
 
-// Is each address strictly above the one before? Bytes behind the last whole address are not looked at.
+// Is each address strictly above the one before? Bytes after the last whole address are ignored.
 fn addresses_rise(addresses: &[u8]) -> bool
     ensures { λ r. ⌜ r ≡ eachAbove (blob 20) [] (addressesOf (length (now (addresses .entry)) / 20) (now (addresses .entry))) ⌝ }
 {
@@ -72,7 +73,7 @@ fn addresses_rise(addresses: &[u8]) -> bool
     }
 }
 
-// Are the head and what follows it, one string, strictly below prev?
+// Is `head` followed by `rest`, as one string, strictly below `prev`?
 fn pieces_below(head: &[u8], rest: &[u8], prev: &[u8]) -> bool
     ensures { λ r. ⌜ r ≡ below (now (head .entry) ++ now (rest .entry)) (now (prev .entry)) ⌝ }
 {
@@ -83,7 +84,7 @@ fn pieces_below(head: &[u8], rest: &[u8], prev: &[u8]) -> bool
     }
 }
 
-// Is an output strictly below prev? A number of addresses that four bytes do not hold is above all that they do. Leaves its head.
+// Is an output strictly below `prev`? A count of addresses that does not fit four bytes is above every count that does. Stores its head.
 fn output_below(
     prev: &[u8],
     asset: [u8; 32],
@@ -105,7 +106,7 @@ fn output_below(
     pieces_below(head, addresses, prev)
 }
 
-// What bars an output behind prev, the bytes of the one before it. Leaves its head.
+// Judges an output that follows `prev`, the bytes of the output before it. Stores its head.
 pub fn output_rules(
     prev: &[u8],
     asset: [u8; 32],
@@ -152,7 +153,7 @@ fn indices_rise(indices: &[u32]) -> bool
     true
 }
 
-// What bars an input behind prev, the bytes of the one before it. Leaves its head, of which the first 36 bytes are its key.
+// Judges an input that follows `prev`, the bytes of the input before it. Stores its head, whose first 36 bytes are the key.
 pub fn input_rules(
     prev: &[u8],
     txid: [u8; 32],

@@ -1,4 +1,4 @@
-// The rules of fields and of a close, as tests on what a step is given.
+// The rules for fields and for closing a list, as tests on what a step is given.
 ghost use mathlib.Core.Path.{_≡_};
 ghost use Rattle.writer_rules.specs.Texts.{typeRules, listRules, memoRules, textRules, denominationRules};
 use crate::Verdict;
@@ -13,7 +13,7 @@ pub fn type_rules(type_id: u32) -> Verdict
     crate::refuse_step(Rule::UnknownType)
 }
 
-// A list that is closed has its elements.
+// A list may be closed only with at least `least` elements.
 pub fn list_rules(count: u32, least: u32) -> Verdict
     ensures { λ r. ⌜ r ≡ listRules count least ⌝ }
 {
@@ -23,7 +23,7 @@ pub fn list_rules(count: u32, least: u32) -> Verdict
     Verdict::Allowed
 }
 
-// A memo of so many bytes, of at most `most`.
+// A memo has at most `most` bytes; this one has `count`.
 pub fn memo_rules(count: usize, most: u64) -> Verdict
     ensures { λ r. ⌜ r ≡ memoRules most count ⌝ }
 {
@@ -33,7 +33,7 @@ pub fn memo_rules(count: usize, most: u64) -> Verdict
     Verdict::Allowed
 }
 
-// A name or a symbol: 1 to so many characters, all printable.
+// A name or symbol has 1 to `most` characters, all printable.
 pub fn text_rules(bytes: &[u8], most: usize) -> Verdict
     ensures { λ r. ⌜ r ≡ textRules most (now (bytes .entry)) ⌝ }
 {
