@@ -1,4 +1,4 @@
--- The tests in front of a step. Assumes nothing.
+-- The tests that a step makes first. Assumes nothing.
 use Prim.Native.Nat.{ℕ, _+_, _≤_, _<_}
 use mathlib.Core.Path.{_≡_, ap}
 use mathlib.Core.Bool.{Bool, false}

@@ -1,4 +1,4 @@
--- What a step by a name puts is what the plan has there. Assumes nothing.
+-- What a step adds by its name is what the plan has there. Assumes nothing.
 use Prim.Native.Nat.{ℕ, suc, _+_}
 use mathlib.Core.Path.{_≡_, refl, sym, ap, ap₂, _∙_}
 use mathlib.Core.Bool.{Bool, true, false, _&&_, false≢true}

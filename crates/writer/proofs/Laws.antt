@@ -1,4 +1,4 @@
--- Whether a step is entered, and what its answer keeps. Assumes nothing.
+-- When a step passes its first tests, and what its answer preserves. Assumes nothing.
 use Prim.Native.Nat.{ℕ, _≤_, _<_}
 use mathlib.Core.Path.{_≡_, refl, sym}
 use mathlib.Core.Bool.{Bool, true, false, not}

@@ -1,4 +1,4 @@
--- What is proved of the writer's steps
+-- Laws of the writer's steps
 pub mod Laws
 pub mod Entering
 pub mod Settling

@@ -1,4 +1,4 @@
--- The public steps, from what the code below them answered. Assumes nothing.
+-- The public steps, from the answers of the functions that they call. Assumes nothing.
 use Prim.Native.Nat.{ℕ, suc, _+_, _*_, _/_, _%_, _^_, _≤_, _<_}
 use mathlib.Core.Path.{_≡_, refl, sym, ap, ap₂, _∙_}
 use mathlib.Core.Bool.{Bool, true, false, not, _&&_, false≢true}

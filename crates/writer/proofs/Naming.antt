@@ -1,4 +1,4 @@
--- A step by the name of a part is the step that the plan has there. Assumes nothing.
+-- A step that names a segment is the step that the plan has there. Assumes nothing.
 use Prim.Native.Nat.{ℕ, _+_, _≤_, _<_}
 use mathlib.Core.Path.{_≡_, refl, sym, ap, _∙_}
 use mathlib.Core.Bool.{Bool, true, false, not, _&&_, false≢true}

@@ -1,4 +1,4 @@
--- From what a store answered to the step. Assumes nothing.
+-- The step that follows from the answer of a store. Assumes nothing.
 use Prim.Native.Nat.{ℕ, _+_, _-_, _*_, _≤_, _<_}
 use mathlib.Core.Path.{_≡_, refl, ap, ap₂, _∙_}
 use mathlib.Core.Bool.{Bool, true, false}

@@ -1,4 +1,4 @@
--- What the functions below the methods answer. Assumes nothing.
+-- What the functions that the methods call answer. Assumes nothing.
 use Prim.Native.Nat.{ℕ, suc, _+_}
 use mathlib.Core.Bool.{Bool}
 use mathlib.Core.List.{List, _++_}
@@ -14,7 +14,7 @@ use Rattle.writer.specs.declared.Written.the-variants as W
 use Rattle.writer.specs.Steps.{Turn, answered, grown, appended}
 use Rattle.writer_buffer.specs.Stores.{roomFor, overwrite, countOf}
 
--- what code answers, and what the buffer holds then
+-- the answer of a step, and the buffer afterwards
 abbrev pub after : Step → List ℕ → Turn
 after r s = record { step = r; buffer = s }
 
@@ -33,9 +33,9 @@ storedStep w = record { next = w; answer = W.Done (w .at) }
 abbrev pub dueAt : Writer → Due
 dueAt w = dueOf (due (w .phase) (planOf (w .«type_id»)))
 
--- ---- once the rules of a step are judged
+-- ---- after the rules of a step are judged
 
--- the bytes ys where `from` has its start, and the next list's count behind them
+-- the bytes ys from `from .at` on, followed by the next list's count
 abbrev pub settled : Writer → List ℕ → List ℕ → Bool → Writer → Turn
 settled w s ys opens from =
     answered (roomFor (from .at + length (ys ++ countOf opens)) s) w s
@@ -50,14 +50,14 @@ settled w s ys opens from =
     }
     (overwrite s (from .at) (ys ++ countOf opens))
 
--- the bytes ys of the part that is due
+-- the bytes ys of the segment that is due
 abbrev pub segmentStep : Writer → List ℕ → List ℕ → Bool → Turn
 segmentStep w s ys opens = settled w s ys opens record { «type_id» = w .«type_id»; phase = suc (w .phase); at = w .at; list = 0; count = 0; last = 0 }
 
--- is a list next behind that part?
+-- does a list follow the segment that is due?
 abbrev pub opensNext : Writer → Bool
 opensNext w = isList (dueOf (due (suc (w .phase)) (planOf (w .«type_id»))))
 
--- an element of the bytes ys
+-- an element whose bytes are ys
 abbrev pub elementStep : Writer → List ℕ → List ℕ → Turn
 elementStep w s ys = answered (roomFor (w .at + length ys) s) w s (grown w (length ys)) (appended w s ys)

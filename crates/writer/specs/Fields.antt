@@ -1,4 +1,4 @@
--- The public steps of the AVM's writer: each puts the bytes that its fields are written as, by the format's own writing. Assumes nothing.
+-- The public steps of the AVM's writer: each adds the bytes of its fields, by the format's own `write`. Assumes nothing.
 use Prim.Native.Nat.{ℕ}
 use mathlib.Core.List.{List}
 use Rattle.transaction.specs.Plan.{Content, contentOf}
@@ -24,7 +24,7 @@ module _ (most : ℕ) where
   abbrev pub addInitialState : Writer → List ℕ → List ℕ → Turn
   addInitialState w s b = putElement (avm most) w s L.State (given b)
 
-  -- a field of a value
+  -- the field f with the content v
   abbrev pub putContent : Writer → List ℕ → (f : FieldName) → Content f → Turn
   putContent w s f v = putField (avm most) w s f (given (contentOf most f .write v))
 

@@ -1,4 +1,4 @@
--- What each step of the writer answers, and what it leaves in the buffer (document 01, "Writing"), for any family. No rule is written here: what a
+-- What each step of the writer answers, and what it leaves in the buffer (document 01, "Writing"), for any family. No rule is stated here: what a
 -- step would add is read by the format that is due. Assumes nothing.
 use Prim.Native.Nat.{ℕ, suc, _+_, _-_}
 use mathlib.Core.Bool.{Bool, true, _&&_}
@@ -24,11 +24,11 @@ use Rattle.writer.specs.declared.Written.{Written}
 use Rattle.writer.specs.declared.Written.the-variants as W
 use Rattle.writer_buffer.specs.Stores.{roomFor, overwrite}
 
--- nothing is written yet
+-- the writer that has written nothing
 abbrev pub fresh : Writer
 fresh = record { «type_id» = 0; phase = 0; at = 0; list = 0; count = 0; last = 0 }
 
--- a step's answer, and what the buffer holds then
+-- a step's answer, and the buffer afterwards
 pub record Turn : Type 0 where
   pub step : Step
   pub buffer : List ℕ
@@ -45,7 +45,7 @@ abbrev pub writtenPlace : Written → ℕ
 writtenPlace (W.Done n) = n
 writtenPlace (W.Refused e) = e .place
 
--- ---- verdicts: what bars a step, or nothing
+-- ---- verdicts: why a step is refused, if it is
 
 -- a step that is refused changes neither state nor buffer
 unfoldable pub answered : Verdict → Writer → List ℕ → Writer → List ℕ → Turn
@@ -61,7 +61,7 @@ guarded isDue w s v = guardedIn isDue w (length s) v
 
 -- ---- the buffer
 
--- the bytes of the open list's last element, none where it has no element
+-- the bytes of the open list's last element, empty if the list is
 unfoldable pub prev : Writer → List ℕ → List ℕ
 prev w s = pick (eqb (w .count) 0) [] (take (w .at - w .last) (drop (w .last) s))
 
@@ -69,15 +69,15 @@ prev w s = pick (eqb (w .count) 0) [] (take (w .at - w .last) (drop (w .last) s)
 abbrev pub sane : Writer → Bool
 sane w = leb (w .list + 4) (w .at) && (leb (w .last) (w .at) && ltb (w .count) mostBytes)
 
--- one element more, of n bytes
+-- the state after one more element, of n bytes
 unfoldable pub grown : Writer → ℕ → Writer
 grown w n = record { «type_id» = w .«type_id»; phase = w .phase; at = w .at + n; list = w .list; count = w .count + 1; last = w .at }
 
--- the element stands behind the others, and the new count in its place
+-- the buffer after one more element: it follows the others, and the list's count is overwritten with the new one
 unfoldable pub appended : Writer → List ℕ → List ℕ → List ℕ
 appended w s ys = overwrite (overwrite s (w .at) ys) (w .list) (digits 4 (w .count + 1))
 
--- ---- the plan, from where the writer is
+-- ---- the rest of the plan
 
 -- the step before a list writes its count as 0
 abbrev pub opening : Plan → List ℕ
@@ -86,7 +86,7 @@ opening end = []
 opening (field f q) = []
 opening (many l least q) = digits 4 0
 
--- q is due, and what stands before it ends at `at`
+-- the state in which q is due, after bytes that end at `at`
 abbrev pub opened : ℕ → ℕ → ℕ → Plan → Writer
 opened «type_id» phase at q = record { «type_id» = «type_id»; phase = phase; at = at + length (opening q); list = at; count = 0; last = 0 }
 
@@ -98,11 +98,11 @@ notDue w s = answered (refusedBy stepNotDue) w s w s
 abbrev pub sameField : FieldName → FieldName → Bool
 sameField f g = eqb (fieldCode f) (fieldCode g)
 
--- one step writes the elements of both
+-- the elements of both lists are added by the same step
 abbrev pub sameList : ListName → ListName → Bool
 sameList l m = eqb (listCode l) (listCode m)
 
--- a field by its name; a memo has at most `most` bytes
+-- writes the field f, if it is due; a memo has at most `most` bytes
 unfoldable pub putFieldAt : ℕ → Plan → Writer → List ℕ → FieldName → Given → Turn
 putFieldAt most shut w s f g = notDue w s
 putFieldAt most end w s f g = notDue w s
@@ -111,7 +111,7 @@ putFieldAt most (field h q) w s f g =
     w s (opened (w .«type_id») (suc (w .phase)) (w .at + length (g .bytes)) q) (overwrite s (w .at) (g .bytes ++ opening q))
 putFieldAt most (many l least q) w s f g = notDue w s
 
--- one element more of the open list, by its name
+-- adds an element to the open list, if that takes elements of l
 unfoldable pub putElementAt : Plan → Writer → List ℕ → ListName → Given → Turn
 putElementAt shut w s l g = notDue w s
 putElementAt end w s l g = notDue w s
@@ -120,7 +120,7 @@ putElementAt (many m least q) w s l g =
     answered (guarded (sameList l m && sane w) w s (judged (elementsOf m .element (prev w s)) g (roomFor (w .at + length (g .bytes)) s)))
     w s (grown w (length (g .bytes))) (appended w s (g .bytes))
 
--- a list that needs an element is not closed before it has one
+-- closes the open list, which must have at least `least` elements
 unfoldable pub closeAt : Plan → Writer → List ℕ → Turn
 closeAt shut w s = notDue w s
 closeAt end w s = notDue w s
@@ -130,7 +130,7 @@ closeAt (many l least q) w s =
     w s (opened (w .«type_id») (suc (w .phase)) (w .at) q) (overwrite s (w .at) (opening q))
 
 module _ (F : Family) where
-  -- the blank credentials are written
+  -- writes the blank credentials
   unfoldable pub finishAt : Plan → Writer → List ℕ → Turn
   finishAt shut w s = notDue w s
   finishAt end w s =
@@ -141,11 +141,11 @@ module _ (F : Family) where
 
   -- ---- the steps
 
-  -- the plan of a type's number
+  -- the plan of the transaction type with this id
   abbrev pub planFor : ℕ → Plan
   planFor «type_id» = F .plan (F .typeOf «type_id»)
 
-  -- what is due by it
+  -- what is due by the plan of the writer's type
   abbrev pub dueFor : Writer → Plan
   dueFor w = due (w .phase) (planFor (w .«type_id»))
 

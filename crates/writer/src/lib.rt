@@ -1,4 +1,4 @@
-// A writer of transactions: a state that each step hands back, over a lent buffer.
+// A writer of transactions over a lent buffer. Each step takes the writer's state and returns the next one.
 ghost use mathlib.Core.Path.{_≡_};
 ghost use Rattle.writer.specs.Fields.{addOutput, addInput, addOperation, addInitialState, putMemo, putName, putSymbol, putDenomination, putChain};
 ghost use Rattle.transaction.specs.Avm.{avm};
@@ -20,8 +20,8 @@ use writer_rules::elements;
 use writer_rules::transfers;
 use writer_rules::values;
 
-// How far a transaction is written: its type, how many parts are begun, the bytes written; and of the list that is open, where its count stands,
-// how many elements it has, and where the last of them starts.
+// How far a transaction is written: its type, how many segments are begun, and the bytes written so far; and for the open list the offset of its
+// count, how many elements it has, and the offset of the last one.
 pub struct Writer {
     pub type_id: u32,
     pub phase: u32,
@@ -31,7 +31,7 @@ pub struct Writer {
     pub last: usize,
 }
 
-// The bytes written, or why none were.
+// How many bytes are written so far, or why the step is refused.
 pub enum Written {
     Done(usize),
     Refused(Refusal),
@@ -42,8 +42,8 @@ pub struct Step {
     pub answer: Written,
 }
 
-// Each step asks what could refuse it in the same order: whether it is due, whether the buffer has the bytes written so far, and its rules; whether
-// there is room is asked last, by the store.
+// Each step makes its tests in the same order: whether it is due, whether the buffer has the bytes written so far, its rules, and last, in the
+// store, whether there is room. A refused step changes neither state nor buffer.
 impl Writer {
     // A writer that has written nothing: the state that `start` needs.
     pub fn fresh() -> Writer
@@ -59,7 +59,7 @@ impl Writer {
         }
     }
 
-    // Starts a transaction: codec, type, network and chain id, and the outputs' count.
+    // Starts a transaction: writes codec, type, network and chain id, and opens the list of outputs.
     pub fn start(self, buf: &mut [u8], type_id: u32, network: u32, chain: [u8; 32]) -> Step
         ensures { λ r. ⌜ after r (now (buf .exit)) ≡ start (avm memoMost) self (now (buf .entry)) «type_id» network chain ⌝ }
     {
@@ -85,7 +85,7 @@ impl Writer {
         steps::settle(self, buf, &front, &chain, true, from)
     }
 
-    // Closes the open list, and opens the next where one follows.
+    // Closes the open list, and opens the next one if a list follows.
     pub fn close(self, buf: &mut [u8]) -> Step
         ensures { λ r. ⌜ after r (now (buf .exit)) ≡ close (avm memoMost) self (now (buf .entry)) ⌝ }
     {
@@ -176,7 +176,7 @@ impl Writer {
         steps::put_segment(self, buf, &byte, &none[..0])
     }
 
-    // The source of an import, or the destination of an export.
+    // Writes the source chain of an import, or the destination chain of an export.
     pub fn chain(self, buf: &mut [u8], id: [u8; 32]) -> Step
         ensures { λ r. ⌜ after r (now (buf .exit)) ≡ putChain memoMost self (now (buf .entry)) id ⌝ }
     {
@@ -190,7 +190,7 @@ impl Writer {
         steps::put_segment(self, buf, &none[..0], &id)
     }
 
-    // A transferable output; its addresses stand one behind the other.
+    // Adds a transferable output. `addresses` holds its addresses one after the other, 20 bytes each.
     pub fn add_output(
         self,
         buf: &mut [u8],
@@ -226,7 +226,7 @@ impl Writer {
         steps::put_element(self, buf, &head, addresses, &none[..0])
     }
 
-    // A transferable input, base or imported.
+    // Adds a transferable input, base or imported.
     pub fn add_input(
         self,
         buf: &mut [u8],
@@ -254,7 +254,7 @@ impl Writer {
         steps::put_element(self, buf, &head, &none[..0], indices)
     }
 
-    // An operation as its own bytes.
+    // Adds an operation, given as its bytes.
     pub fn add_operation(self, buf: &mut [u8], bytes: &[u8]) -> Step
         ensures { λ r. ⌜ after r (now (buf .exit)) ≡ addOperation memoMost self (now (buf .entry)) (now (bytes .entry)) ⌝ }
     {
@@ -271,7 +271,7 @@ impl Writer {
         steps::put_element(self, buf, &bytes[..0], bytes, &none[..0])
     }
 
-    // An initial state as its own bytes.
+    // Adds an initial state, given as its bytes.
     pub fn add_initial_state(self, buf: &mut [u8], bytes: &[u8]) -> Step
         ensures { λ r. ⌜ after r (now (buf .exit)) ≡ addInitialState memoMost self (now (buf .entry)) (now (bytes .entry)) ⌝ }
     {
@@ -289,7 +289,7 @@ impl Writer {
         steps::put_element(self, buf, &bytes[..0], bytes, &none[..0])
     }
 
-    // Writes the blank credentials: every signature is zero bytes.
+    // Ends the transaction with its blank credentials, in which every signature is zero bytes.
     pub fn finish(self, buf: &mut [u8]) -> Step
         ensures { λ r. ⌜ after r (now (buf .exit)) ≡ finish (avm memoMost) self (now (buf .entry)) ⌝ }
     {

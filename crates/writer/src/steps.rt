@@ -1,4 +1,4 @@
-// What the methods share: whether an element is due, and, once its rules are judged, the store and the state that follows.
+// What the methods share: whether an element is due, and, after its rules are judged, the store and the next state.
 ghost use Prim.Native.Nat.{_≤_};
 ghost use mathlib.Core.Path.{_≡_};
 ghost use mathlib.Core.Bool.{true, _&&_};
@@ -17,7 +17,7 @@ use wire::End;
 use wire::Refusal;
 use wire::Rule;
 
-// Neither state nor buffer changes.
+// The answer of a refused step, which changes neither state nor buffer.
 pub fn refused(w: Writer, refusal: Refusal) -> Step
     ensures { λ r. ⌜ r ≡ refusedStep w refusal ⌝ }
 {
@@ -33,7 +33,7 @@ pub fn not_due(w: Writer) -> Step
     refused(w, wire::refuse(Rule::StepNotDue, 0))
 }
 
-// The buffer is shorter than the bytes written.
+// The answer if the buffer is shorter than the bytes written.
 pub fn no_room(w: Writer) -> Step
     ensures { λ r. ⌜ r ≡ noRoomStep w ⌝ }
 {
@@ -66,7 +66,7 @@ fn is_sane(w: Writer) -> bool
     (w.count as usize) < transaction::MOST_BYTES
 }
 
-// The last element of the open list, no bytes where it has none.
+// The bytes of the open list's last element, empty if the list is.
 pub fn last_of(w: Writer, buf: &[u8]) -> &[u8]
     ensures { λ r. ⌜ now r ≡ prev w (now (buf .entry)) ⌝ }
 {
@@ -76,7 +76,7 @@ pub fn last_of(w: Writer, buf: &[u8]) -> &[u8]
     wire::between(buf, w.last, w.at)
 }
 
-// Is an element of the list of this name due, in a state that holds together?
+// Is an element of this list due, in a consistent state?
 pub fn is_element_due(w: Writer, list: ListName) -> bool
     ensures { λ r. ⌜ r ≡ isOpen list (dueAt w) && sane w ⌝ }
 {
@@ -86,7 +86,7 @@ pub fn is_element_due(w: Writer, list: ListName) -> bool
     false
 }
 
-// How many counts stand behind a field: one where a list is next.
+// How many counts follow a segment: one if a list is next.
 fn counts_of(opens: bool) -> usize
     ensures { λ r. ⌜ r ≡ pick opens 1 0 ⌝ }
 {
@@ -96,7 +96,7 @@ fn counts_of(opens: bool) -> usize
     0
 }
 
-// A field from where `from` is on, with the next list's count behind it. A refusal leaves w.
+// Stores a field at `from.at`, followed by the next list's count if one opens. A refusal keeps the state `w`.
 pub fn settle(
     w: Writer,
     buf: &mut [u8],
@@ -122,7 +122,7 @@ pub fn settle(
     }
 }
 
-// The bytes of the part that is due, and the next list's count behind them: a field, or nothing where a list is closed.
+// Stores the segment that is due, followed by the next list's count if one opens: the bytes of a field, or none to close a list.
 pub(crate) fn put_segment(w: Writer, buf: &mut [u8], first: &[u8], second: &[u8]) -> Step
     requires { ⌜ w .phase ≤ 8 ⌝ }
     ensures { λ r. ⌜ after r (now (buf .exit)) ≡ segmentStep w (now (buf .entry)) (now (first .entry) ++ now (second .entry)) (opensNext w) ⌝ }
@@ -140,7 +140,7 @@ pub(crate) fn put_segment(w: Writer, buf: &mut [u8], first: &[u8], second: &[u8]
     settle(w, buf, first, second, opens, from)
 }
 
-// An element behind the others of the open list, and the list's new count in its place.
+// Stores an element after the others of the open list, and overwrites the list's count with the new one.
 pub(crate) fn put_element(
     w: Writer,
     buf: &mut [u8],

@@ -1,4 +1,4 @@
--- Laws of blank credentials: their bytes, one behind the other, and the room that they need. Assumes nothing.
+-- Laws of blank credentials: their bytes, one after the other, and the room that they need. Assumes nothing.
 use Prim.Native.Nat.{ℕ, zero, suc, _+_, _-_, _*_, _^_, _≤_, _<_}
 use mathlib.Core.Path.{_≡_, refl, sym, ap, ap₂, _∙_}
 use mathlib.Core.Bool.{Bool, true, false}

@@ -1,5 +1,5 @@
--- The credentials as the chain that the code is: the bytes written are there, the unsigned part is read back, its credentials have room. Assumes
--- nothing.
+-- The tests of the code before it writes credentials: the bytes written are there, the unsigned part is read back, its credentials have room.
+-- Assumes nothing.
 use Prim.Native.Nat.{ℕ, zero, suc, _+_, _≤_, _<_}
 use mathlib.Core.Path.{_≡_, refl, sym, ap, ap₂, _∙_, subst}
 use mathlib.Core.Bool.{Bool, true, false}

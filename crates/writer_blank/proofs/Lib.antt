@@ -1,4 +1,4 @@
--- What is proved of the blank credentials
+-- Laws of the blank credentials
 pub mod Blanks
 pub mod Loops
 pub mod Ending

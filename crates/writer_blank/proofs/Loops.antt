@@ -1,4 +1,4 @@
--- The loops over what is wanted: one counts the room of the blank credentials, one writes them. Assumes nothing.
+-- The loops over what is wanted: one measures the room that the blank credentials need, one writes them. Assumes nothing.
 use Prim.Native.Nat.{ℕ, _+_, _-_, _^_, _≤_, _<_}
 use mathlib.Core.Path.{_≡_, refl, sym, ap, ap₂, _∙_, subst, subst₂}
 use mathlib.Core.List.{List, [], _∷_, _++_}

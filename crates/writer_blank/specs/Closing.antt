@@ -1,4 +1,4 @@
--- The blank credentials that finish writes, the room that they need, and what bars them. Assumes nothing.
+-- The blank credentials that finish writes, the room that they need, and why they are refused. Assumes nothing.
 use mathlib.Core.Path.{_≡_}
 use Prim.Native.Nat.{ℕ, _+_, _*_, _≤_}
 use mathlib.Core.List.{List, [], _++_}
@@ -21,37 +21,37 @@ use Rattle.writer_rules.specs.Given.{given}
 use Rattle.writer_rules.specs.Judged.{refusedBy, judged}
 use Rattle.writer_buffer.specs.Stores.{roomFor, overwrite, stored}
 
--- a credential of type t and n blank signatures, and its bytes
+-- a credential of type t with n blank signatures, and its width
 unfoldable pub blankCredential : ℕ → ℕ → List ℕ
 blankCredential t n = digits 4 t ++ (digits 4 n ++ replicate (signatureWidth * n) 0)
 
 abbrev pub credentialWidth : ℕ → ℕ
 credentialWidth n = 8 + signatureWidth * n
 
--- the blank credentials that are wanted; and their count before them
+-- the blank credentials that are wanted, without and with their count
 unfoldable pub blankBytes : List Want → List ℕ
 blankBytes ws = pieces (each ws) .write (blanks (each ws))
 
 abbrev pub closingBytes : List Want → List ℕ
 closingBytes ws = credentials ws .write (blanks (layout ws))
 
--- the place behind n bytes from `at` on, which end by `limit`
+-- the offset just past n bytes from `at` on, which must end by `limit`
 unfoldable pub fitted : ℕ → ℕ → ℕ → End
 fitted at n limit = pick (leb (at + n) limit) (P.At (at + n)) (P.Refused (refusal noRoom 0))
 
--- the most bytes that a transaction has in a buffer of n
+-- the most bytes that a transaction may have in a buffer of n bytes
 abbrev pub mostIn : ℕ → ℕ
 mostIn n = pick (ltb n mostBytes) n mostBytes
 
--- what the writing of ys from `at` on answers, and what it leaves in the buffer s; or what bars it
+-- the answer to writing ys from `at` on, and the buffer afterwards; a refusal leaves s as it was
 abbrev pub written : Verdict → List ℕ → ℕ → List ℕ → End × List ℕ
 written v s at ys = stored v (at + length ys) s (overwrite s at ys)
 
--- the same of the credentials that are wanted, where only their room may bar them
+-- the same for the credentials that are wanted, which only a lack of room refuses
 abbrev pub closed : List ℕ → ℕ → List Want → End × List ℕ
 closed s at ws = written (roomFor (at + length (closingBytes ws)) s) s at (closingBytes ws)
 
--- ---- what is wanted ahead of a cursor, in a transaction of that type, and is so much
+-- ---- the `count` credentials that are wanted after a cursor, in a transaction of the given type
 
 module _ («type_id» : ℕ) (s : List ℕ) (c : Wanting) (count : ℕ) where
   pub record Ahead : Type 0 where
@@ -60,18 +60,18 @@ module _ («type_id» : ℕ) (s : List ℕ) (c : Wanting) (count : ℕ) where
     pub wants : Wants most s «type_id» c all
     pub counts : length all ≡ count
 
-  -- P holds of it
+  -- P holds of what is wanted
   abbrev pub OfAhead : (List Want → Type 0) → Type 0
   OfAhead P = (most : ℕ) (ws : List Want) → Wants most s «type_id» c ws → length ws ≡ count → P ws
 
-  -- the blank credentials have room in a buffer of k bytes from `at` on, and what asks for them stands before these
+  -- the blank credentials have room from `at` on in a buffer of k bytes, and the elements that want them end by `at`
   pub record Room (end at k : ℕ) : Type 0 where
     pub ahead : Ahead
     pub behind : end ≤ at
     pub fits : at + length (blankBytes (ahead .all)) ≤ k
     pub short : at + length (blankBytes (ahead .all)) ≤ mostBytes
 
--- all that a layout wants
+-- all credentials that a layout wants
 module _ (l : Layout) (s : List ℕ) where
   abbrev pub AllAhead : Type 0
   AllAhead = Ahead (l .«type_id») s (firstWanting l) (l .«credentials_count»)
@@ -79,11 +79,11 @@ module _ (l : Layout) (s : List ℕ) where
   abbrev pub OfAll : (List Want → Type 0) → Type 0
   OfAll = OfAhead (l .«type_id») s (firstWanting l) (l .«credentials_count»)
 
-  -- behind their count, which is behind the unsigned part
+  -- they follow their count, which follows the unsigned part
   abbrev pub RoomForAll : ℕ → ℕ → Type 0
   RoomForAll at k = Room (l .«type_id») s (firstWanting l) (l .«credentials_count») at (at + 4) k
 
--- ---- what they are by the family's format, and what bars them
+-- ---- the credentials by the family's format, and why they are refused
 
 module _ (F : Family) where
   -- the blank credentials that an unsigned part wants
@@ -94,7 +94,7 @@ module _ (F : Family) where
   blankBehind (took u n) = blankOf u
   blankBehind (refused e) = []
 
-  -- the unsigned part ends at `at`, and is read back from what was written
+  -- the unsigned part ends at `at` and is read back from what was written
   unfoldable pub closing : ℕ → List ℕ → List ℕ
   closing at s = blankBehind (read (unsigned F) (take at s) 0)
 

@@ -1,4 +1,4 @@
-// The blank credentials that end a transaction: one for each that the unsigned part wants, met by the iterator that the check goes by too.
+// The blank credentials that end a transaction: one for each that the unsigned part wants, found by the iterator that the check uses too.
 ghost use mathlib.Core.Path.{_≡_};
 ghost use Prim.Native.Nat.{_+_, _^_, _≤_, _<_};
 ghost use lib.ListN.{length, take, replicate};
@@ -15,10 +15,10 @@ use transaction::UnsignedRead;
 use wire::End;
 use wire::Rule;
 
-// The bytes of a credential before its signatures: its type, and how many they are.
+// The bytes of a credential before its signatures: its type and their count.
 const HEAD_WIDTH: usize = 8;
 
-// Fills room with zeros.
+// Fills `room` with zeros.
 fn clear(room: &mut [u8])
     ensures { λ _. ⌜ now (room .exit) ≡ replicate (length (now (room .entry))) 0 ⌝ }
 {
@@ -29,7 +29,7 @@ fn clear(room: &mut [u8])
     }
 }
 
-// Writes so many zeros from at on.
+// Writes `count` zeros from `at` on.
 fn put_zeros(buf: &mut [u8], at: usize, count: usize)
     requires { ⌜ at + count ≤ length (now buf) ⌝ }
     ensures { λ _. ⌜ now (buf .exit) ≡ overwrite (now (buf .entry)) at (replicate count 0) ⌝ }
@@ -37,7 +37,7 @@ fn put_zeros(buf: &mut [u8], at: usize, count: usize)
     clear(&mut buf[at..at + count]);
 }
 
-// Writes a credential of blank signatures from at on. Answers the place behind it.
+// Writes a credential of `count` blank signatures from `at` on. Returns the offset just past it.
 fn put_blank(buf: &mut [u8], at: usize, code: u64, count: u64) -> usize
     requires { ⌜ (code < 256 ^ 4) × (count < 256 ^ 4) × (at + credentialWidth count ≤ length (now buf)) ⌝ }
     ensures { λ r. ⌜ r ≡ at + credentialWidth count ⌝ }
@@ -51,7 +51,7 @@ fn put_blank(buf: &mut [u8], at: usize, code: u64, count: u64) -> usize
     first + width
 }
 
-// The place behind a credential from at on, which ends by limit.
+// The offset just past a credential of `count` signatures from `at` on, which must end by `limit`.
 fn blank_end(at: usize, count: u64, limit: usize) -> End
     ensures { λ r. ⌜ r ≡ fitted at (credentialWidth count) limit ⌝ }
 {
@@ -68,7 +68,7 @@ fn blank_end(at: usize, count: u64, limit: usize) -> End
     End::At(at + HEAD_WIDTH + transaction::SIGNATURE_WIDTH * count as usize)
 }
 
-// The place behind the credentials, from start on, that are wanted ahead of a cursor, which are so many, and end by limit.
+// The offset just past the `count` credentials wanted after the cursor `from`, if they are written from `start` on. They must end by `limit`.
 fn blanks_end(s: &[u8], type_id: u32, from: Wanting, count: u64, start: usize, limit: usize) -> End
     requires { ⌜ start ≤ limit ⌝ }
     ensures { λ r. ⌜ OfAhead «type_id» (now (s .entry)) from count (λ ws. r ≡ fitted start (length (blankBytes ws)) limit) ⌝ }
@@ -106,7 +106,7 @@ fn blanks_end(s: &[u8], type_id: u32, from: Wanting, count: u64, start: usize, l
     End::At(at)
 }
 
-// Writes from start on the credentials that are wanted ahead of a cursor, which are so many. What asks for them stands before end.
+// Writes the `count` credentials wanted after the cursor `from`, from `start` on. The elements that want them are in the first `end` bytes.
 fn put_blanks(buf: &mut [u8], end: usize, type_id: u32, from: Wanting, count: u64, start: usize)
     requires { ⌜ Room «type_id» (take end (now buf)) from count end start (length (now buf)) ⌝ }
     ensures { λ _. ⌜ OfAhead «type_id» (take end (now (buf .entry))) from count (λ ws. now (buf .exit) ≡ overwrite (now (buf .entry)) start (blankBytes ws)) ⌝ }
@@ -140,7 +140,7 @@ fn put_blanks(buf: &mut [u8], end: usize, type_id: u32, from: Wanting, count: u6
     }
 }
 
-// The place behind all credentials from at on, which end by limit.
+// The offset just past all credentials and their count, from `at` on. They must end by `limit`.
 fn closing_end(s: &[u8], layout: Layout, at: usize, limit: usize) -> End
     ensures { λ r. ⌜ OfAll layout (now (s .entry)) (λ ws. r ≡ fitted at (length (closingBytes ws)) limit) ⌝ }
 {
@@ -162,7 +162,7 @@ fn closing_end(s: &[u8], layout: Layout, at: usize, limit: usize) -> End
     )
 }
 
-// Writes all credentials behind the unsigned part, which ends at at.
+// Writes all credentials and their count after the unsigned part, which ends at `at`.
 fn put_closing(buf: &mut [u8], at: usize, layout: Layout)
     requires { ⌜ RoomForAll layout (take at (now buf)) at (length (now buf)) ⌝ }
     ensures { λ _. ⌜ OfAll layout (take at (now (buf .entry))) (λ ws. now (buf .exit) ≡ overwrite (now (buf .entry)) at (closingBytes ws)) ⌝ }
@@ -173,7 +173,7 @@ fn put_closing(buf: &mut [u8], at: usize, layout: Layout)
     put_blanks(buf, at, layout.type_id, from, count, at + 4);
 }
 
-// The most bytes that a transaction has in a buffer of that length.
+// The most bytes that a transaction may have in a buffer of `length` bytes.
 fn most_in(length: usize) -> usize
     ensures { λ r. ⌜ r ≡ mostIn length ⌝ }
 {
@@ -183,7 +183,7 @@ fn most_in(length: usize) -> usize
     transaction::MOST_BYTES
 }
 
-// Writes all credentials of a layout, where there is room for them. Answers the place behind them.
+// Writes all credentials of a layout, if there is room. Returns the offset just past them.
 fn close_layout(buf: &mut [u8], at: usize, layout: Layout) -> End
     requires { ⌜ (at ≤ length (now buf)) × AllAhead layout (take at (now buf)) ⌝ }
     ensures { λ r. ⌜ OfAll layout (take at (now (buf .entry))) (λ ws. (r, now (buf .exit)) ≡ closed (now (buf .entry)) at ws) ⌝ }
@@ -198,8 +198,9 @@ fn close_layout(buf: &mut [u8], at: usize, layout: Layout) -> End
     }
 }
 
-// Reads the unsigned part back, which ends at a place, with memos of at most so many bytes, and writes its credentials behind it. Answers the
-// place behind them.
+// Reads back the unsigned part, which ends at `at`, and writes its blank credentials after it. Returns the offset just past them.
+//
+// A memo may have at most `most` bytes.
 pub fn append(buf: &mut [u8], at: usize, most: u64) -> End
     ensures { λ r. ⌜ (r, now (buf .exit))
         ≡ stored (closable (avm most) at (now (buf .entry))) (at + length (closing (avm most) at (now (buf .entry)))) (now (buf .entry))
