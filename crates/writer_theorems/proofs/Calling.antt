@@ -1,4 +1,4 @@
--- Calls of the methods are steps that are given what code can be given. Assumes nothing.
+-- Calls of the methods are steps over what the code can be given. Assumes nothing.
 use Prim.Native.Nat.{ℕ, _*_, _/_, _%_, _≤_, _<_, _^_}
 use mathlib.Core.Path.{_≡_, refl, sym, ap, ap₂, _∙_, subst}
 use mathlib.Core.Bool.{Bool, true, false≢true}

@@ -1,4 +1,4 @@
--- A transaction with every slot filled with another one's signature is the other. Assumes nothing.
+-- Filling every slot of a transaction with the signatures of another of the same unsigned part gives that other. Assumes nothing.
 use Prim.Native.Nat.{ℕ, _+_}
 use mathlib.Core.Path.{_≡_, refl, sym, ap, ap₂, _∙_}
 use mathlib.Core.List.{List, [], _∷_, _++_, append-assoc}

@@ -1,4 +1,4 @@
--- Every run of steps keeps what stands in the buffer, and what a run finishes is accepted. Assumes nothing.
+-- Every run of steps keeps the buffer's invariant, and what a run finishes is accepted. Assumes nothing.
 use Prim.Native.Nat.{ℕ, suc, _+_, _≤_, _<_, _^_}
 use mathlib.Core.Path.{_≡_, refl, sym, ap, _∙_, subst}
 use mathlib.Core.Logic.{_⊎_, inl, inr}

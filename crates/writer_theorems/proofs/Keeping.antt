@@ -1,4 +1,4 @@
--- What stands in the buffer between the steps of a run, and that every step keeps it so. Assumes nothing.
+-- The invariant of the buffer between the steps of a run, which every step keeps. Assumes nothing.
 use Prim.Native.Nat.{ℕ, _+_, _-_, _≤_, _<_, _^_}
 use mathlib.Core.Path.{_≡_, refl, sym, ap, _∙_, subst}
 use mathlib.Core.Bool.{false}

@@ -1,4 +1,4 @@
--- What is proved of runs
+-- Laws of runs
 pub mod Keeping
 pub mod Finishing
 pub mod Filling

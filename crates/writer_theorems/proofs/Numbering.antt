@@ -1,4 +1,4 @@
--- What every call of the writer's methods owes. What is given as fields is judged by tests on these. Assumes nothing.
+-- What every call of the writer's methods guarantees. What is given as fields is judged by tests on them. Assumes nothing.
 use Prim.Native.Nat.{ℕ, zero, suc, _/_, _%_, _≤_, _<_}
 use mathlib.Core.Path.{_≡_, refl, sym, ap, _∙_, subst}
 use mathlib.Core.Bool.{Bool, true, false, not, false≢true}

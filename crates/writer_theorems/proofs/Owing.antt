@@ -1,5 +1,5 @@
--- What every step owes, whatever state and buffer it is given: it answers as a guarded verdict says, by 16 where it is not due, by 14 where the
--- buffer is short, and then by its rules, whose rule is P where the rules of their tests are. Assumes nothing.
+-- What every step guarantees, whatever its state and buffer: it answers 16 if it is not due, 14 if the buffer is short, and then by its rules. A
+-- rule that it answers has the property P if those of its tests have. Assumes nothing.
 use Prim.Native.Nat.{ℕ, suc, _+_, _≤_}
 use mathlib.Core.Path.{_≡_, refl, sym, subst}
 use mathlib.Core.Bool.{Bool, true, false, _&&_}

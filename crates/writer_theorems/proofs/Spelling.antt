@@ -1,4 +1,4 @@
--- The steps that a reading spells are all done, and write it. Assumes nothing.
+-- The steps that write a reading are all done, and leave its bytes. Assumes nothing.
 use Prim.Native.Nat.{ℕ, suc, _+_, _≤_}
 use mathlib.Core.Path.{_≡_, refl, sym, ap, _∙_, subst}
 use mathlib.Core.Bool.{true, _&&_}

@@ -1,4 +1,4 @@
--- The steps' round trip, for the AVM's family. Assumes nothing.
+-- The round trip by steps, for the AVM's family. Assumes nothing.
 use Prim.Native.Nat.{ℕ}
 use Rattle.transaction.specs.Plan.{plan}
 use Rattle.transaction.specs.Avm.{avm}

@@ -1,4 +1,4 @@
--- Calls of the writer's methods, runs of them, and the calls that the reading of a transaction spells, for any limit of the memo. Assumes nothing.
+-- Calls of the writer's methods, runs of them, and the calls that write the reading of a transaction, for any limit of the memo. Assumes nothing.
 use Prim.Native.Nat.{ℕ, _≤_, _<_, _^_}
 use mathlib.Core.Path.{_≡_}
 use mathlib.Core.Logic.{_⊎_, _↔_}
@@ -43,7 +43,7 @@ pub data Call : Type 0 where
   denomination : ℕ → Call
   close finish : Call
 
--- each number of four bytes
+-- each integer fits four bytes
 abbrev pub Words : List ℕ → Type 0
 Words [] = Unit {0}
 Words (n ∷ l) = (n < 256 ^ 4) × Words l
@@ -51,7 +51,7 @@ Words (n ∷ l) = (n < 256 ^ 4) × Words l
 abbrev pub Id : List ℕ → Type 0
 Id c = (length c ≡ 32) × Bytes c
 
--- what the types of a method's arguments say
+-- what the types of a method's arguments guarantee
 abbrev pub Typed : Call → Type 0
 Typed (start type network id) = (type < 256 ^ 4) × (network < 256 ^ 4) × Id id
 Typed (output asset amount locktime threshold addresses) = Id asset × (amount < 256 ^ 8) × (locktime < 256 ^ 8) × (threshold < 256 ^ 4) × Bytes addresses
@@ -72,7 +72,7 @@ AllTyped (c ∷ l) = Typed c × AllTyped l
 
 -- with memos of at most `most` bytes
 module _ (most : ℕ) where
-  -- what its method answers and leaves in the buffer
+  -- what the call's method answers, and the buffer afterwards
   abbrev pub call : Call → Writer → List ℕ → Turn
   call (start type network id) w s = Steps.start (avm most) w s type network id
   call (output asset amount locktime threshold addresses) w s = addOutput most w s asset amount locktime threshold addresses
@@ -97,14 +97,14 @@ module _ (most : ℕ) where
   AllCallsDone (c ∷ l) w s =
       (call c w s .step .answer ≡ W.Done (call c w s .step .next .at)) × AllCallsDone l (call c w s .step .next) (call c w s .buffer)
 
--- ---- the calls that a reading spells
+-- ---- the calls that write a reading
 
--- addresses, one behind the other
+-- addresses, one after the other
 unfoldable pub joined : List (List ℕ) → List ℕ
 joined [] = []
 joined (a ∷ l) = a ++ joined l
 
--- a transferable output is of type 7; no accepted transaction has another, so what stands for the others does not matter
+-- a transferable output is of type 7; no accepted transaction has another type, so the call for the others does not matter
 abbrev pub ofOutput : List ℕ → Output → Call
 ofOutput asset (secpMint, o) = close
 ofOutput asset (secpTransfer, (amount, o)) = output asset amount (o .locktime) (o .threshold) (joined (o .addresses))
@@ -138,10 +138,10 @@ abbrev pub readingCalls : (most : ℕ) → Unsigned (avm most) → List Call
 readingCalls most (h, (outs, (ins, (note, own)))) =
     start (typeId (h .type)) (h .network) (h .chain) ∷ listCalls outputCall outs (listCalls inputCall ins (memo note ∷ ownCalls (h .type) own))
 
--- ---- the numbers that a call answers with, whatever the state and the buffer
+-- ---- the numbers that a call can answer, whatever the state and the buffer
 
--- 0 is done, 16 and 14 are of every call; the others are the rules that what it is given can break. Finish reads the unsigned part back, so where
--- no run of calls has left state and buffer it can answer by any rule of that part; behind a run it refuses by 14 and 16 only (`MethodsFinish`)
+-- 0 is done; every call can answer 14 and 16; the others are the rules that its arguments can break. Finish reads the unsigned part back, so over a
+-- state and buffer that no run of calls has left it can answer any rule of that part; after a run it refuses by 14 and 16 only (`MethodsFinish`)
 abbrev pub callNumbers : Call → List ℕ
 callNumbers (start type network id) = 0 ∷ 4 ∷ 14 ∷ 16 ∷ []
 callNumbers (output asset amount locktime threshold addresses) = 0 ∷ 2 ∷ 5 ∷ 6 ∷ 7 ∷ 14 ∷ 16 ∷ []
@@ -158,7 +158,7 @@ callNumbers finish = 0 ∷ 2 ∷ 3 ∷ 4 ∷ 5 ∷ 6 ∷ 7 ∷ 8 ∷ 9 ∷ 10 �
 
 -- ---- when a call is due
 
--- the part of the transaction that the state says is due
+-- the segment of the transaction that is due in this state
 abbrev pub dueNow : Writer → Due
 dueNow w = dueOf (due (w .phase) (planOf (w .«type_id»)))
 
@@ -166,8 +166,8 @@ dueNow w = dueOf (due (w .phase) (planOf (w .«type_id»)))
 abbrev pub fieldDue : FieldName → Writer → Bool
 fieldDue f w = isField f (dueNow w)
 
--- a list of that name is open; an element goes into it only where the count and the last element that the state names lie inside the bytes written,
--- as they do behind every run of calls from a fresh writer
+-- a list of that name is open; an element is due only if the count and the last element that the state names lie inside the bytes written, as they
+-- do after every run of calls from a fresh writer
 abbrev pub elementDue : ListName → Writer → Bool
 elementDue l w = isOpen l (dueNow w) && sane w
 
@@ -188,18 +188,18 @@ isDue finish w = isFinish (dueNow w)
 -- ---- what is claimed of the methods, with memos of at most `most` bytes
 
 module _ (most : ℕ) where
-  -- finish behind a run of calls from a fresh writer over the buffer s
+  -- finish after a run of calls from a fresh writer over the buffer s
   abbrev pub finishBehind : List Call → List ℕ → Turn
   finishBehind l s = Steps.finish (avm most) (calls most l Steps.fresh s .0) (calls most l Steps.fresh s .1)
 
-  -- for every run of calls, refused ones anywhere among them
+  -- for every run of calls, whichever of them are refused
   pub record MethodsFinish : Type 0 where
     pub is-accepted : (l : List Call) → AllTyped l → (s : List ℕ) (n : ℕ) → finishBehind l s .step .answer ≡ W.Done n
         → accepted (avm most) (take n (finishBehind l s .buffer)) ≡ true
     pub refused-by : (l : List Call) → AllTyped l → (s : List ℕ) (e : Refusal) → finishBehind l s .step .answer ≡ W.Refused e
         → (e .rule ≡ noRoom) ⊎ (e .rule ≡ stepNotDue)
 
-  -- d is accepted, v is its reading, and the buffer s has room for it, whatever it holds
+  -- d is accepted, v is its reading, and the buffer s has room for d, whatever s holds
   pub record MethodsRoundTrip : Type 0 where
     pub calls-typed : (d : List ℕ) (v : Signed (avm most)) (n : ℕ) → Bytes d → check (avm most) d ≡ took v n → AllTyped (readingCalls most (v .0))
     pub calls-done : (d : List ℕ) (v : Signed (avm most)) (n : ℕ) → Bytes d → check (avm most) d ≡ took v n → (s : List ℕ) → length d ≤ length s
@@ -216,7 +216,7 @@ module _ (most : ℕ) where
   abbrev pub placeOf : Call → Writer → List ℕ → ℕ
   placeOf c w s = writtenPlace (call most c w s .step .answer)
 
-  -- any call, any state, any buffer
+  -- for any call, any state and any buffer
   pub record MethodsOwe : Type 0 where
     pub number : (c : Call) → Typed c → (w : Writer) (s : List ℕ) → OneOf (numberOf c w s) (callNumbers c)
     -- 16 where the step is not due, and nowhere else
@@ -227,7 +227,7 @@ module _ (most : ℕ) where
     pub refused-state : (c : Call) (w : Writer) (s : List ℕ) → (numberOf c w s ≡ 0 → ⊥) → call most c w s .step .next ≡ w
     pub refused-buffer : (c : Call) (w : Writer) (s : List ℕ) → (numberOf c w s ≡ 0 → ⊥) → call most c w s .buffer ≡ s
     pub refused-place : (c : Call) (w : Writer) (s : List ℕ) → (numberOf c w s ≡ 0 → ⊥) → placeOf c w s ≡ 0
-    -- what is done reports the bytes written so far
+    -- a call that is done reports the bytes written so far
     pub done-place : (c : Call) (w : Writer) (s : List ℕ) → numberOf c w s ≡ 0 → placeOf c w s ≡ call most c w s .step .next .at
-    -- refused or done
+    -- the buffer keeps its length, whether the call is refused or done
     pub length-kept : (c : Call) (w : Writer) (s : List ℕ) → length (call most c w s .buffer) ≡ length s

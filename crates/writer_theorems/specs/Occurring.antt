@@ -1,4 +1,4 @@
--- Each number of a call's list can occur. Assumes nothing.
+-- Each number in a call's list can occur. Assumes nothing.
 use Prim.Native.Nat.{ℕ, _<_, _^_}
 use mathlib.Core.Path.{_≡_}
 use mathlib.Core.List.{List}
@@ -25,7 +25,7 @@ methodOf (C.denomination n) = denomination
 methodOf C.close = close
 methodOf C.finish = finish
 
--- a state that code can hold: each number fits the field's width
+-- a state that the code can hold: each field fits its width
 pub record Held (w : Writer) : Type 0 where
   pub type : w .«type_id» < 2 ^ 32
   pub phase : w .phase < 2 ^ 32
@@ -34,7 +34,7 @@ pub record Held (w : Writer) : Type 0 where
   pub list : w .list < 2 ^ 64
   pub last : w .last < 2 ^ 64
 
--- with memos of at most `most` bytes a call of the method answers with n, over some state and some bytes
+-- with memos of at most `most` bytes, some call of the method over some state and buffer answers n
 pub record Occurs (most : ℕ) (m : Method) (n : ℕ) : Type 0 where
   pub call : Call
   pub of : methodOf call ≡ m
@@ -45,6 +45,6 @@ pub record Occurs (most : ℕ) (m : Method) (n : ℕ) : Type 0 where
   pub bytes : Bytes buffer
   pub answers : numberOf most call before buffer ≡ n
 
--- with `MethodsOwe.number`, a list has exactly the numbers that its method answers with
+-- with `MethodsOwe.number`: a call's list has exactly the numbers that its method can answer
 pub record WriterNumbersOccur (most : ℕ) : Type 0 where
   pub each : (c : Call) (n : ℕ) → OneOf n (callNumbers c) → Occurs most (methodOf c) n

@@ -1,4 +1,4 @@
--- Runs of steps, each given the state and the buffer that the last one left; and the steps that a reading spells. Assumes nothing.
+-- Runs of steps, each given the state and the buffer that the last one left; and the steps that write a reading. Assumes nothing.
 use Prim.Native.Nat.{ℕ, _≤_, _<_, _^_}
 use mathlib.Core.Path.{_≡_}
 use mathlib.Core.Bool.{true}
@@ -23,11 +23,11 @@ pub data Act : Type 0 where
   putsElement : ListName → Given → Act
   closes finishes : Act
 
--- what could not be made, or is longer than a transaction, need not be said to be bytes: a count of it may be too large for its width
+-- what is not whole, or is longer than a transaction, need not be bytes: a count in it may be too large for its width
 abbrev pub FairBytes : Given → Type 0
 FairBytes g = g .whole ≡ true → length (g .bytes) ≤ mostBytes → Bytes (g .bytes)
 
--- what code can be given: bytes, and numbers and identifiers of their widths
+-- what the code can be given: bytes, and integers and identifiers of their widths
 abbrev pub Fair : Act → Type 0
 Fair (starts type network chain) = (type < 256 ^ 4) × (network < 256 ^ 4) × (length chain ≡ 32) × Bytes chain
 Fair (putsField f g) = FairBytes g
@@ -56,7 +56,7 @@ module _ (F : Family) where
   AllDone [] w s = Unit {0}
   AllDone (a ∷ l) w s = (act a w s .step .answer ≡ W.Done (act a w s .step .next .at)) × AllDone l (act a w s .step .next) (act a w s .buffer)
 
--- ---- the steps that a value spells: each field, and each element of a list and then its close
+-- ---- the steps that write a value: each field, and each element of a list followed by the list's close
 
 unfoldable pub elementActs : (l : ListName) → List ℕ → List (elementsOf l .Element) → List Act
 elementActs l prev [] = []
@@ -71,7 +71,7 @@ planActs most end v = []
 planActs most (field f q) v = putsField f (given (contentOf most f .write (v .0))) ∷ planActs most q (v .1)
 planActs most (many l least q) v = elementActs l [] (v .0) ++ (closes ∷ planActs most q (v .1))
 
--- the plan stops at `end`, where the finish is due, and not at `shut`, where no step is: a value's steps can be followed by the finish
+-- the plan stops at `end`, where finish is due, and not at `shut`, where no step is: finish can follow the steps that write a value
 abbrev pub Ends : Plan → Type 0
 Ends shut = ⊥
 Ends end = Unit {0}
