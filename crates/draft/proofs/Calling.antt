@@ -1,4 +1,4 @@
--- What fill and merge answer, by what the code found. Assumes nothing.
+-- What fill and merge answer, by what the code has found. Assumes nothing.
 use mathlib.Core.Path.{_≡_, refl, sym, ap, ap₂, _∙_}
 use mathlib.Core.Bool.{Bool, true, false, not}
 use mathlib.Core.Option.{Option, none, some}

@@ -1,4 +1,4 @@
--- What is known of bytes once the check has answered. Assumes nothing.
+-- What holds of bytes after the check has answered. Assumes nothing.
 use mathlib.Core.Path.{_≡_, sym, ap, _∙_}
 use mathlib.Core.Bool.{true, false}
 use mathlib.Core.List.{List}

@@ -1,4 +1,4 @@
--- What the code of fill and merge rests on
+-- Laws that the proofs of fill and merge use
 pub mod Walked
 pub mod Known
 pub mod Calling

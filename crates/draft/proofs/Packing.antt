@@ -1,4 +1,4 @@
--- A small number and a small place can be taken apart again. Assumes nothing.
+-- A small number and a small place, packed into one integer, can be unpacked again. Assumes nothing.
 use Prim.Native.Nat.{ℕ, _+_, _*_, _^_, _≤_, _<_}
 use mathlib.Core.List.{List, [], _∷_}
 use native.Mathlib.Omega.{arith}

@@ -1,4 +1,4 @@
--- In a transaction the walk by the counts that stand there meets exactly its slots. Of any unsigned format and any credentials wanted.
+-- In a transaction the scan by the counts stored there finds exactly its slots. For any unsigned format and any credentials wanted.
 -- Assumes nothing.
 use mathlib.Core.Path.{_≡_, refl, sym, ap, _∙_, subst}
 use mathlib.Core.List.{List, [], _∷_, _++_, append-assoc, append-nil}

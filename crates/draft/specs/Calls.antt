@@ -28,12 +28,12 @@ refuse r p = A.Refused (refusal r p)
 
 -- ---- merge
 
--- the bytes of d, except that each slot has what d's and e's are joined to
+-- the bytes of d, except that each slot holds the join of d's and e's
 unfoldable pub merged : Reader → List ℕ → List ℕ → List ℕ
 unfolding join putAll
 merged R d e = putAll (R .slots d) (λ p. join (slotAt d p) (slotAt e p)) d
 
--- the tests in their order: first accepted, second accepted, the same before the credential count, the first clash, room
+-- the tests in their order: first accepted, second accepted, equal before the credential count, no clash, room
 abbrev pub decideMerge : Bool → Bool → Bool → Option ℕ → Bool → List ℕ → List ℕ → Answer × List ℕ
 decideMerge false b c o r m out = (refuse firstNotAccepted 0, out)
 decideMerge true false c o r m out = (refuse secondNotAccepted 0, out)
@@ -50,7 +50,7 @@ mergeCall R d e out =
 
 -- ---- fill
 
--- the tests in their order: accepted, such a slot, 65 bytes, no other signature there. 65 zero bytes change nothing and are done
+-- the tests in their order: accepted, slot k exists, 65 bytes, no other signature there. 65 zero bytes are done and change nothing
 abbrev pub decideFill : Bool → Bool → Bool → Bool → ℕ → List ℕ → List ℕ → Answer × List ℕ
 decideFill false b l c k m d = (refuse firstNotAccepted 0, d)
 decideFill true false l c k m d = (refuse noEntry 0, d)

@@ -1,5 +1,5 @@
--- What merging and filling ask of a transaction: whether it is accepted, where its credential count stands, and where its slots are. Of any
--- unsigned format and any rule of the credentials that it wants, and so of any family. Assumes nothing.
+-- What merging and filling need to know of a transaction: whether it is accepted, where its credential count is, and where its slots are. For any
+-- unsigned format and any rule for the credentials that it wants, and so for any family. Assumes nothing.
 use mathlib.Core.Path.{_≡_}
 use mathlib.Core.Bool.{Bool, true}
 use mathlib.Core.List.{List}

@@ -24,7 +24,7 @@ fn refused(rule: Rule, place: usize) -> Answer
     Answer::Refused(wire::refuse(rule, place))
 }
 
-// Puts a signature into slot number k, if no other is there. A memo has at most so many bytes.
+// Puts a signature into slot number `k`, if the slot holds no other. A memo may have at most `most` bytes.
 fn fill_within(draft: &mut [u8], k: usize, signature: &[u8], most: u64) -> Answer
     ensures { λ r. ⌜ (r, now (draft .exit)) ≡ fillCall (reader (avm most)) (now (draft .entry)) k (now (signature .entry)) ⌝ }
 {
@@ -50,7 +50,7 @@ pub fn fill(draft: &mut [u8], k: usize, signature: &[u8]) -> Answer
     fill_within(draft, k, signature, transaction::MEMO_MOST)
 }
 
-// The first draft's bytes, and what its empty slots take from the second.
+// Writes the first draft into `room`, and fills its empty slots from the second. The credential count is at `at`.
 fn put_merge(room: &mut [u8], first: &[u8], second: &[u8], at: usize)
     ensures { λ _. ⌜ now (room .exit) ≡ joinedWith (now (second .entry)) at
         (take (length (now (room .entry))) (now (first .entry)) ++ drop (length (now (first .entry))) (now (room .entry))) ⌝ }
@@ -59,7 +59,7 @@ fn put_merge(room: &mut [u8], first: &[u8], second: &[u8], at: usize)
     draft_slots::join::join_slots(room, second, at);
 }
 
-// Joins the second draft's signatures to the first's, at the front of out. A memo has at most so many bytes.
+// Writes the merge of two drafts to the front of `out`. A memo may have at most `most` bytes.
 fn merge_within(first: &[u8], second: &[u8], out: &mut [u8], most: u64) -> Answer
     ensures { λ r. ⌜ (r, now (out .exit)) ≡ mergeCall (reader (avm most)) (now (first .entry)) (now (second .entry)) (now (out .entry)) ⌝ }
 {

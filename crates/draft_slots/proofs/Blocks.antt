@@ -1,4 +1,4 @@
--- Two byte strings compared from an index on, byte by byte and block by block; what stands in a slot. Assumes nothing.
+-- Two byte strings compared from an index on, byte by byte and block by block; what a slot holds. Assumes nothing.
 use Prim.Native.Nat.{ℕ, zero, suc, _+_, _-_, _≤_, _<_}
 use mathlib.Core.Path.{_≡_, refl, sym, ap, ap₂, _∙_}
 use mathlib.Core.Bool.{Bool, true, false, not, _&&_}

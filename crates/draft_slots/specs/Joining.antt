@@ -1,5 +1,5 @@
--- What two slots hold, and what they are joined to (document 01, "Drafts, slots, merging"). A slot's content is a byte string; where the slots of
--- a transaction are is said in transaction/specs. Assumes nothing.
+-- What two slots hold, and what joining them gives (document 01, "Drafts, slots, merging"). A slot's content is a byte string; where the slots of
+-- a transaction are is defined in transaction/specs. Assumes nothing.
 use mathlib.Core.Path.{_≡_}
 use mathlib.Core.Bool.{Bool, true, false, not, cond, _&&_}
 use mathlib.Core.Option.{Option, none, some}
@@ -25,17 +25,17 @@ pub record Clash (a b : List ℕ) : Type 0 where
   pub second : Filled b
   pub differ : a ≡ b → ⊥
 
--- .. as a test
+-- the same, as a test
 unfoldable pub clashes : List ℕ → List ℕ → Bool
 unfolding same
 clashes a b = not (same a blank) && (not (same b blank) && not (same a b))
 
--- what the first holds, or, where it is empty, what the second does
+-- what the first slot holds, or, if it is empty, what the second holds
 unfoldable pub join : List ℕ → List ℕ → List ℕ
 unfolding same
 join a b = cond (same a blank) b a
 
--- the number of the first of these slots in which d and e hold different signatures; the first of them is number k
+-- the number of the first of these slots in which d and e hold different signatures; the slots are numbered from k
 unfoldable pub firstClash : ℕ → List ℕ → List ℕ → List ℕ → Option ℕ
 unfolding clashes
 firstClash k [] d e = none

@@ -1,3 +1,3 @@
--- What stands in slots, how two slots are joined, and how code finds them
+-- What slots hold, how two slots are joined, and how the code finds them
 pub mod Joining
 pub mod Scan

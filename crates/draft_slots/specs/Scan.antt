@@ -1,5 +1,5 @@
--- The slots of a draft as code finds them, by the counts that stand in its credentials: in an accepted transaction they are its slots (`scanned`,
--- of draft/proofs). What is not wholly there has none. Assumes nothing.
+-- The slots of a draft as the code finds them, by the counts in its credentials. In an accepted transaction they are its slots (`scanned`, in
+-- draft/proofs/Walked). A credential that is cut short has none. Assumes nothing.
 use mathlib.Core.Bool.{_&&_}
 use mathlib.Core.Option.{Option, none, some}
 use mathlib.Core.List.{List, [], _∷_, _++_}
@@ -25,18 +25,18 @@ abbrev pub onRange : {A : Type 0} → SlotRange → A → (ℕ → ℕ → ℕ �
 onRange (R.Slots first c next) stop go = go first c next
 onRange R.Nothing stop go = stop
 
--- c slots, one behind the other
+-- c slots from p on, one after the other
 unfoldable pub slotRange : ℕ → ℕ → List ℕ
 slotRange zero p = []
 slotRange (suc c) p = p ∷ slotRange c (p + 65)
 
--- those of n credentials from q on
+-- the slots of n credentials from q on
 unfoldable pub scanFrom : ℕ → List ℕ → ℕ → List ℕ
 unfolding slotRange
 scanFrom zero s q = []
 scanFrom (suc n) s q = onRange (rangeAt s q) [] λ first c next. slotRange c first ++ scanFrom n s next
 
--- those of the credentials whose count stands at `at`
+-- the slots of the credentials whose count is at `at`
 abbrev pub scan : List ℕ → ℕ → List ℕ
 scan s at = integer 4 .parse s at (λ e. []) λ n q. scanFrom n s q
 
@@ -44,18 +44,18 @@ abbrev pub found : Option ℕ → Found
 found none = F.Nothing
 found (some k) = F.At k
 
--- the place of slot k
+-- the offset of slot k
 abbrev pub placed : List ℕ → ℕ → Found
 placed ps k = pick (ltb k (length ps)) (F.At (getD ps k 0)) F.Nothing
 
 -- ---- joining in place
 
--- d, whose slot at p takes s where it is empty
+-- d, in which the slot at p takes s if it is empty
 unfoldable pub joinedAt : ℕ → List ℕ → List ℕ → List ℕ
 unfolding putSlot same
 joinedAt p s d = pick (eqb (length s) 65 && same (slotAt d p) blank) (putSlot p s d) d
 
--- each slot with that of e
+-- d, in which each of these slots is joined with that of e
 unfoldable pub joinAll : List ℕ → List ℕ → List ℕ → List ℕ
 unfolding joinedAt
 joinAll [] e d = d

@@ -1,4 +1,4 @@
-// Byte strings compared many bytes at a time, and what stands in slots.
+// Byte strings compared many bytes at a time, and what slots hold.
 ghost use mathlib.Core.Path.{_≡_};
 ghost use lib.ListN.{length};
 ghost use Rattle.transaction.specs.Slots.{blank, slotAt};
@@ -6,7 +6,7 @@ ghost use Rattle.draft_slots.specs.Joining.{same, clashes};
 
 const BLOCK: usize = 64;
 
-// No early exit, so that the compiler compares many bytes at once.
+// Compares without an early exit, so that the compiler can compare many bytes at once.
 fn same_block(a: &[u8], b: &[u8]) -> bool
     requires { ⌜ length (now a) ≡ length (now b) ⌝ }
     ensures { λ r. ⌜ r ≡ same (now (a .entry)) (now (b .entry)) ⌝ }
@@ -20,7 +20,7 @@ fn same_block(a: &[u8], b: &[u8]) -> bool
     all
 }
 
-// Are two byte strings equal? Block by block, up to the first that differs.
+// Are two byte strings equal? Compares block by block, up to the first that differs.
 pub fn same_bytes(a: &[u8], b: &[u8]) -> bool
     ensures { λ r. ⌜ r ≡ same (now (a .entry)) (now (b .entry)) ⌝ }
 {
@@ -38,7 +38,7 @@ pub fn same_bytes(a: &[u8], b: &[u8]) -> bool
     same_block(&a[i..], &b[i..])
 }
 
-// The slot that starts at a place, as far as it is there.
+// The 65 bytes of the slot that starts at `at`, or as many of them as `s` has.
 pub fn slot_of(s: &[u8], at: usize) -> &[u8]
     ensures { λ r. ⌜ now r ≡ slotAt (now (s .entry)) at ⌝ }
 {
@@ -51,7 +51,7 @@ pub fn slot_of(s: &[u8], at: usize) -> &[u8]
     &s[at..at + transaction::SIGNATURE_WIDTH]
 }
 
-// Is it the content of an empty slot?
+// Is `s` the content of an empty slot, 65 zero bytes?
 pub fn is_blank(s: &[u8]) -> bool
     ensures { λ r. ⌜ r ≡ same (now (s .entry)) blank ⌝ }
 {

@@ -1,4 +1,4 @@
-// Slots joined in place: an empty one takes what it is joined with.
+// Slots joined in place: an empty slot takes what it is joined with.
 ghost use mathlib.Core.Path.{_≡_};
 ghost use Prim.Native.Nat.{_+_, _*_, _≤_};
 ghost use lib.ListN.{length};
@@ -8,7 +8,7 @@ use crate::compare;
 use crate::ranges;
 use wire::Integer;
 
-// Lends the slot at a place to the copying of what it is joined with. Nothing changes where either is not whole.
+// Copies `other` into the slot at `at` if the slot is empty. Nothing changes if either is not 65 bytes.
 pub fn join_at(draft: &mut [u8], at: usize, other: &[u8])
     ensures { λ _. ⌜ now (draft .exit) ≡ joinedAt at (now (other .entry)) (now (draft .entry)) ⌝ }
 {
@@ -20,7 +20,7 @@ pub fn join_at(draft: &mut [u8], at: usize, other: &[u8])
     }
 }
 
-// So many slots from at on.
+// Joins `count` slots from `at` on with those of the other draft.
 fn join_range(draft: &mut [u8], other: &[u8], at: usize, count: u64)
     requires { ⌜ at + 65 * count ≤ length (now other) ⌝ }
     ensures { λ _. ⌜ now (draft .exit) ≡ joinAll (slotRange count at) (now (other .entry)) (now (draft .entry)) ⌝ }
@@ -34,7 +34,7 @@ fn join_range(draft: &mut [u8], other: &[u8], at: usize, count: u64)
     }
 }
 
-// Every slot, where the other draft has it. Its credential count stands at a place.
+// Joins every slot of the other draft, whose credential count is at `at`, into `draft`.
 pub fn join_slots(draft: &mut [u8], other: &[u8], at: usize)
     ensures { λ _. ⌜ now (draft .exit) ≡ joinedWith (now (other .entry)) at (now (draft .entry)) ⌝ }
 {

@@ -3,13 +3,13 @@ pub mod compare;
 pub mod join;
 pub mod ranges;
 
-// The slots of one credential: where the first stands, how many there are, and the place behind them.
+// The slots of one credential: the offset of the first, how many there are, and the offset just past them.
 pub enum SlotRange {
     Slots(usize, u64, usize),
     Nothing,
 }
 
-// A slot's number or its place, where there is such a slot.
+// A slot's number or its offset, if there is such a slot.
 pub enum Found {
     At(usize),
     Nothing,

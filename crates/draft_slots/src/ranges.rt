@@ -1,4 +1,4 @@
-// The slots of a draft, walked credential by credential by the counts that stand there.
+// The slots of a draft, found credential by credential by the counts stored there.
 ghost use mathlib.Core.Path.{_≡_};
 ghost use Prim.Native.Nat.{_+_, _*_, _≤_};
 ghost use lib.ListN.{length};
@@ -10,7 +10,7 @@ use crate::compare;
 use wire::End;
 use wire::Integer;
 
-// The slots of the credential that starts at a place.
+// The slots of the credential that starts at `at`.
 pub fn range_at(s: &[u8], at: usize) -> SlotRange
     ensures { λ r. ⌜ r ≡ rangeAt (now (s .entry)) at ⌝ }
 {
@@ -27,7 +27,7 @@ pub fn range_at(s: &[u8], at: usize) -> SlotRange
     SlotRange::Slots(first, count, next)
 }
 
-// The first of so many slots from at on that holds two different signatures; the one at that place is number k.
+// The first of `count` slots from `at` on in which two drafts hold different signatures. The slot at `at` is number `k`.
 fn clash_in(first: &[u8], second: &[u8], at: usize, count: u64, k: usize) -> Found
     requires { ⌜ at + 65 * count ≤ length (now first) ⌝ }
     requires { ⌜ k ≤ at ⌝ }
@@ -47,7 +47,7 @@ fn clash_in(first: &[u8], second: &[u8], at: usize, count: u64, k: usize) -> Fou
     Found::Nothing
 }
 
-// The number of the first slot in which two drafts, whose credential count stands at a place, hold different signatures.
+// The number of the first slot in which two drafts, whose credential count is at `at`, hold different signatures.
 pub fn first_clash(first: &[u8], second: &[u8], at: usize) -> Found
     ensures { λ r. ⌜ r ≡ found (firstClash 0 (scan (now (first .entry)) at) (now (first .entry)) (now (second .entry))) ⌝ }
 {
@@ -75,7 +75,7 @@ pub fn first_clash(first: &[u8], second: &[u8], at: usize) -> Found
     Found::Nothing
 }
 
-// Where slot k stands, in a draft whose credential count stands at a place.
+// The offset of slot `k` in a draft whose credential count is at `at`.
 pub fn place_of(s: &[u8], at: usize, k: usize) -> Found
     ensures { λ r. ⌜ r ≡ placed (scan (now (s .entry)) at) k ⌝ }
 {
