@@ -1,4 +1,4 @@
--- In an accepted transaction the walk by the counts that stand there meets its slots. Assumes nothing.
+-- In an accepted transaction the scan by the counts stored there finds its slots. Assumes nothing.
 use Prim.Native.Nat.{ℕ, zero, suc, _+_, _*_}
 use mathlib.Core.Path.{_≡_, refl, sym, ap, ap₂, _∙_}
 use mathlib.Core.List.{List, [], _∷_, _++_, append-nil, map}

@@ -1,4 +1,4 @@
--- Laws of the slots' rows, and what the code that lists them rests on
+-- Laws of the rows of slots, and of the code that lists them
 pub mod Rows
 pub mod Walking
 pub mod Accepted

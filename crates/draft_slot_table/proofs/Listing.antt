@@ -1,4 +1,4 @@
--- The call that lists slots: what each answer of the check and of the count comes to. Assumes nothing.
+-- The call that lists slots: what it answers, by what the check and the count have answered. Assumes nothing.
 use Prim.Native.Nat.{ℕ, _+_, _*_, _/_, _≤_, _<_}
 use mathlib.Core.Path.{_≡_, sym, ap, ap₂, _∙_}
 use mathlib.Core.List.{List, _++_}

@@ -1,4 +1,4 @@
--- The rows tell of the slots that merging and filling know: their places, and which are empty. Assumes nothing.
+-- The rows describe the slots that merging and filling use: their offsets, and which are empty. Assumes nothing.
 use Prim.Native.Nat.{ℕ, zero, suc, _+_, _*_}
 use mathlib.Core.Path.{_≡_, refl, sym, ap, _∙_}
 use mathlib.Core.Bool.{Bool, true, false, cond}

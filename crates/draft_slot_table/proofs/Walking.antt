@@ -1,4 +1,4 @@
--- The walk over the credentials of a transaction: what is left of it, by what the code found. Assumes nothing.
+-- The loops over the credentials of a transaction: what is left to do, by what the code has found. Assumes nothing.
 use Prim.Native.Nat.{ℕ, zero, suc, _+_, _-_, _*_, _≤_, _<_}
 use mathlib.Core.Path.{_≡_, refl, sym, ap, ap₂, _∙_}
 use mathlib.Core.List.{List, [], _∷_, _++_}

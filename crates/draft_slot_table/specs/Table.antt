@@ -12,7 +12,7 @@ use Rattle.entry_table.specs.Table.{Filled, filled}
 use Rattle.entry_table.specs.declared.Tabled.the-variants as T
 use Rattle.draft_slot_table.specs.Slots.{Slot, slotList, rows}
 
--- the rows stand at the front where there is room for all, three numbers each; else nothing changes
+-- if there is room for all rows, three numbers each, they are written to the front; else nothing changes
 abbrev pub listed : ℕ → List ℕ → List Slot → List ℕ → Filled
 listed end s l t =
     pick (leb (3 * length l) (length t)) (filled (T.Listed (length l) end) (rows s l ++ drop (3 * length l) t)) (filled (T.Refused (refusal noRoom 0)) t)

@@ -13,15 +13,15 @@ use transaction::Checked;
 use wire::Integer;
 use wire::Rule;
 
-// The numbers of a row: credential, place, filled.
+// How many numbers a row has: credential, offset, filled.
 const ROW: usize = 3;
 
-// Whether a slot holds a signature, as the third number of its row.
+// The third number of a row: whether the slot holds a signature.
 const EMPTY: u32 = 0;
 
 const FILLED: u32 = 1;
 
-// How many slots there are. The credential count stands at `at`.
+// How many slots there are. The credential count is at `at`.
 fn count(s: &[u8], at: usize) -> usize
     ensures { λ r. ⌜ r ≡ length (scan (now (s .entry)) at) ⌝ }
 {
@@ -42,7 +42,7 @@ fn count(s: &[u8], at: usize) -> usize
     slots
 }
 
-// Does the slot that starts at `at` hold a signature? It is empty where it is 65 zero bytes.
+// Does the slot that starts at `at` hold a signature? It is empty if it is 65 zero bytes.
 fn filled_at(s: &[u8], at: usize) -> u32
     ensures { λ r. ⌜ r ≡ filledAt (now (s .entry)) at ⌝ }
 {
@@ -52,7 +52,7 @@ fn filled_at(s: &[u8], at: usize) -> u32
     FILLED
 }
 
-// Puts the row of the slot that starts at `at` into three numbers of the table, from the i-th on.
+// Writes the row of the slot that starts at `at` into the three numbers of the table from index `i` on.
 fn put_row(s: &[u8], table: &mut [u32], i: usize, credential: usize, at: usize)
     requires { ⌜ i + 3 ≤ length (now table) ⌝ }
     requires { ⌜ credential ≤ 65536 ⌝ }
@@ -64,7 +64,7 @@ fn put_row(s: &[u8], table: &mut [u32], i: usize, credential: usize, at: usize)
     table[i + 2] = filled_at(s, at);
 }
 
-// Puts the rows of a credential's slots. The first of them starts at `at`.
+// Writes the rows of a credential's `count` slots, the first of which starts at `at`.
 fn put_range(s: &[u8], table: &mut [u32], i: usize, credential: usize, at: usize, count: u64)
     requires { ⌜ length (now s) ≤ 65536 ⌝ }
     requires { ⌜ i + 3 * count ≤ length (now table) ⌝ }
@@ -83,7 +83,7 @@ fn put_range(s: &[u8], table: &mut [u32], i: usize, credential: usize, at: usize
     }
 }
 
-// Puts the rows of all slots, for which there is room. The credential count stands at `at`.
+// Writes the rows of all slots. The credential count is at `at`.
 fn put_slots(s: &[u8], table: &mut [u32], at: usize)
     requires { ⌜ length (now s) ≤ 65536 ⌝ }
     requires { ⌜ 3 * length (scan (now s) at) ≤ length (now table) ⌝ }
@@ -108,7 +108,7 @@ fn put_slots(s: &[u8], table: &mut [u32], at: usize)
     }
 }
 
-// Checks the bytes, and writes a row of three numbers for each slot: credential, place, filled. A memo has at most so many bytes.
+// Checks the bytes, and writes a row of three numbers for each slot: credential, offset, filled. A memo may have at most `most` bytes.
 fn list_slots_within(s: &[u8], table: &mut [u32], most: u64) -> Tabled
     ensures { λ r. ⌜ filled r (now (table .exit)) ≡ tabledSlots most (now (s .entry)) (now (table .entry)) ⌝ }
 {

@@ -1,4 +1,4 @@
--- What every call of merge and fill owes: by the cases of its tests. Assumes nothing.
+-- What every call of merge and fill guarantees, by the cases of its tests. Assumes nothing.
 use mathlib.Core.Path.{refl}
 use mathlib.Core.Logic.{inl, inr}
 use mathlib.Core.Bool.{Bool, true, false}

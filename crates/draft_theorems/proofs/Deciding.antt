@@ -1,4 +1,4 @@
--- On which condition a call of merge or fill gives each answer. Assumes nothing but `Laws`.
+-- The condition on which a call of merge or fill gives each answer. Assumes nothing but `Laws`.
 use mathlib.Core.Path.{_≡_, refl, ap, _∙_}
 use mathlib.Core.Bool.{true, false}
 use mathlib.Core.Option.{Option, none, some}

@@ -1,4 +1,4 @@
--- DEMAND 3 of any reader that has the laws. Assumes nothing but `Laws`.
+-- DEMAND 3 for any reader that has the laws. Assumes nothing but `Laws`.
 use mathlib.Core.Path.{_≡_, sym, ap, _∙_, subst}
 use mathlib.Core.Logic.{inl, inr, ⊎-elim}
 use mathlib.Core.Option.{Option, some}

@@ -1,4 +1,4 @@
--- One call of fill, and calls of it one after the other over a blank draft. Assumes nothing but `Laws`.
+-- One call of fill, and successive calls over a blank draft. Assumes nothing but `Laws`.
 use mathlib.Core.Path.{_≡_, refl, sym, ap, _∙_, subst, subst⁻¹}
 use mathlib.Core.Logic.{_⊎_, inl, inr}
 use mathlib.Core.Bool.{Bool, true, false}

@@ -1,4 +1,4 @@
--- That demand 3 and the laws of filling hold
+-- Proofs of demand 3 and of the laws of filling
 pub mod Laws
 pub mod Merging
 pub mod Running

@@ -1,4 +1,4 @@
--- The merge of a list of drafts: that it is what it should be, and that nothing else is. Assumes nothing but `Laws`.
+-- `mergeOf` is the merge of a list of drafts that do not conflict, and nothing else is. Assumes nothing but `Laws`.
 use mathlib.Core.Path.{_≡_, refl, sym, _∙_, subst}
 use mathlib.Core.Logic.{_⊎_, inl, inr}
 use mathlib.Core.List.{List, [], _∷_}

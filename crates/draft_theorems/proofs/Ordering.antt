@@ -1,4 +1,4 @@
--- Neither order, nor grouping, nor repetition matters: from demand 3. Assumes nothing but it.
+-- Neither order, nor grouping, nor repetition matters. Assumes nothing but demand 3.
 use mathlib.Core.Path.{_≡_, refl, sym, ap, _∙_, subst, subst⁻¹}
 use mathlib.Core.Logic.{_⊎_, _↔_, inl, inr, ⊎-elim}
 use mathlib.Core.Option.{Option, none, some, IsSome}

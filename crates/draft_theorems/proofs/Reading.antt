@@ -1,5 +1,5 @@
--- The laws of merging from the laws of formats: for any part before the credentials, and any rule of the credentials that it wants. So a family
--- gives its plan, and proves nothing more. Assumes nothing.
+-- The laws of merging follow from the laws of formats, for any unsigned format and any rule for the credentials that it wants. So a family gives
+-- its plan, and proves nothing more. Assumes nothing.
 use mathlib.Core.Path.{_≡_, refl, sym, ap, _∙_, subst, subst⁻¹}
 use mathlib.Core.List.{List, map}
 use Prim.Native.Nat.{ℕ, _-_}

@@ -1,4 +1,4 @@
--- The reading of a transaction, filled into its blank transaction. Of any unsigned format and any credentials wanted. Assumes nothing.
+-- Filling a blank transaction with the signatures of its reading. For any unsigned format and any credentials wanted. Assumes nothing.
 use mathlib.Core.Path.{_≡_, sym, ap, _∙_, subst⁻¹}
 use mathlib.Core.List.{List, map}
 use Prim.Native.Nat.{ℕ}

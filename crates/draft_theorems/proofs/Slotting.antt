@@ -1,4 +1,4 @@
--- The slots of a transaction are its reading's signatures. Of any family. Assumes nothing.
+-- The slots of a transaction are the signatures of its reading, for any family. Assumes nothing.
 use mathlib.Core.Path.{_≡_, ap, subst⁻¹}
 use mathlib.Core.List.{List, []}
 use Prim.Native.Nat.{ℕ, _+_}

@@ -1,4 +1,4 @@
--- THE THEOREMS, of every family, and so of the AVM. Assumes nothing.
+-- THE THEOREMS, for every family, and so for the AVM. Assumes nothing.
 use Rattle.transaction.specs.Family.{Family, unsigned, wants}
 use Rattle.transaction.specs.Avm.{avm}
 use Rattle.transaction.specs.Answer.{memoMost}

@@ -1,5 +1,5 @@
 -- DEMAND 3 of document 00, as document 01 ("Drafts, slots, merging") spells it out: one claim about every list of drafts and every grouping over it
--- that uses each. Over the calls that merge's contract cites and the slots that the reading of demand 2 has (specs/Slots). Assumes nothing.
+-- that uses each. Its calls are those that merge's contract cites, its slots those of demand 2's reading (specs/Slots). Assumes nothing.
 use mathlib.Core.Path.{_≡_}
 use mathlib.Core.Logic.{_⊎_, _↔_}
 use mathlib.Core.Option.{none, some}
@@ -32,23 +32,23 @@ pub record FirstClash (R : Reader) (d e : List ℕ) (k : ℕ) : Type 0 where
 
 -- ---- the merge of a list
 
--- as long, and the same in every place that is in no slot
+-- e is as long as d, and has the same bytes outside the slots
 pub record Frame (slots d e : List ℕ) : Type 0 where
   pub long : length e ≡ length d
   pub outside : (n : ℕ) → Outside slots n → getD e n 0 ≡ getD d n 0
 
--- what the first draft that holds a signature at p holds there
+-- the signature of the first draft that holds one at p, or blank if none does
 unfoldable pub heldAt : ℕ → List (List ℕ) → List ℕ
 unfolding join
 heldAt p [] = blank
 heldAt p (d ∷ ds) = join (slotAt d p) (heldAt p ds)
 
--- the bytes of the first, except that each slot has what one of them holds there
+-- the bytes of the first draft, except that each slot holds what `heldAt` finds there
 unfoldable pub mergeOf : Reader → List (List ℕ) → List ℕ
 unfolding heldAt putAll
 mergeOf R ds = putAll (R .slots (at ds 0)) (λ p. heldAt p ds) (at ds 0)
 
--- what the merge of a list is, whatever it is computed by
+-- what it means that m is the merge of a list, however it is computed
 pub record IsMerge (R : Reader) (ds : List (List ℕ)) (m : List ℕ) : Type 0 where
   -- accepted, and of the same unsigned transaction
   pub draft : Draft R m
@@ -61,18 +61,18 @@ pub record IsMerge (R : Reader) (ds : List (List ℕ)) (m : List ℕ) : Type 0 w
   -- "and is empty only if all are"; and if all are
   pub empty : (k : ℕ) → k < slotCount R m → (slot R m k ≡ blank) ↔ ((i : ℕ) → i < length ds → slot R (at ds i) k ≡ blank)
 
--- the merge of one or more drafts of one unsigned transaction, over the list alone
+-- the merge of one or more drafts of one unsigned transaction, stated of the list alone
 pub record MergeOfList (R : Reader) (ds : List (List ℕ)) : Type 0 where
   -- "exists exactly when no slot holds two different signatures among them"
   pub exists : ((m : List ℕ) × IsMerge R ds m) ↔ (Conflict R ds → ⊥)
-  -- and is then the bytes that `mergeOf` has
+  -- and is then the bytes of `mergeOf`
   pub merge : (Conflict R ds → ⊥) → IsMerge R ds (mergeOf R ds)
-  -- nothing else is
+  -- nothing else is the merge
   pub one : (m : List ℕ) → IsMerge R ds m → m ≡ mergeOf R ds
 
 -- ---- one grouping over a list
 
--- "answers 0 with a draft's length"; its buffer behind the result is as before
+-- "answers 0 with a draft's length"; the bytes of its buffer after the result are as before
 pub record Done (R : Reader) (ds : List (List ℕ)) (c : Call) : Type 0 where
   pub number : callNumber R c ≡ 0
   pub place : (i : ℕ) → i < length ds → callPlace R c ≡ length (at ds i)
@@ -96,7 +96,7 @@ pub record Promise (R : Reader) (ds : List (List ℕ)) (g : Grouping) : Type 0 w
   pub gives : (Conflict R ds → ⊥) → result R ds g ≡ some (mergeOf R ds)
   -- "a call that is refused ends the grouping .. and there is no result"
   pub no-result : Conflict R ds → result R ds g ≡ none
-  -- and it is always one of the two
+  -- a grouping always ends in one of the two: the merge as its result, or the conflict refusal
   pub ends : (result R ds g ≡ some (mergeOf R ds)) ⊎ Meets R ds g 20
 
 -- ---- one pair
@@ -106,7 +106,7 @@ pub record Pair (R : Reader) (d e out : List ℕ) : Type 0 where
   -- "a pair that agrees wherever both are filled never meets the conflict refusal"
   pub agreeing : ((k : ℕ) → k < slotCount R d → Filled (slot R d k) → Filled (slot R e k) → slot R d k ≡ slot R e k)
       → answerNumber (mergeCall R d e out .0) ≡ 20 → ⊥
-  -- and one of the same unsigned transaction meets it exactly where the two do not, with the first such slot
+  -- a pair of the same unsigned transaction meets it exactly if the two disagree in some slot, and reports the first such slot
   pub exactly : body R d ≡ body R e → (k : ℕ) → ((answerNumber (mergeCall R d e out .0) ≡ 20) × (answerPlace (mergeCall R d e out .0) ≡ k)) ↔ FirstClash R d e k
 
 -- ---- the demand

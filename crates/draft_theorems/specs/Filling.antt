@@ -36,20 +36,20 @@ abbrev pub Fills : Reader → ℕ → List (List ℕ) → List ℕ → List ℕ 
 Fills R k [] d e = d ≡ e
 Fills R k (s ∷ ss) d e = (fillCall R d k s .0 ≡ A.Done (length d)) × Fills R (suc k) ss (fillCall R d k s .1) e
 
--- what a done call of slot k and s leaves of d
+-- what a call of fill over d, with slot k and signature s, leaves in e if it is done
 pub record Leaves (R : Reader) (d : List ℕ) (k : ℕ) (s e : List ℕ) : Type 0 where
   pub draft : Draft R e
   pub same-unsigned : body R e ≡ body R d
   pub same-slots : R .slots e ≡ R .slots d
   pub outside : Frame (R .slots d) d e
-  -- a signature is there now; 65 zero bytes change nothing
+  -- the slot then holds the signature; 65 zero bytes change nothing
   pub holds : Filled s → slot R e k ≡ s
   pub unchanged : s ≡ blank → e ≡ d
   pub others : (j : ℕ) → j < slotCount R d → (j ≡ k → ⊥) → slot R e j ≡ slot R d j
 
--- of any draft d, any of its slots, and any 65 bytes
+-- for any draft d, any of its slots, and any 65 bytes
 pub record Filling (R : Reader) : Type 0 where
-  -- refused exactly where the slot holds another signature
+  -- refused exactly if the slot holds another signature
   pub refused : (d : List ℕ) → Draft R d → (k : ℕ) → k < slotCount R d → (s : List ℕ) → length s ≡ signatureWidth → Clash (slot R d k) s
       → fillCall R d k s ≡ (refuse conflict k, d)
   pub done : (d : List ℕ) → Draft R d → (k : ℕ) → k < slotCount R d → (s : List ℕ) → length s ≡ signatureWidth → (Clash (slot R d k) s → ⊥)
@@ -60,7 +60,7 @@ pub record Filling (R : Reader) : Type 0 where
   pub fills : (d : List ℕ) → Draft R d → (b : List ℕ) → BlankOf R d b → Fills R 0 (signatures R d) b d
   pub blank : (d : List ℕ) → Draft R d → BlankOf R d (emptied R d)
 
--- d is accepted and v is its reading: the blank transaction of v's unsigned part, filled with v's signatures
+-- d is accepted and v is its reading: the blank transaction of v's unsigned part, filled with v's signatures, is d
 pub record ReadingFilled (F : Family) : Type 0 where
   pub filled : (d : List ℕ) (v : Signed F) (n : ℕ) → Bytes d → check F d ≡ took v n
       → Fills (reader F) 0 (v .1) (Any.assemble (unsigned F) (wants F) (v .0) (blanks (layout (wants F (v .0))))) d

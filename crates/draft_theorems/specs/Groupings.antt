@@ -25,18 +25,18 @@ pub record Drafts (R : Reader) (ds : List (List ℕ)) : Type 0 where
 
 -- ---- groupings
 
--- whose calls are made first, and what becomes of the other side where a call of the one is refused
+-- which side's calls are made first, and whether the other side's are still made if one of them is refused
 pub data Sides : Type 0 where
-  -- the first side, then, where that has a result, the second
+  -- the first side, then the second if the first has a result
   firstBefore : Sides
-  -- the second side, then, where that has a result, the first
+  -- the second side, then the first if the second has a result
   secondBefore : Sides
-  -- each side, whatever becomes of the other
+  -- each side, whether the other has a result or not
   bothAnyway : Sides
 
 -- one draft of the list, with no call; or one merge call over the results of two groupings, with what its output buffer held before.
 -- A draft or result is a list here, and a call reads it as it was: an output buffer shares no byte with its own call's drafts, nor with a draft or
--- result that is still to be read, and until they are read nobody else writes them. That it has room for a draft is `Fits`
+-- result that is still to be read, and until they are read nobody else writes them. `Fits` states that each output buffer has room for a draft
 pub data Grouping : Type 0 where
   draft : ℕ → Grouping
   call : Sides → List ℕ → Grouping → Grouping → Grouping
@@ -46,7 +46,7 @@ abbrev pub Uses : Grouping → ℕ → Type 0
 Uses (draft j) i = j ≡ i
 Uses (call o out g h) i = Uses g i ⊎ Uses h i
 
--- it is over this list, and each output buffer has room for a draft
+-- the grouping is over this list, and each output buffer has room for a draft
 abbrev pub Fits : List (List ℕ) → Grouping → Type 0
 Fits ds (draft i) = i < length ds
 Fits ds (call o out g h) = ((i : ℕ) × (i < length ds) × (length (at ds i) ≤ length out)) × Fits ds g × Fits ds h
@@ -58,7 +58,7 @@ pub record Call : Type 0 where
   pub second : List ℕ
   pub out : List ℕ
 
--- what merge's contract promises of it: the answer, and the output buffer afterwards
+-- what merge's contract promises of a call: the answer, and the output buffer afterwards
 abbrev pub answered : Reader → Call → Answer × List ℕ
 answered R c = mergeCall R (c .first) (c .second) (c .out)
 
@@ -75,7 +75,7 @@ callBuffer R c = answered R c .1
 abbrev pub resultOf : Answer × List ℕ → Option (List ℕ)
 resultOf (a, out) = cond (eqb (answerNumber a) 0) (some (take (answerPlace a) out)) none
 
--- the call above two groupings, made where both have a result
+-- the call above two groupings, made if both have a result
 abbrev pub above : Reader → Option (List ℕ) → Option (List ℕ) → List ℕ → Option (List ℕ)
 above R none y out = none
 above R (some d) none out = none

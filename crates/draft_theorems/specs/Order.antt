@@ -15,7 +15,7 @@ use Rattle.draft_theorems.specs.Demand.{Conflict}
 abbrev pub Within : List (List ℕ) → List (List ℕ) → Type 0
 Within ds es = (i : ℕ) → i < length ds → (j : ℕ) × (j < length es) × (at es j ≡ at ds i)
 
--- one result, the same bytes; or each meets the conflict refusal
+-- both have a result, the same bytes; or both meet the conflict refusal
 abbrev pub Alike : Reader → List (List ℕ) → Grouping → List (List ℕ) → Grouping → Type 0
 Alike R ds g es h =
     ((m : List ℕ) × (result R ds g ≡ some m) × (result R es h ≡ some m))
@@ -31,8 +31,8 @@ abbrev pub Answers : Reader → List Call → ℕ → Type 0
 Answers R [] n = ⊥
 Answers R (c ∷ cs) n = (callNumber R c ≡ n) ⊎ Answers R cs n
 
--- calls of g made in any order, those of its sides among each other too, until one is refused or the result is there. Where every call of g is
--- marked `bothAnyway`, each whose two drafts are there may be among them
+-- calls of g made in any order, even with those of its two sides interleaved, until one is refused or the result is there. If every call of g is
+-- marked `bothAnyway`, every call whose two drafts are there may be among them
 pub record Evaluation (R : Reader) (ds : List (List ℕ)) (g : Grouping) (cs : List Call) : Type 0 where
   pub made : AllMade R ds g cs
   pub ended : ((n : ℕ) × (n ≡ 0 → ⊥) × Answers R cs n) ⊎ IsSome (result R ds g)
@@ -47,12 +47,12 @@ pub record Orders (R : Reader) : Type 0 where
       → (g : Grouping) → Fits ds g → ((i : ℕ) → i < length ds → Uses g i)
       → (h : Grouping) → Fits es h → ((i : ℕ) → i < length es → Uses h i)
       → Alike R ds g es h
-  -- in any run the conflict refusal is met exactly when there is a conflict
+  -- in any evaluation the conflict refusal is met exactly when there is a conflict
   pub runs : (ds : List (List ℕ)) → Drafts R ds → (g : Grouping) → Fits ds g → ((i : ℕ) → i < length ds → Uses g i)
       → (cs : List Call) → Evaluation R ds g cs → Answers R cs 20 ↔ Conflict R ds
   -- one draft merged with itself
   pub idempotent : (d out : List ℕ) → Draft R d → length d ≤ length out → resultOf (mergeCall R d d out) ≡ some d
-  -- two drafts, either first; whatever the buffers
+  -- two drafts, either first, whatever the buffers hold
   pub commutative : (d e o₁ o₂ : List ℕ) → Draft R d → Of R d e → length d ≤ length o₁ → length d ≤ length o₂
       → resultOf (mergeCall R d e o₁) ≡ resultOf (mergeCall R e d o₂)
   -- three drafts

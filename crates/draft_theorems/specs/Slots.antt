@@ -1,5 +1,5 @@
--- The slots that demand 3 speaks of are the signatures of the reading that demand 2 speaks of, and they stand behind the credential count, one
--- clear of the other. Assumes nothing.
+-- The slots that demand 3 speaks of are the signatures of the reading that demand 2 speaks of. They come after the credential count and do not
+-- overlap. Assumes nothing.
 use mathlib.Core.Path.{_≡_}
 use mathlib.Core.List.{List, []}
 use Prim.Native.Nat.{ℕ, _+_, _≤_, _<_}
@@ -22,15 +22,15 @@ pub record SlotsAre (F : Family) (d : List ℕ) (v : Signed F) : Type 0 where
   -- a slot is 65 bytes of d
   pub wide : (k : ℕ) → k < slotCount (reader F) d → length (slot (reader F) d k) ≡ signatureWidth
   pub inside : (k : ℕ) → k < slotCount (reader F) d → slotStart F d k + signatureWidth ≤ length d
-  -- behind the four bytes of the credential count
+  -- a slot comes after the four bytes of the credential count
   pub after-count : (k : ℕ) → k < slotCount (reader F) d → reader F .credentialsAt d + 4 ≤ slotStart F d k
   -- a slot ends before the next one starts, so no two overlap
   pub apart : (j k : ℕ) → j < k → k < slotCount (reader F) d → slotStart F d j + signatureWidth ≤ slotStart F d k
-  -- the bytes before the credential count are the unsigned part, as it is written
+  -- the bytes before the credential count are those of the unsigned part
   pub unsigned-part : body (reader F) d ≡ unsigned F .write (v .0)
 
 pub record SlotsOfReading (F : Family) : Type 0 where
-  -- the drafts of demand 3 are what has a reading
+  -- the drafts of demand 3 are exactly the bytes that have a reading
   pub reading : (d : List ℕ) → Draft (reader F) d → (v : Signed F) × (n : ℕ) × (check F d ≡ took v n)
   pub draft : (d : List ℕ) (v : Signed F) (n : ℕ) → Bytes d → check F d ≡ took v n → Draft (reader F) d
   pub slots : (d : List ℕ) (v : Signed F) (n : ℕ) → Bytes d → check F d ≡ took v n → SlotsAre F d v
