@@ -1,4 +1,4 @@
--- That everything that is claimed holds. Assumes nothing.
+-- The proof of everything that is claimed. Assumes nothing.
 use Rattle.transaction.specs.Avm.{avm}
 use Rattle.transaction.specs.Answer.{memoMost}
 use Rattle.transaction.proofs.Codec.{codec}

@@ -1,4 +1,4 @@
--- That what the writer finishes and fill fills is the transaction. Assumes nothing.
+-- What the writer finishes, with its slots filled by calls of fill, is the transaction. Assumes nothing.
 use Prim.Native.Nat.{ℕ}
 use mathlib.Core.Path.{subst⁻¹}
 use mathlib.Core.List.{List}

@@ -1,4 +1,4 @@
--- That what demand 3 supposes can be met. Assumes nothing.
+-- The hypotheses of demand 3 can be met. Assumes nothing.
 use mathlib.Core.Path.{_≡_, refl, sym, ap, _∙_}
 use mathlib.Core.Logic.{inl, inr}
 use mathlib.Core.Bool.{Bool, true, _&&_}

@@ -1,4 +1,4 @@
--- That the claims hold
+-- Proofs of the claims
 pub mod Standing
 pub mod Answering
 pub mod Occurring

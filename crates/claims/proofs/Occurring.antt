@@ -1,4 +1,4 @@
--- Each number of a call's list occurs: calls that are computed. Assumes nothing.
+-- Each number in a call's list occurs, as the computed answer of some call. Assumes nothing.
 use Prim.Native.Nat.{ℕ, zero, suc, _<_}
 use mathlib.Core.Path.{_≡_, refl, sym, ap, _∙_, subst}
 use mathlib.Core.Logic.{⊎-elim}

@@ -1,4 +1,4 @@
--- In an accepted transaction each entry lies inside the bytes, and its element stands there. Assumes nothing.
+-- In an accepted transaction each entry lies inside the bytes, and its element's bytes are there. Assumes nothing.
 use Prim.Native.Nat.{ℕ, zero, suc, _+_, _-_, _*_, _≤_}
 use mathlib.Core.Path.{_≡_, refl, sym, ap, _∙_, subst}
 use mathlib.Core.Bool.{Bool, true, false}

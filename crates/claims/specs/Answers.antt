@@ -1,6 +1,6 @@
--- Demand 1 of document 00, of the calls that read: whatever the bytes, the answer has a number of the call's list, a refusal changes nothing that
--- was lent, and bytes that are not accepted get the check's own number and place. That a call ends and stays inside the memory lent is what it means
--- that the function with this answer is proved. Assumes nothing.
+-- Demand 1 of document 00, for the calls that read: whatever the bytes, the answer has a number of the call's list, a refusal changes nothing that
+-- was lent, and bytes that are not accepted get the check's own number and place. That a call ends and stays inside the memory lent is part of what
+-- a proved function is. Assumes nothing.
 use Prim.Native.Nat.{ℕ, _*_, _≤_, _<_}
 use mathlib.Core.Path.{_≡_}
 use mathlib.Core.Logic.{_↔_}
@@ -37,11 +37,11 @@ use Rattle.entry.specs.declared.EntryAnswer.the-variants as E
 abbrev pub checkNumbers : List ℕ
 checkNumbers = 0 ∷ 1 ∷ 2 ∷ 3 ∷ 4 ∷ 5 ∷ 6 ∷ 7 ∷ 8 ∷ 9 ∷ 10 ∷ 11 ∷ 12 ∷ 13 ∷ []
 
--- no room in the lent table
+-- 14 is no room in the lent table
 abbrev pub tableNumbers : List ℕ
 tableNumbers = 14 ∷ checkNumbers
 
--- no such entry
+-- 15 is no such entry
 abbrev pub entryNumbers : List ℕ
 entryNumbers = 15 ∷ checkNumbers
 
@@ -59,10 +59,10 @@ pub record Lists (call : List ℕ → List ℕ → Filled) (count : List ℕ →
   pub number : (s t : List ℕ) → OneOf (tabledNumber (call s t .answer)) tableNumbers
   -- bytes that are not accepted get the check's own refusal, whatever the room
   pub refused-bytes : (s t : List ℕ) (e : Refusal) → check (avm memoMost) s ≡ refused e → call s t ≡ filled (T.Refused e) t
-  -- accepted bytes whose rows fit: every row stands at the front, and each number beyond them is as before
+  -- accepted bytes whose rows fit: all rows are at the front, and each number beyond them is as before
   pub listed : (s t : List ℕ) (v : Signed (avm memoMost)) (n : ℕ) → check (avm memoMost) s ≡ took v n → 3 * count s v ≤ length t
       → call s t ≡ filled (T.Listed (count s v) n) (rows s v ++ drop (3 * count s v) t)
-  -- accepted bytes whose rows do not fit: 14 at 0
+  -- accepted bytes whose rows do not fit: 14 at place 0
   pub no-room : (s t : List ℕ) (v : Signed (avm memoMost)) (n : ℕ) → check (avm memoMost) s ≡ took v n → length t < 3 * count s v
       → call s t ≡ filled (T.Refused (refusal noRoom 0)) t
   -- a refusal has no rows and changes no number of the table
@@ -78,16 +78,16 @@ TableAnswers = Lists (tabled memoMost) (λ s v. length (entries (avm memoMost) v
 -- the slots in a lent table: a row for each slot
 pub record SlotsAnswers : Type 0 where
   pub lists : Lists (tabledSlots memoMost) (λ s v. length (slots memoMost s)) (λ s v. Slots.rows s (slots memoMost s))
-  -- the places are those of the slots that demand 3 speaks of, in their order
+  -- the offsets are those of the slots that demand 3 speaks of, in their order
   pub places : (s : List ℕ) → map (λ x. x .place) (slots memoMost s) ≡ reader (avm memoMost) .slots s
-  -- and a row's last number is 0 exactly where the slot is empty
+  -- a row's last number is 0 exactly if the slot is empty
   pub empty : (s : List ℕ) (p : ℕ) → (filledAt s p ≡ 0) ↔ (slotAt s p ≡ blank)
-  -- and 1 where it is filled
+  -- and 1 if it is filled
   pub not-empty : (s : List ℕ) (p : ℕ) → (slotAt s p ≡ blank → ⊥) → filledAt s p ≡ 1
 
 -- ---- entry n
 
--- the element whose entry e is, and that its bytes, field after field as document 01 lays them out, stand in s from e's start to its end
+-- e is the entry of an element, whose bytes, field after field as document 01 lays them out, are those of s from e's start to its end
 pub data StandsAs (s : List ℕ) (e : EntryAt) : Type 0 where
   anOutput : (o : TransferableOutput) → e ∷ [] ≡ Entries.outputEntry (e .start) (e .end) o
       → between (e .start) (e .end) s ≡ transferableOutputBytes o → StandsAs s e
@@ -106,14 +106,14 @@ pub record EntryAnswers : Type 0 where
   pub number : (s : List ℕ) (n : ℕ) → OneOf (entryNumber (entryOf memoMost s n .answer)) entryNumbers
   -- bytes that are not accepted get the check's own refusal first
   pub refused-bytes : (s : List ℕ) (n : ℕ) (e : Refusal) → check (avm memoMost) s ≡ refused e → entryOf memoMost s n .answer ≡ E.Refused e
-  -- then the fields of entry n of the reading, with the bytes of the transaction as place
+  -- then the fields of entry n of the reading, with the length of the transaction as place
   pub found : (s : List ℕ) (n : ℕ) (v : Signed (avm memoMost)) (bytes : ℕ) (e : EntryAt) → check (avm memoMost) s ≡ took v bytes
       → entry (avm memoMost) v n ≡ some e → entryOf memoMost s n ≡ foundEntry bytes e
-  -- which lies inside the transaction, and is there
+  -- the entry lies inside the transaction, and its element's bytes are there
   pub inside : (s : List ℕ) (n : ℕ) (v : Signed (avm memoMost)) (bytes : ℕ) (e : EntryAt) → Bytes s → check (avm memoMost) s ≡ took v bytes
       → entry (avm memoMost) v n ≡ some e → (e .start ≤ e .end) × (e .end ≤ length s)
   pub stands : (s : List ℕ) (n : ℕ) (v : Signed (avm memoMost)) (bytes : ℕ) (e : EntryAt) → Bytes s → check (avm memoMost) s ≡ took v bytes
       → entry (avm memoMost) v n ≡ some e → StandsAs s e
-  -- or 15 at 0 where the reading has no such entry
+  -- 15 at place 0 if the reading has no such entry
   pub missing : (s : List ℕ) (n : ℕ) (v : Signed (avm memoMost)) (bytes : ℕ) → check (avm memoMost) s ≡ took v bytes
       → entry (avm memoMost) v n ≡ none → entryOf memoMost s n .answer ≡ E.Refused (refusal noEntry 0)

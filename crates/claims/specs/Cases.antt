@@ -78,14 +78,14 @@ published = front ++ outputList ++ inputList ++ memoBytes ++ credentialList
 abbrev pub edited : ℕ → List ℕ → List ℕ → List ℕ
 edited at ys s = take at s ++ ys ++ drop (at + length ys) s
 
--- indices in order; and case A: type 0 in place of 1 too
+-- the example with its indices in order; and case A, which also has type 0 instead of 1
 abbrev ordered : List ℕ
 ordered = edited 234 (0 ∷ 0 ∷ 0 ∷ 3 ∷ 0 ∷ 0 ∷ 0 ∷ 7 ∷ []) published
 
 abbrev pub A : List ℕ
 A = edited 5 (0 ∷ []) ordered
 
--- what an empty slot has
+-- the content of an empty slot
 abbrev pub empty : List ℕ
 empty = replicate 65 0
 
@@ -172,10 +172,10 @@ table =
     ∷ fills A 1 (take 65 (drop 262 A)) 20 1 A
     ∷ fills A 1 (take 64 (drop 327 A)) 21 0 A
     ∷ fills A 2 (take 65 (drop 327 A)) 15 0 A
-    -- the signed example as published; and with its indices put right, which is type 1 over a base body
+    -- the signed example as published; and with its indices in order, which is type 1 over a base body
     ∷ checks published 6 238
     ∷ checks ordered 8 250
-    -- the operation that lacks its locktime: its second address is not there
+    -- the operation that lacks its locktime: its second address is cut short
     ∷ reads withoutLocktime 2 135
     ∷ []
 

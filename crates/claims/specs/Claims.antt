@@ -1,5 +1,5 @@
 -- EVERYTHING THAT IS CLAIMED of the calls that users are offered: a field for each statement, in the order of document 00's demands. docs/CLAIMS.md
--- has the same order, with each sentence of the papers beside its field. Proved as `claims`, of proofs/Claims. Assumes nothing.
+-- has the same order, with each sentence of the papers beside its field. Proved as `claims`, in proofs/Claims. Assumes nothing.
 --
 -- The calls are given by definitions: `checked`, `tabled`, `entryOf`, `tabledSlots`, `mergeCall`, `fillCall`, `call` (the writer's methods), and
 -- `packed` (the answers to C). The contract of each public function says that its answer, its state and every lent byte equal these, whatever it is
@@ -30,7 +30,7 @@ use Rattle.claims.specs.RoundTrip.{RoundTrips}
 use Rattle.claims.specs.Instance.{Instances}
 use Rattle.claims.specs.Cases.{AllHold, table}
 
--- "answers with a number from document 01's table .. A refusal changes no lent byte and no builder state": the numbers of each call are a list
+-- "answers with a number from document 01's table .. A refusal changes no lent byte and no builder state": each call has a list of its numbers
 pub record Demand1 : Type 0 where
   pub check : CheckAnswers
   pub check-with-table : TableAnswers
@@ -40,10 +40,10 @@ pub record Demand1 : Type 0 where
   -- "checks 17, 18, 19, 20, 14 in that order"; fill "17, 15, 21, then 20"
   pub merge-and-fill-decide : CallsDecide (reader (avm memoMost))
   pub writer : MethodsOwe memoMost
-  -- each number of a list is answered by some call, so that the lists are exact
+  -- each number of a list is the answer of some call, so the lists are exact
   pub numbers-occur : NumbersOccur
   pub writer-numbers-occur : WriterNumbersOccur memoMost
-  -- the answer to C is one number, from which number and place, or rows, are got back
+  -- the answer to C is one integer, from which the caller gets back the number, and the place or the rows
   pub phone : Unpacked
   pub operator : Unlisted
 
@@ -56,7 +56,7 @@ pub record Demand2 : Type 0 where
   pub lengths : Lengths
   -- "whatever the writer finishes, each step given the state and buffer the last one left, is accepted"
   pub finished : MethodsFinish memoMost
-  -- "writing that reading, room given, then filling in its signatures": the calls that the reading spells are typed and done
+  -- "writing that reading, room given, then filling in its signatures": the calls that write the reading are typed and done
   pub written : MethodsRoundTrip memoMost
   -- ".. gives the same bytes": calls of the writer's methods and of fill alone
   pub round-trips : RoundTrips
@@ -76,7 +76,7 @@ pub record Claims : Type 1 where
   pub filling : Filling (reader (avm memoMost))
   -- P1 to P14 and the bad examples, as one table
   pub cases : AllHold table
-  -- ---- of every family of transactions, so of one to come too
+  -- ---- for every family of transactions, and so for one that is added later
   pub codecs : (F : Family) → Codec F
   pub first-broken-rules : (F : Family) → FirstBroken F
   pub slots-of-readings : (F : Family) → SlotsOfReading F

@@ -1,4 +1,4 @@
--- What demand 3 supposes can be met, with a conflict and without one: by the drafts of P13 and of P14, and one call over them. Assumes nothing.
+-- The hypotheses of demand 3 can be met, with a conflict and without one: by the drafts of P13 and of P14, and one call over them. Assumes nothing.
 use mathlib.Core.Path.{_≡_}
 use mathlib.Core.Option.{none, some}
 use mathlib.Core.List.{List, [], _∷_}
@@ -26,7 +26,7 @@ clashing = A ∷ edited 391 (1 ∷ []) A ∷ []
 abbrev pub oneCall : Grouping
 oneCall = call firstBefore (replicate 400 9) (draft 0) (draft 1)
 
--- what demand 3 supposes of a list and a grouping over it
+-- the hypotheses of demand 3 on a list and a grouping over it
 pub record Supposed (ds : List (List ℕ)) (g : Grouping) : Type 0 where
   pub drafts : Drafts Avm ds
   pub fits : Fits ds g

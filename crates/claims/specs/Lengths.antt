@@ -13,7 +13,7 @@ use Rattle.element.specs.PlainBytes.{outputBytes, inputBytes}
 abbrev pub AddressesOf20 : Owners → Type 0
 AddressesOf20 o = All (λ address. length address ≡ 20) (o .addresses)
 
--- n addresses, n indices; the first 68 bytes of an input are its transaction id, its index and its asset id
+-- by how many addresses or indices there are; the first 68 bytes of an input are its transaction id, its index and its asset id
 pub record Lengths : Type 0 where
   pub output-7 : (amount : ℕ) (o : Owners) → AddressesOf20 o → length (outputBytes (secpTransfer, (amount, o))) ≡ 28 + 20 * length (o .addresses)
   pub output-6 : (o : Owners) → AddressesOf20 o → length (outputBytes (secpMint, o)) ≡ 20 + 20 * length (o .addresses)

@@ -1,4 +1,4 @@
--- Each number of a call's list is answered to some bytes, so that the lists are exact; those of the writer are in writer_theorems/specs/Occurring.
+-- Each number in a call's list is the answer to some bytes, so the lists are exact. Those of the writer are in writer_theorems/specs/Occurring.
 -- Assumes nothing.
 use Prim.Native.Nat.{ℕ}
 use mathlib.Core.Path.{_≡_}

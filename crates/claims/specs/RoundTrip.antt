@@ -1,4 +1,4 @@
--- Demand 2's round trip, of calls alone: the writer's methods and fill. Assumes nothing.
+-- Demand 2's round trip, by calls alone: the writer's methods and fill. Assumes nothing.
 use Prim.Native.Nat.{ℕ, _≤_}
 use mathlib.Core.Path.{_≡_}
 use mathlib.Core.List.{List}
@@ -14,9 +14,9 @@ use Rattle.writer.specs.declared.Written.the-variants as W
 use Rattle.writer_theorems.specs.Calls.{AllCallsDone, readingCalls, finishBehind}
 use Rattle.draft_theorems.specs.Filling.{Fills}
 
--- d is accepted, v is its reading, and the buffer s has room for it, whatever it holds
+-- d is accepted, v is its reading, and the buffer s has room for d, whatever s holds
 pub record RoundTrip (d : List ℕ) (v : Signed (avm memoMost)) (s : List ℕ) : Type 0 where
-  -- the calls that write the reading, and finish behind them, are done
+  -- the calls that write the reading, and finish after them, are done
   pub written : AllCallsDone memoMost (readingCalls memoMost (v .0)) fresh s
   pub finished : finishBehind memoMost (readingCalls memoMost (v .0)) s .step .answer ≡ W.Done (length d)
   -- then the calls of fill that put the reading's signatures into slots 0, 1, .. of what was finished are done, and leave d

@@ -1,2 +1,2 @@
-// The claims of the library are in specs/: the table of proved cases, the answers of the entries that read, the lengths of elements, and the round
+// The claims of the library are in specs/: the table of proved cases, the answers of the calls that read, the lengths of elements, and the round
 // trip by calls.
