@@ -1,3 +1,3 @@
--- What is proved of the answers to the operator's command
+-- Laws of the answers to the operator's command
 pub mod Listing
 pub mod Unlisting

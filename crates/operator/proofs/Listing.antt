@@ -1,4 +1,4 @@
--- The answer with a lent table as one number. Assumes nothing.
+-- The answer of a call with a lent table as one integer. Assumes nothing.
 use Prim.Native.Nat.{ℕ, _+_, _*_, _%_}
 use mathlib.Core.Path.{_≡_, ap, _∙_}
 use mathlib.Core.List.{List}

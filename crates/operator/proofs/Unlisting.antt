@@ -1,4 +1,4 @@
--- Rows and places of the answers with a table are small, so that each answer can be taken apart again. Assumes nothing.
+-- Rows and places of the answers of calls with a lent table are small, so each answer can be unpacked again. Assumes nothing.
 use Prim.Native.Nat.{ℕ, _*_, _+_, _%_, _≤_}
 use mathlib.Core.Path.{_≡_, refl, sym, ap, subst⁻¹}
 use mathlib.Core.Bool.{Bool, true, false}

@@ -1,2 +1,2 @@
--- What the operator's command is answered
+-- The answers to the operator's command
 pub mod Listing

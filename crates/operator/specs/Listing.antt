@@ -1,4 +1,4 @@
--- The answer with a lent table as one number of 64 bits, with what the table holds then, and that number taken apart again. Assumes nothing.
+-- The answer of a call with a lent table, packed into one integer of 64 bits and unpacked again, and the table afterwards. Assumes nothing.
 use Prim.Native.Nat.{ℕ, _+_, _*_, _%_}
 use mathlib.Core.List.{List}
 use lib.Dec.{eqb}
@@ -16,7 +16,7 @@ pub record Listing : Type 0 where
 abbrev pub listing : ℕ → List ℕ → Listing
 listing a t = record { answer = a; table = t }
 
--- the rows written where the number is 0, else the place
+-- how many rows were written if the number is 0, else the place
 abbrev pub reported : Tabled → ℕ
 reported a = pick (eqb (tabledNumber a) 0) (tabledRows a) (tabledPlace a)
 

@@ -1,4 +1,4 @@
-// The functions that the operator's command calls beside those of the phone program.
+// The functions that the operator's command calls in addition to those of the phone program.
 ghost use mathlib.Core.Path.{_≡_};
 ghost use Rattle.transaction.specs.Answer.{memoMost};
 ghost use Rattle.entry_table.specs.Table.{tabled};
@@ -6,7 +6,7 @@ ghost use Rattle.draft_slot_table.specs.Table.{tabledSlots};
 ghost use Rattle.operator.specs.Listing.{packed, listing, listed};
 use entry_table::Tabled;
 
-// How many rows were written, or number × 2^32 + place.
+// An answer as one integer: how many rows were written, or number × 2^32 + place.
 fn word(answer: Tabled) -> u64
     ensures { λ r. ⌜ r ≡ packed answer ⌝ }
 {
@@ -19,7 +19,7 @@ fn word(answer: Tabled) -> u64
     }
 }
 
-// The check with a lent table, in which each entry has a row: kind, start, length.
+// Checks a transaction and lists its entries in a lent table, a row each: kind, start, length.
 #[no_mangle]
 pub extern "C" fn cellfacet_rows(bytes: &[u8], table: &mut [u32]) -> u64
     ensures { λ r. ⌜ listing r (now (table .exit)) ≡ listed (tabled memoMost (now (bytes .entry)) (now (table .entry))) ⌝ }
@@ -27,7 +27,7 @@ pub extern "C" fn cellfacet_rows(bytes: &[u8], table: &mut [u32]) -> u64
     word(entry_table::rows::check_table(bytes, table))
 }
 
-// The check with a lent table, in which each slot has a row: credential, place, filled.
+// Checks a transaction and lists its slots in a lent table, a row each: credential, offset, filled.
 #[no_mangle]
 pub extern "C" fn cellfacet_slots(bytes: &[u8], table: &mut [u32]) -> u64
     ensures { λ r. ⌜ listing r (now (table .exit)) ≡ listed (tabledSlots memoMost (now (bytes .entry)) (now (table .entry))) ⌝ }

@@ -1,3 +1,3 @@
--- What is proved of the answers to the phone program
+-- Laws of the answers to the phone program
 pub mod Packing
 pub mod Unpacking

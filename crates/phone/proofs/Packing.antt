@@ -1,4 +1,4 @@
--- The answers of check and merge as one number. Assumes nothing.
+-- The answers of check and merge as one integer. Assumes nothing.
 use Prim.Native.Nat.{ℕ, _≤_}
 use lib.Dec.{leb}
 use mathlib.Core.Path.{_≡_, refl, sym, ap, _∙_, subst}

@@ -1,4 +1,4 @@
--- Number and place of the answers to C are small, so that each answer can be taken apart again. Assumes nothing.
+-- Number and place of the answers to C are small, so each answer can be unpacked again. Assumes nothing.
 use Prim.Native.Nat.{ℕ}
 use mathlib.Core.Path.{_≡_, refl, sym, ap}
 use mathlib.Core.List.{List}

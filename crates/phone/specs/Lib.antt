@@ -1,2 +1,2 @@
--- What the phone program is answered
+-- The answers to the phone program
 pub mod Packed

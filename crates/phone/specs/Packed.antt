@@ -1,4 +1,4 @@
--- A number of the table and a place as one number of 64 bits, and that one taken apart again. Assumes nothing.
+-- A number of the table and a place, packed into one integer of 64 bits and unpacked again. Assumes nothing.
 use Prim.Native.Nat.{ℕ, _+_, _*_}
 use mathlib.Core.List.{List}
 use Rattle.wire.specs.Bytes.{Bytes}

@@ -1,4 +1,4 @@
-// The functions that a C program calls, each answering number × 2^32 + place.
+// The functions that a C program calls. Each returns number × 2^32 + place.
 ghost use mathlib.Core.Path.{_≡_};
 ghost use Prim.Native.Nat.{_≤_};
 ghost use Rattle.wire.specs.Numbers.{numberOf};
@@ -22,7 +22,7 @@ fn word(refusal: Refusal) -> u64
     wire::number_of(rule) as u64 * 4294967296 + refusal.place as u64
 }
 
-// Accepted, and how many bytes; or the first broken rule and its place.
+// Checks a transaction. Returns 0 and its length if it is accepted, else the number and place of the first broken rule.
 #[no_mangle]
 pub extern "C" fn cellfacet_check(bytes: &[u8]) -> u64
     ensures { λ r. ⌜ r ≡ packed (verdict (check (avm memoMost) (now (bytes .entry)))) ⌝ }
@@ -33,7 +33,7 @@ pub extern "C" fn cellfacet_check(bytes: &[u8]) -> u64
     }
 }
 
-// The merge at the front of out, and how many bytes; or the refusal, and out as it was.
+// Merges two drafts into the front of `out`. Returns 0 and the length of the merge; a refusal leaves `out` as it was.
 #[no_mangle]
 pub extern "C" fn cellfacet_merge(first: &[u8], second: &[u8], out: &mut [u8]) -> u64
     ensures { λ r. ⌜ (r, now (out .exit)) ≡ packedCall (mergeCall (reader (avm memoMost)) (now (first .entry)) (now (second .entry)) (now (out .entry))) ⌝ }
