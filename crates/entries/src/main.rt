@@ -1,9 +1,9 @@
-// Prints the entries of the transaction in a file, a row to a line: kind, start, length. A refusal is one line: number, place.
+// Prints the entries of the transaction in a file, one row per line: kind, start, length. A refusal is one line: number, place.
 use entry_table::Tabled;
 use libc::STDOUT_FILENO;
 use wire::Refusal;
 
-// What reading a file to its end, or to the buffer's, finds.
+// The result of reading a file up to its end or the buffer's.
 enum Loaded {
     Bytes(usize),
     Failed,
@@ -49,7 +49,7 @@ fn print_refusal(refusal: Refusal) {
     io::write_all(STDOUT_FILENO, b"\n");
 }
 
-// The entries of the first n bytes: at most 3,272 stand in 65,536.
+// Prints the entries of the first `n` bytes. A transaction of 65,536 bytes has at most 3,272.
 fn print_entries(buf: &[u8], n: usize) {
     if buf.len() < n {
         return;
@@ -65,7 +65,7 @@ fn print_entries(buf: &[u8], n: usize) {
     }
 }
 
-// One byte more than a transaction may have is read, and no further one.
+// Prints the entries of an open file. Reads at most one byte more than a transaction may have, enough to see that it is too long.
 fn show(fd: i32, path: &[u8]) {
     let mut buf = [0u8; 65537];
     let Loaded::Bytes(n) = load(fd, &mut buf) else {

@@ -1,3 +1,3 @@
--- What is proved of the answers to a test
+-- Laws of the answers to a test
 pub mod Telling
 pub mod Putting

@@ -1,4 +1,4 @@
--- Numbers put one behind the other. Assumes nothing.
+-- Integers stored one after the other. Assumes nothing.
 use Prim.Native.Nat.{ℕ, zero, suc, _≤_}
 use mathlib.Core.Path.{_≡_, refl, ap, _∙_}
 use mathlib.Core.List.{List, [], _∷_}

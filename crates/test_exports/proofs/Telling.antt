@@ -1,4 +1,4 @@
--- The answer with a lent table as one number, and the answer to a fill as two. Assumes nothing.
+-- The answer of the check with a lent table as one integer, and the answer of a fill as two. Assumes nothing.
 use Prim.Native.Nat.{ℕ, _+_, _*_, _%_}
 use native.Mathlib.Nat.{zero-add}
 use mathlib.Core.Path.{_≡_, sym, ap, _∙_}

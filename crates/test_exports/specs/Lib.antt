@@ -1,3 +1,3 @@
--- What a test is answered
+-- The answers to a test
 pub mod Probed
 pub mod Values

@@ -1,4 +1,4 @@
--- The answer of the check with a lent table as one number of 64 bits, with what the table holds then. Assumes nothing.
+-- The answer of the check with a lent table as one integer of 64 bits, and the table afterwards. Assumes nothing.
 use Prim.Native.Nat.{ℕ, _+_, _*_, _%_}
 use mathlib.Core.List.{List, [], _∷_}
 use Rattle.entry_table.specs.Table.{Filled, tabledNumber, tabledPlace, tabledRows}
@@ -20,6 +20,6 @@ packed a = tabledNumber a % 1048576 * 1099511627776 + (tabledRows a % 1048576 * 
 abbrev pub encoded : Filled → Probed
 encoded f = probed (packed (f .answer)) (f .table)
 
--- the answer to a fill as number and place, with what the draft holds then
+-- the answer of a fill as number and place, and the draft afterwards
 abbrev pub encodedFill : Answer × List ℕ → List ℕ × List ℕ
 encodedFill (a, d) = (answerNumber a ∷ answerPlace a ∷ [], d)

@@ -1,4 +1,4 @@
--- Entry n as numbers, each at a place of its own in a lent buffer. Assumes nothing.
+-- Entry n as integers, each at its own index of a lent array. Assumes nothing.
 use Prim.Native.Nat.{ℕ}
 use mathlib.Core.List.{List, [], _∷_, _++_}
 use lib.ListN.{length, take, drop, set}
@@ -17,7 +17,7 @@ use Rattle.entry.specs.declared.EntryAnswer.{EntryAnswer}
 use Rattle.entry.specs.declared.EntryAnswer.the-variants as A
 use Rattle.entry.specs.declared.EntryRead.{EntryRead}
 
--- a place and the number put there
+-- an index and the integer stored there
 abbrev pub Value : Type 0
 Value = ℕ × ℕ
 
@@ -25,37 +25,37 @@ unfoldable pub putAt : List Value → List ℕ → List ℕ
 putAt [] t = t
 putAt (v ∷ l) t = putAt l (set t (v .0) (v .1))
 
--- 10 locktime, 11 threshold, 12 place of the addresses, 13 how many
+-- 10 locktime, 11 threshold, 12 offset of the addresses, 13 their count
 abbrev pub ownersValues : OwnersFields → List Value
 ownersValues o = (10, o .locktime) ∷ (11, o .threshold) ∷ (12, o .«addresses_at») ∷ (13, o .«addresses_count») ∷ []
 
--- 5 type, 6 amount, 7 group, 8 place of the payload, 9 its length
+-- 5 type, 6 amount, 7 group, 8 offset of the payload, 9 its length
 abbrev pub outputValues : OutputFields → List Value
 outputValues (O.SecpMint o) = (5, 6) ∷ ownersValues o
 outputValues (O.SecpTransfer amount o) = (5, 7) ∷ (6, amount) ∷ ownersValues o
 outputValues (O.NftMint group o) = (5, 10) ∷ (7, group) ∷ ownersValues o
 outputValues (O.NftTransfer group at long o) = (5, 11) ∷ (7, group) ∷ (8, at) ∷ (9, long) ∷ ownersValues o
 
--- 14 output index, 15 place of the address indices, 16 how many
+-- 14 output index, 15 offset of the address indices, 16 their count
 abbrev pub inputValues : InputFields → List Value
 inputValues i = (6, i .amount) ∷ (14, i .index) ∷ (15, i .«indices_at») ∷ (16, i .«indices_count») ∷ []
 
--- 19 place of a mint's owners, 20 how many
+-- 19 offset of a mint's owners, 20 their count
 abbrev pub recipientsValues : Recipients → List Value
 recipientsValues (R.Mint at count) = (5, 12) ∷ (19, at) ∷ (20, count) ∷ []
 recipientsValues (R.Transfer o) = (5, 13) ∷ ownersValues o
 
--- 17 place of the pairs, 18 how many
+-- 17 offset of the pairs, 18 their count
 abbrev pub operationValues : OperationFields → List Value
 operationValues o =
     (17, o .«outputs_at») ∷ (18, o .«outputs_count») ∷ (15, o .terms .«indices_at») ∷ (16, o .terms .«indices_count») ∷ (7, o .terms .group)
     ∷ (8, o .terms .«payload_at») ∷ (9, o .terms .«payload_length») ∷ recipientsValues (o .recipients)
 
--- 21 place of the signatures, 22 how many
+-- 21 offset of the signatures, 22 their count
 abbrev pub credentialValues : CredentialFields → List Value
 credentialValues c = (5, c .«type_id») ∷ (21, c .«signatures_at») ∷ (22, c .«signatures_count») ∷ []
 
--- 2 kind
+-- 2 entry kind
 abbrev pub entryValues : Entry → List Value
 entryValues (E.Output f) = (2, 1) ∷ outputValues f
 entryValues (E.Input f) = (2, 2) ∷ inputValues f

@@ -1,4 +1,4 @@
-// Calls for tests in C or Rust: the check with a lent table, entry n as numbers at fixed places of a lent buffer, and the filling of a slot.
+// Functions for tests in C or Rust: the check with a lent table, entry n as integers at fixed indices of a lent array, and filling a slot.
 ghost use mathlib.Core.Path.{_≡_};
 ghost use lib.ListN.{set};
 ghost use Rattle.entry_table.specs.Table.{tabled};
@@ -21,7 +21,7 @@ use entry_table::Tabled;
 use transaction::CredentialFields;
 use transaction::Entry;
 
-// number × 2^40 + rows × 2^20 + place.
+// Checks a transaction and lists its entries in a lent table. Returns number × 2^40 + rows × 2^20 + place.
 #[no_mangle]
 pub extern "C" fn cellfacet_test_table(bytes: &[u8], table: &mut [u32]) -> u64
     ensures { λ r. ⌜ probed r (now (table .exit)) ≡ encoded (tabled memoMost (now (bytes .entry)) (now (table .entry))) ⌝ }
@@ -190,7 +190,7 @@ fn put_answer(numbers: &mut [u64], answer: EntryAnswer)
     }
 }
 
-// Entry n: its numbers, each at its place where there is room, and its identifiers.
+// Stores entry `n`: its integers, each at its index if `numbers` has it, and its identifiers.
 #[no_mangle]
 pub extern "C" fn cellfacet_test_entry(
     bytes: &[u8],
@@ -209,7 +209,7 @@ pub extern "C" fn cellfacet_test_entry(
     wire::put_bytes(txid, &read.txid);
 }
 
-// Fills a slot of a draft, and puts the answer's number and place.
+// Fills a slot of a draft, and stores the answer's number and place.
 #[no_mangle]
 pub extern "C" fn cellfacet_test_fill(
     draft: &mut [u8],

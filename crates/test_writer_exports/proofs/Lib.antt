@@ -1,2 +1,2 @@
--- What is proved of the answers to a test of the writer
+-- Laws of the answers to a test of the writer
 pub mod Telling

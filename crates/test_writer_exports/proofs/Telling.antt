@@ -1,4 +1,4 @@
--- A step's answer as numbers. Assumes nothing.
+-- A step's answer as integers. Assumes nothing.
 use Prim.Native.Nat.{ℕ}
 use mathlib.Core.Path.{_≡_, sym, ap, _∙_}
 use mathlib.Core.List.{List}

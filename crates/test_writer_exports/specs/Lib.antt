@@ -1,2 +1,2 @@
--- What a test of the writer is answered
+-- The answers to a test of the writer
 pub mod Told

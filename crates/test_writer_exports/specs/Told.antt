@@ -1,4 +1,4 @@
--- The writer's state as six numbers, and behind them a step's number and place. Assumes nothing.
+-- The writer's state as six integers, followed by a step's number and place. Assumes nothing.
 use Prim.Native.Nat.{ℕ, _%_}
 use mathlib.Core.List.{List, [], _∷_}
 use lib.ListN.{getD}
@@ -6,7 +6,7 @@ use Rattle.writer.specs.declared.Writer.{Writer}
 use Rattle.writer.specs.declared.Step.{Step}
 use Rattle.writer.specs.Steps.{Turn, writtenNumber, writtenPlace}
 
--- 0 type, 1 parts begun, 2 bytes written, 3 place of the open list's count, 4 its elements, 5 place of the last of them
+-- 0 type, 1 segments begun, 2 bytes written, 3 offset of the open list's count, 4 how many elements it has, 5 offset of the last one
 abbrev pub writerOf : List ℕ → Writer
 writerOf n =
     record {
@@ -25,7 +25,7 @@ numbersOf w number place = w .«type_id» ∷ w .phase ∷ w .at ∷ w .list ∷
 abbrev pub encoded : Step → List ℕ
 encoded r = numbersOf (r .next) (writtenNumber (r .answer)) (writtenPlace (r .answer))
 
--- the numbers and the buffer behind a step
+-- the integers and the buffer after a step
 pub record Probed : Type 0 where
   pub numbers : List ℕ
   pub buffer : List ℕ

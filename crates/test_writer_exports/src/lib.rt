@@ -1,4 +1,4 @@
-// The writer's steps for tests in C or Rust: the state crosses as numbers in a lent array, and behind them stand the answer's number and place.
+// The writer's steps for tests in C or Rust. The state is passed as integers in a lent array, followed by the answer's number and place.
 ghost use mathlib.Core.Path.{_≡_};
 ghost use Rattle.transaction.specs.Avm.{avm};
 ghost use Rattle.transaction.specs.Answer.{memoMost};
