@@ -2,7 +2,7 @@
 use mathlib.Core.Path.{_≡_}
 use Prim.Native.Nat.{ℕ, _/_, _%_, _^_, _<_}
 
--- a has 64 bits, and dividing it by 2^32 gives the caller the number n, and as the remainder the place p
+-- a fits 64 bits; divided by 2^32 it gives the caller the number n, with the place p as the remainder
 pub record TakenApart (a n p : ℕ) : Type 0 where
   pub fits : a < 2 ^ 64
   pub number : a / 2 ^ 32 ≡ n

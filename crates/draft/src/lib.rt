@@ -44,6 +44,9 @@ fn fill_within(draft: &mut [u8], k: usize, signature: &[u8], most: u64) -> Answe
     Answer::Done(end)
 }
 
+// Puts a signature into slot number `k`, counted from 0 across credentials. Returns the draft's length.
+//
+// A refusal leaves the draft as it was, and so do 65 zero bytes and the signature that the slot already holds.
 pub fn fill(draft: &mut [u8], k: usize, signature: &[u8]) -> Answer
     ensures { λ r. ⌜ (r, now (draft .exit)) ≡ fillCall (reader (avm memoMost)) (now (draft .entry)) k (now (signature .entry)) ⌝ }
 {
@@ -86,6 +89,9 @@ fn merge_within(first: &[u8], second: &[u8], out: &mut [u8], most: u64) -> Answe
     Answer::Done(end)
 }
 
+// Writes the merge of two drafts of the same unsigned transaction to the front of `out`. Returns its length.
+//
+// A refusal leaves `out` as it was.
 pub fn merge(first: &[u8], second: &[u8], out: &mut [u8]) -> Answer
     ensures { λ r. ⌜ (r, now (out .exit)) ≡ mergeCall (reader (avm memoMost)) (now (first .entry)) (now (second .entry)) (now (out .entry)) ⌝ }
 {

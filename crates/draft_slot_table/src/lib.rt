@@ -126,6 +126,7 @@ fn list_slots_within(s: &[u8], table: &mut [u32], most: u64) -> Tabled
     }
 }
 
+// Checks a transaction and lists its slots in a lent table, a row each: credential, offset, filled. A refusal leaves the table as it was.
 pub fn list_slots(s: &[u8], table: &mut [u32]) -> Tabled
     ensures { λ r. ⌜ filled r (now (table .exit)) ≡ tabledSlots memoMost (now (s .entry)) (now (table .entry)) ⌝ }
 {

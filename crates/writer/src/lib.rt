@@ -37,6 +37,7 @@ pub enum Written {
     Refused(Refusal),
 }
 
+// The state after a step, and its answer.
 pub struct Step {
     pub next: Writer,
     pub answer: Written,
@@ -107,6 +108,7 @@ impl Writer {
         }
     }
 
+    // Writes the memo, at most 256 bytes.
     pub fn memo(self, buf: &mut [u8], bytes: &[u8]) -> Step
         ensures { λ r. ⌜ after r (now (buf .exit)) ≡ putMemo memoMost self (now (buf .entry)) (now (bytes .entry)) ⌝ }
     {
@@ -124,6 +126,7 @@ impl Writer {
         steps::put_segment(self, buf, &count, bytes)
     }
 
+    // Writes the name of a new asset, 1 to 128 printable characters.
     pub fn name(self, buf: &mut [u8], bytes: &[u8]) -> Step
         ensures { λ r. ⌜ after r (now (buf .exit)) ≡ putName memoMost self (now (buf .entry)) (now (bytes .entry)) ⌝ }
     {
@@ -141,6 +144,7 @@ impl Writer {
         steps::put_segment(self, buf, &count, bytes)
     }
 
+    // Writes the symbol of a new asset, 1 to 4 printable characters.
     pub fn symbol(self, buf: &mut [u8], bytes: &[u8]) -> Step
         ensures { λ r. ⌜ after r (now (buf .exit)) ≡ putSymbol memoMost self (now (buf .entry)) (now (bytes .entry)) ⌝ }
     {
@@ -158,6 +162,7 @@ impl Writer {
         steps::put_segment(self, buf, &count, bytes)
     }
 
+    // Writes the denomination of a new asset, at most 32.
     pub fn denomination(self, buf: &mut [u8], value: u8) -> Step
         ensures { λ r. ⌜ after r (now (buf .exit)) ≡ putDenomination memoMost self (now (buf .entry)) value ⌝ }
     {
