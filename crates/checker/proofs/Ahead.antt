@@ -28,7 +28,7 @@ use Rattle.transaction.specs.declared.ListName.{ListName}
 use Rattle.transaction.specs.declared.ListName.the-variants as L
 use Rattle.plan.specs.declared.Due.{Due}
 use Rattle.plan.specs.declared.Due.the-variants as D
-use Rattle.plan.specs.Due.{tail, due, Live, dueOf, credentialAsked, FieldPast, FieldSigns, ElementTells, ElementsPast, AskingTells}
+use Rattle.plan.specs.Due.{tail, due, lastPhase, Live, dueOf, credentialAsked, FieldPast, FieldSigns, ElementTells, ElementsPast, AskingTells}
 use Rattle.plan.proofs.Passing.{FirstOf, first-of}
 use Rattle.plan.proofs.RowLaws.{live-phase, live-next, if-nothing, if-end, if-field, if-list}
 use Rattle.checker.specs.declared.Wanting.{Wanting}
@@ -323,10 +323,10 @@ module _ (s : List ℕ) («type_id» : ℕ) (from : Wanting) (phase asks at left
   pub next-end : r ≡ B.Nothing → NextWants «type_id» s from X.Nothing
   next-end q most ws w = subst (λ (r : Begun). BegunAs most s (tail (due phase (planOf «type_id»))) ws r) q (begun most ws w)
 
-  pub into-phase : (a c m : ℕ) → r ≡ B.Into a c m → phase ≤ 8
+  pub into-phase : (a c m : ℕ) → r ≡ B.Into a c m → phase ≤ lastPhase
   into-phase a c m q = live-phase «type_id» phase (subst (BegunLive (due phase (planOf «type_id»))) q l)
 
-  pub asks-phase : (t n m : ℕ) → r ≡ B.Asks t n m → phase ≤ 8
+  pub asks-phase : (t n m : ℕ) → r ≡ B.Asks t n m → phase ≤ lastPhase
   asks-phase t n m q = live-phase «type_id» phase (subst (BegunLive (due phase (planOf «type_id»))) q l)
 
   pub next-into : (a c m : ℕ) → r ≡ B.Into a c m → Onward «type_id» s from (phase + 1) a m c

@@ -30,7 +30,7 @@ use Rattle.transaction.specs.declared.UnsignedRead.the-variants as U
 use Rattle.transaction.proofs.Reading.{on-told, on-told-refused}
 use Rattle.plan.specs.declared.Due.{Due}
 use Rattle.plan.specs.declared.Due.the-variants as D
-use Rattle.plan.specs.Due.{tail, due, Live, dueOf, credentialAsked}
+use Rattle.plan.specs.Due.{tail, due, lastPhase, Live, dueOf, credentialAsked}
 use Rattle.plan.proofs.RowLaws.{live-phase, live-next, if-nothing, if-end, if-field, if-list}
 use Rattle.checker.specs.declared.Passed.{Passed}
 use Rattle.checker.specs.declared.Passed.the-variants as P
@@ -169,7 +169,7 @@ module _ (most «type_id» inputs w : ℕ) (s : List ℕ) (at : ℕ) (x : Passed
       parse-alike (form most p) s n U.Refused _ _
       (λ u m. ap (λ k. U.Whole (layoutOf «type_id» inputs k m)) (omega (arith, length-append (asked (elementAsks l) v) (wanted p u)))))
 
--- something was passed: so something was due, in one of the eight phases
+-- something was passed: so something was due, and in a phase up to the last
 past-live : (most : ℕ) (s : List ℕ) (at : ℕ) (x : Passed) (c n : ℕ) → x ≡ P.Past c n → (p : Plan) → x ≡ passedAt most p s at → Live p
 past-live most s at x c n q shut h = let z : _≡_ {A = ℕ} 0 1 = cc in absurd (omega arith)
 past-live most s at x c n q end h = tt
@@ -203,7 +203,7 @@ module _ (most «type_id» phase : ℕ) (s : List ℕ) (at : ℕ) (x : Passed) (
   live : Live (due phase (planOf «type_id»))
   live = past-live most s at x c n q (due phase (planOf «type_id»)) h
 
-  pub past-phase : phase ≤ 8
+  pub past-phase : phase ≤ lastPhase
   past-phase = live-phase «type_id» phase live
 
   pub past-few : Slice s → c < 2 ^ 32

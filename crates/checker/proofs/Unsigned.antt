@@ -50,7 +50,7 @@ head-small s x k n p q =
     let e : typeId (h .type) ≡ k = cc in
     omega (arith, code-small (h .type))
   where
-    code-small : (k : TransactionType) → typeId k < 5
+    code-small : (k : TransactionType) → typeId k < 2 ^ 32
     code-small K.Base = omega arith
     code-small K.CreateAsset = omega arith
     code-small K.Operation = omega arith

@@ -35,7 +35,7 @@ use Rattle.transaction.specs.declared.ListName.the-variants as L
 use Rattle.transaction.proofs.Reading.{written-next}
 use Rattle.plan.specs.declared.Due.{Due}
 use Rattle.plan.specs.declared.Due.the-variants as D
-use Rattle.plan.specs.Due.{tail, due, Live, dueOf, entryOf, FieldPast, ElementTells}
+use Rattle.plan.specs.Due.{tail, due, lastPhase, Live, dueOf, entryOf, FieldPast, ElementTells}
 use Rattle.plan.proofs.RowLaws.{live-phase, live-next, if-nothing, if-end, if-field, if-list}
 use Rattle.entry_walk.specs.Walk.{located, credentialBytes, Behind, Rest, Credentials, PlanAhead, ListAhead, StateAhead, AheadIn, Ahead, First, Advances}
 use Rattle.entry_walk.specs.Walk.{AdvanceAhead, ElementAdvance, StateOutputAdvance, CredentialAdvance, LaterAdvance, CountedAdvance, ahead}
@@ -188,7 +188,7 @@ ahead-live s most (field f p) at es h = tt
 ahead-live s most (many l least p) at es h = tt
 
 module _ («type_id» : ℕ) (s : List ℕ) (c : Cursor) where
-  pub later-over : 8 < c .phase → LaterAdvance «type_id» s c T.Done
+  pub later-over : lastPhase < c .phase → LaterAdvance «type_id» s c T.Done
   unfolding LaterAdvance
   later-over z most es h =
       absurd (omega (arith, live-phase «type_id» (c .phase + 1) (ahead-live s most (due (c .phase + 1) (planOf «type_id»)) (c .at) es h)))
@@ -614,5 +614,5 @@ module _ (s : List ℕ) (at : ℕ) (b : Slice s) (x : Integer) (p : x ≡ valued
   pub state-shorter : (c : Cursor) → 0 < c .left → Shorter c (T.Moved record { phase = c .phase; at = n; left = c .left - 1; inner = k })
   state-shorter c h = omega (arith, W.value-small 4 s at x k n p q b)
 
-pub later-shorter : (c : Cursor) (r : Advance) → c .phase ≤ 8 → Entered (c .phase + 1) r → Shorter c r
+pub later-shorter : (c : Cursor) (r : Advance) → c .phase ≤ lastPhase → Entered (c .phase + 1) r → Shorter c r
 later-shorter c r h e = below-more _ (ahead c) r e (omega arith)

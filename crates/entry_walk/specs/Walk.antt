@@ -15,7 +15,7 @@ use Rattle.transaction.specs.Entries.{EntryAt, entryKind, entriesFrom, stateOut
 use Rattle.transaction.specs.Plan.{contentOf, elementsOf, Plan, shut, end, field, many, planOf}
 use Rattle.transaction.specs.declared.ListName.{ListName}
 use Rattle.plan.specs.declared.Due.the-variants as D
-use Rattle.plan.specs.Due.{due, dueOf}
+use Rattle.plan.specs.Due.{due, lastPhase, dueOf}
 use Rattle.entry_walk.specs.declared.Cursor.{Cursor}
 use Rattle.entry_walk.specs.declared.Row.{Row}
 use Rattle.entry_walk.specs.declared.Advance.{Advance}
@@ -132,7 +132,7 @@ CountedAdvance phase s at r = (c n : ℕ) → read (integer 4) s at ≡ took c n
 
 -- what is still ahead, as one number: a list has fewer than 2^32 elements, an initial state fewer than 2^32 outputs
 abbrev pub ahead : Cursor → ℕ
-ahead c = (9 - c .phase) * 18446744073709551616 + c .left * 4294967296 + c .inner
+ahead c = (lastPhase + 1 - c .phase) * 18446744073709551616 + c .left * 4294967296 + c .inner
 
 abbrev pub Below : ℕ → Advance → Type 0
 Below m (T.Found r c) = ahead c < m
@@ -144,4 +144,4 @@ Shorter c r = Below (ahead c) r
 
 -- after the step, the measure is below that of every cursor in the phase before
 abbrev pub Entered : ℕ → Advance → Type 0
-Entered phase r = Below ((9 - phase) * 18446744073709551616 + 18446744073709551616) r
+Entered phase r = Below ((lastPhase + 1 - phase) * 18446744073709551616 + 18446744073709551616) r

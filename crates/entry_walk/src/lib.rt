@@ -10,9 +10,6 @@ pub(crate) const CREDENTIAL: u32 = 7;
 // The bytes before the first segment: codec, type, network and chain id.
 pub(crate) const HEAD_WIDTH: usize = 42;
 
-// The phase of the credentials in the longest plan.
-pub(crate) const LAST_PHASE: u32 = 8;
-
 // The position of the next entry: the number of the plan's segments begun (the credentials count as the last), the offset, the number of elements
 // left in the segment begun last, and `inner`, the number of outputs left in the current initial state.
 pub struct Cursor {

@@ -9,7 +9,6 @@ use crate::Advance;
 use crate::CREDENTIAL;
 use crate::Cursor;
 use crate::HEAD_WIDTH;
-use crate::LAST_PHASE;
 use crate::Row;
 use crate::STATE_OUTPUT;
 use plan::Due;
@@ -51,7 +50,7 @@ fn advance_later(s: &[u8], type_id: u32, c: Cursor) -> Advance
     ensures { λ r. ⌜ LaterAdvance «type_id» (now (s .entry)) c r ⌝ }
     ensures { λ r. ⌜ Shorter c r ⌝ }
 {
-    if LAST_PHASE < c.phase {
+    if plan::LAST_PHASE < c.phase {
         return Advance::Done;
     }
     let phase = c.phase + 1;

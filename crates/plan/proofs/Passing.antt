@@ -53,6 +53,8 @@ module _ (s : List ℕ) (at : ℕ) (f : FieldName) (x : End) (y : ℕ) (p : y �
   pub chain-past : f ≡ F.Chain → x ≡ ended (blob 32) s at → Slice s → FieldPast f s at y
   chain-past q h b = by-name F.Chain q (λ most v n e. p ∙ ap (λ (x : End). placeOf x at) (passes-wide (blob 32) 32 (blob-wide 32) s at b x h v n e))
 
+pub ruleset field-passing = (memo-past, name-past, symbol-past, denomination-past, chain-past)
+
 pub by-signs : (s : List ℕ) (at : ℕ) (f g : FieldName) (y : ℕ) → f ≡ g → FieldSigns g s at y → FieldSigns f s at y
 by-signs s at f g y q h = subst (λ (g : FieldName). FieldSigns g s at y) (sym q) h
 
@@ -80,6 +82,8 @@ module _ (s : List ℕ) (at : ℕ) (l : ListName) (y : Integer) where
 
     pub state-past : l ≡ L.State → ((prev : List ℕ) → Passes (initialState prev) s at x) → ElementTells l s at y
     state-past q h = by-list L.State q (λ prev v n e. p ∙ ap silentOf (h prev v n e))
+
+pub ruleset element-passing = (input-past, imported-past, operation-past, output-past, exported-past, state-past)
 
 -- the type of the credential that an element asks for tells what the element is
 module _ (s : List ℕ) (at c : ℕ) (y : Integer) where

@@ -1,30 +1,29 @@
 -- The code's answer to what is due at a phase is the first segment of the plan there. Assumes nothing.
-use Prim.Native.Nat.{ℕ, zero, suc, _+_, _-_, _≤_}
+use Prim.Native.Nat.{ℕ, zero, suc, _+_, _-_, _≤_, _<_}
 use mathlib.Core.Path.{_≡_, refl, sym, ap, _∙_, subst, subst₂}
 use mathlib.Core.Bool.{Bool, true, false, false≢true}
 use native.Mathlib.Omega.{arith}
 use native.Mathlib.Numerals.{add-one}
 use mathlib.Core.List.{List}
-use lib.Dec.{eqb, leb, ltb}
-use borrow.Author.Tests.{ne-eqb, le-ltb, leb-true, leb-false}
+use lib.Dec.{eqb, leb}
+use borrow.Author.Tests.{eq-eqb, ne-eqb, leb-true, leb-false}
+use Rattle.wire.specs.Bytes.{pick}
 use Rattle.wire.specs.declared.End.{End}
 use Rattle.wire.specs.Series.{series}
 use Rattle.wire.specs.Answer.{ended}
 use Rattle.wire.proofs.Bytes.{found}
-use Rattle.transaction.specs.Plan.{contentOf, elementsOf, Plan, shut, end, field, many, ownPlan, plan, typeOf, isType, planOf}
+use Rattle.transaction.specs.Plan.{contentOf, elementsOf, Plan, shut, end, field, many, ownPlan, plan, typeOf, planOf}
 use Rattle.transaction.specs.declared.FieldName.{FieldName}
 use Rattle.transaction.specs.declared.ListName.{ListName}
 use Rattle.transaction.specs.declared.TransactionType.{TransactionType}
 use Rattle.transaction.specs.declared.TransactionType.the-variants as K
 use Rattle.plan.specs.declared.Due.{Due}
 use Rattle.plan.specs.declared.Due.the-variants as D
-use Rattle.plan.specs.Due.{tail, behind, due, Live, dueOf}
+use Rattle.plan.specs.Due.{tail, behind, due, lastPhase, Live, dueOf}
 
--- the part of a number, and none behind the last
+-- ---- rows: by the code's tests of how many parts are begun
+
 module _ (p : Plan) (begun : ℕ) where
-  pub at-part : (z : Due) (i : ℕ) → begun ≡ i → z ≡ dueOf (behind i p) → z ≡ dueOf (behind begun p)
-  at-part z i e h = rw e h
-
   pub past : (n : ℕ) → behind n p ≡ shut → n ≤ begun → D.Nothing ≡ dueOf (behind begun p)
   past n e h =
       let j : begun ≡ begun - n + n = omega arith in
@@ -36,22 +35,47 @@ module _ (p : Plan) (begun : ℕ) where
           let j : suc k + n ≡ suc (k + n) = omega arith in
           ap (λ (i : ℕ). behind i p) j ∙ ap tail (beyond k)
 
-pub of-type : (z : Due) (begun «type_id» i : ℕ) → «type_id» ≡ i → z ≡ dueOf (behind begun (ownPlan (typeOf i)))
-    → z ≡ dueOf (behind begun (ownPlan (typeOf «type_id»)))
-of-type z begun «type_id» i e h = rw e h
+  module _ (z : Due) where
+    pub part-first : begun < 1 → z ≡ dueOf p → z ≡ dueOf (behind begun p)
+    part-first h e = let j : begun ≡ 0 = omega arith in rw j e
 
-pub of-export : (z : Due) (begun «type_id» : ℕ) → («type_id» ≡ 0 → ⊥) → («type_id» ≡ 1 → ⊥) → («type_id» ≡ 2 → ⊥) → («type_id» ≡ 3 → ⊥)
-    → z ≡ dueOf (behind begun (ownPlan K.Export))
-    → z ≡ dueOf (behind begun (ownPlan (typeOf «type_id»)))
-of-export z begun «type_id» a b c d h = rw (ne-eqb «type_id» 0 a, ne-eqb «type_id» 1 b, ne-eqb «type_id» 2 c, ne-eqb «type_id» 3 d) h
+    pub part-here : (i j : ℕ) → i ≤ begun → begun < j → j ≡ suc i → z ≡ dueOf (behind i p) → z ≡ dueOf (behind begun p)
+    part-here i j h k l e = let j : begun ≡ i = omega arith in rw j e
+
+pub ruleset row = (part-first, part-here, past)
+
+-- ---- types: by the code's tests of their numbers, in the order of `typeOf` and of `types`
+
+module _ (z : Due) (begun «type_id» i : ℕ) (a b : TransactionType) where
+  pub type-here : «type_id» ≡ i → z ≡ dueOf (behind begun (ownPlan a)) → z ≡ dueOf (behind begun (ownPlan (pick (eqb «type_id» i) a b)))
+  type-here h e = rw (eq-eqb «type_id» i h) e
+
+  pub type-other : («type_id» ≡ i → ⊥) → z ≡ dueOf (behind begun (ownPlan b)) → z ≡ dueOf (behind begun (ownPlan (pick (eqb «type_id» i) a b)))
+  type-other h e = rw (ne-eqb «type_id» i h) e
+
+pub ruleset by-type = (type-here, type-other)
+
+module _ (n i : ℕ) (b : Bool) where
+  pub number-here : n ≡ i → true ≡ pick (eqb n i) true b
+  number-here h = rw (eq-eqb n i h)
+
+  pub number-other : (z : Bool) → (n ≡ i → ⊥) → z ≡ b → z ≡ pick (eqb n i) true b
+  number-other z h e = rw (ne-eqb n i h) e
+
+pub ruleset numbers = (number-here, number-other)
+
+-- ---- plans: by the code's tests of the phase
 
 behind-tail : (k : ℕ) (p : Plan) → behind (suc k) p ≡ behind k (tail p)
 behind-tail zero p = refl
 behind-tail (suc k) p = ap tail (behind-tail k p)
 
 module _ (z : Due) («type_id» phase : ℕ) where
-  pub at-phase : (i : ℕ) → phase ≡ i → z ≡ dueOf (due i (planOf «type_id»)) → z ≡ dueOf (due phase (planOf «type_id»))
-  at-phase i e h = rw e h
+  pub phase-first : phase < 1 → z ≡ D.Nothing → z ≡ dueOf (due phase (planOf «type_id»))
+  phase-first h e = let j : phase ≡ 0 = omega arith in rw j e
+
+  pub phase-here : (i j : ℕ) → i ≤ phase → phase < j → j ≡ suc i → z ≡ dueOf (due i (planOf «type_id»)) → z ≡ dueOf (due phase (planOf «type_id»))
+  phase-here i j h k l e = let j : phase ≡ i = omega arith in rw j e
 
   pub in-own : 4 ≤ phase → z ≡ dueOf (behind (phase - 4) (ownPlan (typeOf «type_id»))) → z ≡ dueOf (due phase (planOf «type_id»))
   in-own f h =
@@ -59,6 +83,8 @@ module _ (z : Due) («type_id» phase : ℕ) where
       let k : ℕ = phase - 4 in
       let j : phase ≡ suc (suc (suc (suc k))) = omega arith in
       h ∙ sym (ap (λ (i : ℕ). dueOf (due i p)) j ∙ ap dueOf (behind-tail (suc (suc k)) p ∙ behind-tail (suc k) (tail p) ∙ behind-tail k (tail (tail p))))
+
+pub ruleset by-phase = (phase-first, phase-here, in-own)
 
 -- what is asked of it
 module _ (x y : Due) (p : x ≡ y) {R : Type 0} (f : Due → R) where
@@ -68,25 +94,25 @@ module _ (x y : Due) (p : x ≡ y) {R : Type 0} (f : Due → R) where
 pub same-names : (a b c d : ℕ) → a ≡ c → b ≡ d → eqb a b ≡ eqb c d
 same-names a b c d h k = rw (h, k)
 
--- the longest plan has eight parts
-eight : (k : TransactionType) → behind 8 (plan k) ≡ shut
-eight K.Base = refl
-eight K.CreateAsset = refl
-eight K.Operation = refl
-eight K.Import = refl
-eight K.Export = refl
+-- no plan has a later phase
+plan-over : (k : TransactionType) → behind lastPhase (plan k) ≡ shut
+plan-over K.Base = refl
+plan-over K.CreateAsset = refl
+plan-over K.Operation = refl
+plan-over K.Import = refl
+plan-over K.Export = refl
 
-pub phase-small : («type_id» phase : ℕ) (f : Due → Bool) → f D.Nothing ≡ false → f (dueOf (due phase (planOf «type_id»))) ≡ true → phase ≤ 8
-phase-small «type_id» phase f none h = go (leb phase 8) refl
+pub phase-small : («type_id» phase : ℕ) (f : Due → Bool) → f D.Nothing ≡ false → f (dueOf (due phase (planOf «type_id»))) ≡ true → phase ≤ lastPhase
+phase-small «type_id» phase f none h = go (leb phase lastPhase) refl
   where
-    beyond : (k : ℕ) → 8 ≤ k → f (dueOf (behind k (planOf «type_id»))) ≡ true → ⊥
-    beyond k e h = false≢true (sym none ∙ ap f (past (planOf «type_id») k 8 (eight (typeOf «type_id»)) e) ∙ h)
+    beyond : (k : ℕ) → lastPhase ≤ k → f (dueOf (behind k (planOf «type_id»))) ≡ true → ⊥
+    beyond k e h = false≢true (sym none ∙ ap f (past (planOf «type_id») k lastPhase (plan-over (typeOf «type_id»)) e) ∙ h)
 
-    go : (b : Bool) → leb phase 8 ≡ b → phase ≤ 8
-    go true e = leb-true phase 8 e
+    go : (b : Bool) → leb phase lastPhase ≡ b → phase ≤ lastPhase
+    go true e = leb-true phase lastPhase e
     go false e =
         let k : ℕ = phase - 1 in
-        let l = leb-false phase 8 e in
+        let l = leb-false phase lastPhase e in
         let j : phase ≡ suc k = omega arith in
         absurd (beyond k (omega arith) (subst (λ (i : ℕ). f (dueOf (due i (planOf «type_id»))) ≡ true) j h))
 
@@ -94,14 +120,14 @@ pub due-next : (k : ℕ) (p q : Plan) → Live q → due k p ≡ q → due (suc 
 due-next zero p q live e = absurd (subst Live (sym e) live)
 due-next (suc k) p q live e = ap tail e
 
--- a phase with something due is one of the eight
+-- something is due only in the phases up to the last
 abbrev isMore : Due → Bool
 isMore D.Nothing = false
 isMore D.Finish = true
 isMore (D.Field f) = true
 isMore (D.List l n) = true
 
-pub live-phase : («type_id» phase : ℕ) → Live (due phase (planOf «type_id»)) → phase ≤ 8
+pub live-phase : («type_id» phase : ℕ) → Live (due phase (planOf «type_id»)) → phase ≤ lastPhase
 live-phase «type_id» phase h = phase-small «type_id» phase isMore refl (more (due phase (planOf «type_id»)) h)
   where
     more : (p : Plan) → Live p → isMore (dueOf p) ≡ true
@@ -151,23 +177,3 @@ by-field most f g s at z h e = rw h e
 pub by-list : (l m : ListName) (n : ℕ) (s : List ℕ) (at : ℕ) (z : End) → l ≡ m → z ≡ ended (series (elementsOf m .element) n) s at
     → z ≡ ended (series (elementsOf l .element) n) s at
 by-list l m n s at z h e = rw h e
-
-pub is-below : (n : ℕ) (b : Bool) → b ≡ ltb n 5 → b ≡ isType n
-is-below n b h = h ∙ go n
-  where
-    go : (n : ℕ) → ltb n 5 ≡ isType n
-    go zero = refl
-    go (suc zero) = refl
-    go (suc (suc zero)) = refl
-    go (suc (suc (suc zero))) = refl
-    go (suc (suc (suc (suc zero)))) = refl
-    go (suc (suc (suc (suc (suc n))))) =
-        let k = suc (suc (suc (suc (suc n)))) in
-        rw (
-          le-ltb k 5 (omega arith),
-          ne-eqb k 0 (λ e. omega arith),
-          ne-eqb k 1 (λ e. omega arith),
-          ne-eqb k 2 (λ e. omega arith),
-          ne-eqb k 3 (λ e. omega arith),
-          ne-eqb k 4 (λ e. omega arith),
-        )

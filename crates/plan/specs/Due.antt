@@ -36,6 +36,10 @@ abbrev pub due : ℕ → Plan → Plan
 due zero p = shut
 due (suc k) p = behind k p
 
+-- in a later phase nothing is due. No row comes near it, so that a longer one leaves it as it is
+abbrev pub lastPhase : ℕ
+lastPhase = 32
+
 -- something is due
 abbrev pub Live : Plan → Type 0
 Live shut = ⊥

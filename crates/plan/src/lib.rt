@@ -5,6 +5,9 @@ pub mod rows;
 use transaction::FieldName;
 use transaction::ListName;
 
+// Nothing is due in a later phase. No row comes near it, so a longer row does not change it.
+pub const LAST_PHASE: u32 = 32;
+
 // What is due: nothing, the finish, a field, or a list with the least number of its elements (its next element or its close).
 pub enum Due {
     Nothing,

@@ -39,7 +39,7 @@ use Rattle.writer_rules.proofs.FieldLaws.{string-write, text-write, string-judg
 use Rattle.writer_rules.proofs.FieldLaws.{denomination-write, denomination-judged, id-judged, head-judged, front-is}
 use Rattle.plan.specs.declared.Due.{Due}
 use Rattle.plan.specs.declared.Due.the-variants as D
-use Rattle.plan.specs.Due.{tail, due, dueOf, isList, isField, isOpen, isFinish}
+use Rattle.plan.specs.Due.{tail, due, lastPhase, dueOf, isList, isField, isOpen, isFinish}
 use Rattle.plan.proofs.RowLaws.{phase-small}
 use Rattle.writer_blank.specs.Closing.{closing, closable}
 use Rattle.writer.specs.declared.Writer.{Writer}
@@ -176,7 +176,7 @@ module _ (w : Writer) (s : List ℕ) where
         go (many l least q) e = absurd (false≢true (sym e))
 
     module _ (m : ListName) (least : ℕ) (e : x ≡ D.List m least) where
-      pub close-small : w .phase ≤ 8
+      pub close-small : w .phase ≤ lastPhase
       close-small = phase-small (w .«type_id») (w .phase) isList refl (ap isList (sym p ∙ e))
 
       module _ (most : ℕ) where
@@ -394,7 +394,7 @@ module _ (w : Writer) (s : List ℕ) (t : Bool) (ht : t ≡ isFinish (dueAt w)) 
       go (many l least q) e = ap (λ (y : Step). after y s) h
 
   module _ (e : t ≡ true) where
-    pub finish-small : w .phase ≤ 8
+    pub finish-small : w .phase ≤ lastPhase
     finish-small = phase-small (w .«type_id») (w .phase) isFinish refl (sym ht ∙ e)
 
     module _ (most : ℕ) where

@@ -18,7 +18,7 @@ use Rattle.writer_rules.specs.Judged.{judged, onAllowed}
 use Rattle.writer_rules.proofs.Verdicts.{both-true, judged-on}
 use Rattle.plan.specs.declared.Due.{Due}
 use Rattle.plan.specs.declared.Due.the-variants as D
-use Rattle.plan.specs.Due.{tail, due, dueOf, isList, isField, isOpen, Live}
+use Rattle.plan.specs.Due.{tail, due, lastPhase, dueOf, isList, isField, isOpen, Live}
 use Rattle.plan.proofs.RowLaws.{due-next, phase-small}
 use Rattle.writer_buffer.specs.Stores.{roomFor, countOf}
 use Rattle.writer_buffer.proofs.Stores.{room-inv}
@@ -57,7 +57,7 @@ module _ (w : Writer) (s : List ℕ) (f : FieldName) (t : Bool) (ht : t ≡ isFi
     field-due : isField f (dueAt w) ≡ true
     field-due = sym ht ∙ not-false t n
 
-    pub field-small : w .phase ≤ 8
+    pub field-small : w .phase ≤ lastPhase
     field-small = phase-small (w .«type_id») (w .phase) (isField f) refl field-due
 
     module _ (most : ℕ) (g : Given) where

@@ -4,7 +4,7 @@ ghost use mathlib.Core.Path.{_≡_};
 ghost use mathlib.Core.Bool.{true, _&&_};
 ghost use mathlib.Core.List.{_++_};
 ghost use Rattle.wire.specs.Bytes.{pick};
-ghost use Rattle.plan.specs.Due.{isOpen};
+ghost use Rattle.plan.specs.Due.{lastPhase, isOpen};
 ghost use Rattle.writer_rules.specs.Elements.{integersBytes};
 ghost use Rattle.writer.specs.Steps.{prev, sane};
 ghost use Rattle.writer.specs.Code.{after, refusedStep, notDueStep, noRoomStep, storedStep, dueAt, settled, segmentStep, opensNext, elementStep};
@@ -124,7 +124,7 @@ pub fn settle(
 
 // Stores the segment that is due, followed by the next list's count if one opens: the bytes of a field, or none to close a list.
 pub(crate) fn put_segment(w: Writer, buf: &mut [u8], first: &[u8], second: &[u8]) -> Step
-    requires { ⌜ w .phase ≤ 8 ⌝ }
+    requires { ⌜ w .phase ≤ lastPhase ⌝ }
     ensures { λ r. ⌜ after r (now (buf .exit)) ≡ segmentStep w (now (buf .entry)) (now (first .entry) ++ now (second .entry)) (opensNext w) ⌝ }
 {
     let phase = w.phase + 1;

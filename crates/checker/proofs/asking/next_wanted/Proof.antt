@@ -1,7 +1,8 @@
 -- `checker::asking::next_wanted` meets its contract. The invariant: what is wanted ahead of the start is ahead of here. Assumes nothing.
 use borrow.Author.Needs.{needs}
-use Prim.Native.Nat.{_-_}
+use Prim.Native.Nat.{_+_, _-_}
 use native.Mathlib.Omega.{arith}
+use Rattle.plan.specs.Due.{lastPhase}
 use Rattle.checker.proofs.Ahead.{Onward, next-end, into-phase, asks-phase, next-into, next-asks, next-element}
 use Rattle.checker.proofs.asking.next_wanted.Statement.{statement}
 use Rattle.checker.proofs.asking.next_wanted.Tie as tie
@@ -11,7 +12,7 @@ Inv-loop s «type_id» phase₀ asks₀ at₀ left₀ phase asks at left =
     Onward «type_id» s record { phase = phase₀; asks = asks₀; at = at₀; left = left₀ } phase asks at left
 
 abbrev μ-loop : tie.MeasureT-loop
-μ-loop s «type_id» phase₀ asks₀ at₀ left₀ phase asks at left = 9 - phase
+μ-loop s «type_id» phase₀ asks₀ at₀ left₀ phase asks at left = lastPhase + 1 - phase
 
 pub next-wanted-spec : {M : Type 1} → statement M
 next-wanted-spec =

@@ -1,10 +1,10 @@
 -- `checker::body::plan_at` meets its contract. The invariant: what is left of the plan, from here, gives the whole. Assumes nothing.
 use borrow.Author.Needs.{needs}
-use Prim.Native.Nat.{_-_, _*_, _≤_}
+use Prim.Native.Nat.{_+_, _-_, _*_, _≤_}
 use mathlib.Core.Path.{_≡_, refl}
 use native.Mathlib.Omega.{arith}
 use Rattle.transaction.specs.Plan.{planOf}
-use Rattle.plan.specs.Due.{due}
+use Rattle.plan.specs.Due.{due, lastPhase}
 use Rattle.checker.specs.Segments.{planAt}
 use Rattle.checker.proofs.Planning.{turn-end, turn-refused, turn-past, past-phase, past-few}
 use Rattle.checker.proofs.body.plan_at.Statement.{statement}
@@ -16,7 +16,7 @@ Inv-loop s start «type_id» most phase₀ at₀ wanted₀ phase at wanted =
     × (planAt most «type_id» start wanted (due phase (planOf «type_id»)) s at ≡ planAt most «type_id» start 0 (due 2 (planOf «type_id»)) s start)
 
 abbrev μ-loop : tie.MeasureT-loop
-μ-loop s start «type_id» most phase₀ at₀ wanted₀ phase at wanted = 9 - phase
+μ-loop s start «type_id» most phase₀ at₀ wanted₀ phase at wanted = lastPhase + 1 - phase
 
 pub plan-at-spec : {M : Type 1} → statement M
 plan-at-spec =

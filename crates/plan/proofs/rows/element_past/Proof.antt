@@ -1,11 +1,6 @@
 -- `plan::rows::element_past` meets its contract. Assumes nothing.
 use borrow.Author.Needs.{needs}
-use Rattle.plan.proofs.Passing.{input-past}
-use Rattle.plan.proofs.Passing.{imported-past}
-use Rattle.plan.proofs.Passing.{operation-past}
-use Rattle.plan.proofs.Passing.{output-past}
-use Rattle.plan.proofs.Passing.{exported-past}
-use Rattle.plan.proofs.Passing.{state-past}
+use Rattle.plan.proofs.Passing.{element-passing}
 use Rattle.plan.proofs.rows.element_past.Statement.{statement}
 use Rattle.plan.proofs.rows.element_past.Tie as tie
 
@@ -28,9 +23,9 @@ element-past-spec =
     (λ c. search needs)  -- enum-told-6
     (λ c κs. search needs)  -- transferable-past-requires-2
     (λ c κs. search needs)  -- silent-requires-3
-    (λ c. search (input-past, imported-past, operation-past, output-past, exported-past, state-past) depth 12)  -- returns
-    (λ c. search (input-past, imported-past, operation-past, output-past, exported-past, state-past) depth 12)  -- returns-2
-    (λ c. search (input-past, imported-past, operation-past, output-past, exported-past, state-past) depth 12)  -- returns-3
-    (λ c. search (input-past, imported-past, operation-past, output-past, exported-past, state-past) depth 12)  -- returns-4
-    (λ c. search (input-past, imported-past, operation-past, output-past, exported-past, state-past) depth 12)  -- returns-5
-    (λ c. search (input-past, imported-past, operation-past, output-past, exported-past, state-past) depth 12))  -- returns-6
+    (λ c. search element-passing depth 12)  -- returns
+    (λ c. search element-passing depth 12)  -- returns-2
+    (λ c. search element-passing depth 12)  -- returns-3
+    (λ c. search element-passing depth 12)  -- returns-4
+    (λ c. search element-passing depth 12)  -- returns-5
+    (λ c. search element-passing depth 12))  -- returns-6

@@ -1,10 +1,6 @@
 -- `plan::rows::field_past` meets its contract. Assumes nothing.
 use borrow.Author.Needs.{needs}
-use Rattle.plan.proofs.Passing.{memo-past}
-use Rattle.plan.proofs.Passing.{name-past}
-use Rattle.plan.proofs.Passing.{symbol-past}
-use Rattle.plan.proofs.Passing.{denomination-past}
-use Rattle.plan.proofs.Passing.{chain-past}
+use Rattle.plan.proofs.Passing.{field-passing}
 use Rattle.plan.proofs.rows.field_past.Statement.{statement}
 use Rattle.plan.proofs.rows.field_past.Tie as tie
 
@@ -27,8 +23,8 @@ field-past-spec =
     (λ c. search needs)  -- enum-told-5
     (λ c κs. search needs)  -- field-at-requires-2
     (λ c κs. search needs)  -- place-of-requires-5
-    (λ c. search (memo-past, name-past, symbol-past, denomination-past, chain-past) depth 12)  -- returns
-    (λ c. search (memo-past, name-past, symbol-past, denomination-past, chain-past) depth 12)  -- returns-2
-    (λ c. search (memo-past, name-past, symbol-past, denomination-past, chain-past) depth 12)  -- returns-3
-    (λ c. search (memo-past, name-past, symbol-past, denomination-past, chain-past) depth 12)  -- returns-4
-    (λ c. search (memo-past, name-past, symbol-past, denomination-past, chain-past) depth 12))  -- returns-5
+    (λ c. search field-passing depth 12)  -- returns
+    (λ c. search field-passing depth 12)  -- returns-2
+    (λ c. search field-passing depth 12)  -- returns-3
+    (λ c. search field-passing depth 12)  -- returns-4
+    (λ c. search field-passing depth 12))  -- returns-5

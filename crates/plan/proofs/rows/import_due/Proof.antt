@@ -1,9 +1,5 @@
 -- `plan::rows::import_due` meets its contract. Assumes nothing.
-use mathlib.Core.Path.{refl}
-use native.Mathlib.Omega.{arith}
-use Rattle.transaction.specs.Plan.{ownPlan}
-use Rattle.transaction.specs.declared.TransactionType.the-variants as K
-use Rattle.plan.proofs.RowLaws.{at-part, past}
+use Rattle.plan.proofs.RowLaws.{row}
 use Rattle.plan.proofs.rows.import_due.Statement.{statement}
 use Rattle.plan.proofs.rows.import_due.Tie as tie
 
@@ -11,9 +7,7 @@ pub import-due-spec : {M : Type 1} → statement M
 import-due-spec =
     tie.close
     (tie.spec
-    (λ c. at-part (ownPlan K.Import) (c .before .args .begun) _ 0 (omega (arith, c .if1 .taken)) refl)  -- returns
-    (λ c. at-part (ownPlan K.Import) (c .before .before .args .begun) _ 1 (omega (arith, c .if2 .taken, c .before .if1 .left)) refl)  -- returns-2
-    (λ c. at-part (ownPlan K.Import) (c .before .before .before .args .begun) _ 2
-    (omega (arith, c .if3 .taken, c .before .if2 .left, c .before .before .if1 .left)) refl)  -- returns-3
-    (λ c. past (ownPlan K.Import) (c .before .before .before .args .begun) 3 refl
-    (omega (arith, c .if3 .left, c .before .if2 .left, c .before .before .if1 .left))))  -- returns-4
+    (λ c. search row)  -- returns
+    (λ c. search row)  -- returns-2
+    (λ c. search row)  -- returns-3
+    (λ c. search row))  -- returns-4
