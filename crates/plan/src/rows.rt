@@ -13,6 +13,9 @@ use transaction::ListName;
 use wire::End;
 use wire::Integer;
 
+// The credential's type of what asks for none.
+const NO_CREDENTIAL: u64 = 0;
+
 // ---- the rows
 
 // Whether `number` is the number of a type: one test for each type, in the order of `types`. Numbers may have gaps.
@@ -167,11 +170,11 @@ pub fn field_credential(field: FieldName) -> u64
     ensures { λ r. ⌜ r ≡ credentialAsked (fieldCredential field) ⌝ }
 {
     match field {
-        FieldName::Memo => 0,
-        FieldName::Name => 0,
-        FieldName::Symbol => 0,
-        FieldName::Denomination => 0,
-        FieldName::Chain => 0,
+        FieldName::Memo => NO_CREDENTIAL,
+        FieldName::Name => NO_CREDENTIAL,
+        FieldName::Symbol => NO_CREDENTIAL,
+        FieldName::Denomination => NO_CREDENTIAL,
+        FieldName::Chain => NO_CREDENTIAL,
     }
 }
 
@@ -231,12 +234,12 @@ pub fn credential_of(list: ListName) -> u64
     ensures { λ r. ⌜ r ≡ credentialAsked (elementsOf list .credential) ⌝ }
 {
     match list {
-        ListName::Output => 0,
+        ListName::Output => NO_CREDENTIAL,
         ListName::Input => transaction::SECP_CREDENTIAL,
-        ListName::State => 0,
+        ListName::State => NO_CREDENTIAL,
         ListName::Operation => transaction::NFT_CREDENTIAL,
         ListName::Imported => transaction::SECP_CREDENTIAL,
-        ListName::Exported => 0,
+        ListName::Exported => NO_CREDENTIAL,
     }
 }
 
