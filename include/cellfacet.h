@@ -1,12 +1,15 @@
 /*
  * Cellfacet for C: checks signed AVM (X-Chain) transactions, and merges drafts of one.
  *
- * Build the library with `rt staticlib phone` and link target/staticlib/libphone.a; beside it
- * only the C library is needed. It keeps no state, allocates nothing, writes to no memory but
- * the output of a merge, and may be called from several threads at once.
+ * Build the library with `rt staticlib phone` and link target/staticlib/libphone.a; it needs
+ * only the C library. It keeps no state, allocates nothing, writes to no memory but the output
+ * of a merge, and may be called from several threads at once.
  *
- * Every answer is one 64-bit number, number * 2^32 + place. cellfacet_number and
- * cellfacet_place take it apart.
+ * A slot is the 65 bytes for one signature. A draft is an accepted transaction, some of whose
+ * slots may still be empty.
+ *
+ * Every answer is one 64-bit integer: a number of the table below, times 2^32, plus a place.
+ * cellfacet_number and cellfacet_place take it apart.
  */
 #ifndef CELLFACET_H
 #define CELLFACET_H
@@ -19,74 +22,76 @@ extern "C" {
 #endif
 
 /*
- * The numbers, and the place that comes with each. A place counts bytes from 0, the first byte
- * handed over. Fields are taken from left to right, and the first broken rule answers.
+ * The numbers, and the place that goes with each. A place is a byte offset from the first byte
+ * passed in; for CELLFACET_CONFLICT it is the number of a slot. Fields are read from left to
+ * right, and the answer is the first broken rule.
  */
 enum {
-    /* Accepted: one signed transaction, and nothing behind it. Place: its number of bytes. */
+    /* Accepted: one signed transaction, and nothing after it. Place: its number of bytes. */
     CELLFACET_ACCEPTED = 0,
     /* Merged. Place: the number of bytes written. */
     CELLFACET_DONE = 0,
 
-    /* cellfacet_check answers with these. */
+    /* Refusals of cellfacet_check. */
 
     /* More than 65,536 bytes. Place: 0. */
     CELLFACET_TOO_LONG = 1,
-    /* A field is not wholly there. Place: the start of that field. */
+    /* A field is cut short: not all of its bytes are there. Place: the start of the field. */
     CELLFACET_CUT_SHORT = 2,
     /* The codec is not 0. Place: 0. */
     CELLFACET_WRONG_CODEC = 3,
-    /* A type or FxID is unknown, or not allowed where it stands. Place: its start. */
+    /* A type or FxID is unknown or not allowed here. Place: its start. */
     CELLFACET_UNKNOWN_TYPE = 4,
     /* An amount is 0. Place: the start of the amount. */
     CELLFACET_ZERO_AMOUNT = 5,
-    /* A list is not in its order. Place: the start of the later of the two elements. */
+    /* A list is out of order. Place: the start of the later of the two elements. */
     CELLFACET_OUT_OF_ORDER = 6,
     /* A threshold is above the number of addresses. Place: the start of the threshold. */
     CELLFACET_BAD_THRESHOLD = 7,
-    /* The length of a name, symbol, memo or payload is not allowed. Place: its start. */
+    /* The length of a name, symbol, memo or payload is not allowed. Place: the start of the
+       length. */
     CELLFACET_BAD_LENGTH = 8,
     /* A character of a name or symbol is not printable ASCII. Place: that character. */
     CELLFACET_NOT_PRINTABLE = 9,
     /* The denomination is above 32. Place: that byte. */
     CELLFACET_BAD_DENOMINATION = 10,
-    /* A list is empty that needs an element. Place: the start of its count. */
+    /* A required list is empty. Place: the start of its count. */
     CELLFACET_EMPTY_LIST = 11,
-    /* Not as many credentials or signatures as are due. Place: the start of the count. */
+    /* Wrong number of credentials or signatures. Place: the start of the count. */
     CELLFACET_WRONG_COUNT = 12,
-    /* Bytes stand behind the end of the transaction. Place: the first of them. */
+    /* Bytes follow the end of the transaction. Place: the first of them. */
     CELLFACET_BYTES_AFTER_END = 13,
 
-    /* cellfacet_merge answers with these, which are judged in this order. */
+    /* Refusals of cellfacet_merge, in the order in which they are tested. */
 
-    /* The first draft is not accepted: cellfacet_check tells why. Place: 0. */
+    /* The first draft is not accepted; cellfacet_check says why. Place: 0. */
     CELLFACET_FIRST_NOT_ACCEPTED = 17,
     /* The second draft is not accepted. Place: 0. */
     CELLFACET_SECOND_NOT_ACCEPTED = 18,
-    /* The drafts differ before the credential count: they are of different unsigned
-       transactions. Place: 0. */
+    /* The drafts are of different unsigned transactions: they differ before the credential
+       count. Place: 0. */
     CELLFACET_DRAFTS_DIFFER = 19,
     /* Two different signatures in one slot. Place: the number of the first such slot. */
     CELLFACET_CONFLICT = 20,
-    /* The output has fewer bytes than a draft. Place: 0. */
+    /* No room for the result: the output is shorter than a draft. Place: 0. */
     CELLFACET_NO_ROOM = 14,
 
-    /* The rest of the table, which no function of this header answers with. */
+    /* The rest of the table, which no function of this header returns. */
 
-    /* There is no such entry or slot. Place: 0. */
+    /* No such entry or slot. Place: 0. */
     CELLFACET_NO_ENTRY = 15,
-    /* A step of the writer is not due. Place: 0. */
+    /* The writer's step is not due. Place: 0. */
     CELLFACET_STEP_NOT_DUE = 16,
-    /* A signature is not 65 bytes. Place: 0. */
+    /* The signature is not 65 bytes. Place: 0. */
     CELLFACET_NOT_A_SIGNATURE = 21
 };
 
 /*
  * Checks a whole signed transaction.
  *
- * bytes points to `length` bytes that may be read, and that nothing writes to during the call.
- * Any bytes will do, and any alignment. Where length is 0, bytes may be NULL; the answer is
- * then CELLFACET_CUT_SHORT at 0.
+ * `bytes` points to `length` readable bytes, which nothing writes to during the call. They may
+ * have any values and any alignment. If `length` is 0, `bytes` may be NULL; the answer is then
+ * CELLFACET_CUT_SHORT at 0.
  *
  * The answer's number is 0 to 13, its place at most 65,536.
  */
@@ -95,19 +100,20 @@ uint64_t cellfacet_check(const uint8_t *bytes, size_t length);
 /*
  * Merges two drafts of one unsigned transaction, signed or not, into the front of `out`.
  *
- * A draft is any accepted transaction. Its signatures stand in slots of 65 bytes, numbered from
- * 0 across its credentials; a slot of zero bytes only is empty. In the merge each slot holds the
- * signature that either draft holds there, and is empty where both are; all other bytes are as
- * in both. So copies may be merged in any order, and more than once.
+ * A draft is any accepted transaction. Its slots are numbered from 0 across its credentials; a
+ * slot whose 65 bytes are all zero is empty. In the merge each slot holds the signature that
+ * either draft holds there, and is empty if it is empty in both; all other bytes are as in
+ * both. So copies may be merged in any order, and more than once.
  *
- * first, second and out each point to as many bytes as the length behind them says, or may be
- * NULL where it is 0. `out` shares no byte with the drafts, and nothing else reads or writes it
- * during the call, nor writes the drafts. When merges are chained, `out` must not overlap
- * a draft or an earlier result that is still to be merged, and nothing may write to those until
- * they have been merged. Any bytes will do. Room for a draft is enough: the length of either, or 65,536.
+ * `first`, `second` and `out` each point to as many bytes as the length after them says, or may
+ * be NULL if that is 0. The bytes may have any values. `out` shares no byte with the drafts, and
+ * nothing else reads or writes it during the call, nor writes the drafts. When merges are
+ * chained, `out` must not overlap a draft or an earlier result that is still to be merged, and
+ * nothing may write to those until they have been merged. An `out` as long as either draft is
+ * enough; 65,536 bytes always are.
  *
- * On CELLFACET_DONE the merge stands at the front of `out`, and no byte behind it has changed.
- * On any other number no byte of `out` has.
+ * On CELLFACET_DONE the merge is at the front of `out`, and no byte after it has changed. On any
+ * other number no byte of `out` has changed.
  */
 uint64_t cellfacet_merge(const uint8_t *first, size_t first_length,
                          const uint8_t *second, size_t second_length,

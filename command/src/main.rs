@@ -15,18 +15,21 @@ use cellfacet::{Kind, Slot};
 const HELP: &str = "\
 usage: cellfacet COMMAND ..
 
-  entries FILE          the entries of a signed transaction, a line each: kind, start, length;
+  entries FILE          the entries of a signed transaction, one per line: kind, start, length;
                         kinds: 1 output, 2 input, 3 operation, 4 imported input,
                         5 exported output, 6 initial-state output, 7 credential;
                         a refusal is one line: number, place
-  check FILE            the answer of the check: number and place, and what is wrong
-  slots FILE            which signature slots are filled and which are empty
-  merge OUT FILE FILE.. joins copies of one transaction, in any order, and writes the result to
-                        OUT, whole or not at all; one FILE is checked and copied
+  check FILE            the answer of the check: number and place, and what is wrong; 0 is
+                        accepted, with the transaction's length in bytes as its place
+  slots FILE            which slots (65 bytes for one signature each) are filled or empty
+  merge OUT FILE FILE.. merges copies of one transaction, in any order, and writes the result
+                        to OUT, whole or not at all; a single FILE is checked and copied
   help                  this text
 
-The exit status is 0 where the file is accepted and all is done, 1 where something is refused
-or fails, 2 for a command line that is none of these.
+A place is a byte offset in the file, or for refusal 20 the number of a slot.
+
+The exit status is 0 if everything is accepted and done, 1 if something is refused or fails,
+2 if the command line is none of these.
 ";
 
 /// What goes to standard output, and whether all is accepted and done.

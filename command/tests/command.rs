@@ -103,8 +103,8 @@ fn check() {
     let folder = Folder::new("check");
     folder.says("check a", "0 at 392: accepted\n");
     folder.says("check blank", "0 at 392: accepted\n");
-    folder.refuses("check damaged", "6 at 238: list not in its order\n");
-    folder.refuses("check empty", "2 at 0: cut short inside a field\n");
+    folder.refuses("check damaged", "6 at 238: list is out of order\n");
+    folder.refuses("check empty", "2 at 0: field is cut short\n");
     folder.refuses("check long", "1 at 0: more than 65,536 bytes\n");
 }
 
@@ -116,8 +116,8 @@ fn slots() {
     folder.says("slots first", &(line("filled", "empty") + "1 of 2 slots filled\n"));
     folder.says("slots second", &(line("empty", "filled") + "1 of 2 slots filled\n"));
     folder.says("slots blank", &(line("empty", "empty") + "0 of 2 slots filled\n"));
-    folder.refuses("slots damaged", "6 at 238: list not in its order\n");
-    folder.refuses("slots empty", "2 at 0: cut short inside a field\n");
+    folder.refuses("slots damaged", "6 at 238: list is out of order\n");
+    folder.refuses("slots empty", "2 at 0: field is cut short\n");
     folder.refuses("slots long", "1 at 0: more than 65,536 bytes\n");
 }
 
@@ -207,14 +207,13 @@ fn a_refused_merge_leaves_the_file() {
     let folder = Folder::new("merge-refused");
     folder.put("out", b"kept");
     let before = folder.names();
-    let order = "damaged is not accepted: 6 at 238: list not in its order";
+    let order = "damaged is not accepted: 6 at 238: list is out of order";
     folder.fails("merge out damaged", order);
     folder.fails("merge out first second damaged", order);
-    folder
-        .fails("merge out empty a", "empty is not accepted: 2 at 0: cut short inside a field");
+    folder.fails("merge out empty a", "empty is not accepted: 2 at 0: field is cut short");
     folder.fails("merge out a long", "long is not accepted: 1 at 0: more than 65,536 bytes");
     folder.fails("merge out a missing", "missing: No such file or directory (os error 2)");
-    let differ = "19 at 0: drafts of different unsigned transactions: a and another";
+    let differ = "19 at 0: drafts are of different unsigned transactions: a and another";
     folder.fails("merge out a blank another", differ);
     let conflict =
         |one, two| format!("20 at 1: slot 1 holds different signatures in {one} and {two}");

@@ -1,9 +1,13 @@
 //! Signed AVM (X-Chain) transactions, checked, listed and merged by proved code.
 //!
 //! The functions are those of Cellfacet's static libraries, over slices. Any bytes may be
-//! handed to any of them: each ends, stays inside the slices, answers as the format's
-//! definition says (`docs/FORMAT.md`), and changes nothing where it refuses. None of them
-//! looks at signatures on the curve, fees, or whether a coin is unspent.
+//! passed to any of them: each returns, stays inside the slices, answers as the format's
+//! definition says (`docs/FORMAT.md`), and changes nothing if it refuses. None of them
+//! checks signatures on the curve, fees, or whether a coin is unspent.
+//!
+//! A *slot* is the 65 bytes for one signature. A *draft* is an accepted transaction, some of
+//! whose slots may still be empty. A *place* is a byte offset, or for [`Reason::Conflict`] the
+//! number of a slot.
 //!
 //! Two keyholders sign copies of one transaction, and the copies are joined:
 //!
@@ -47,7 +51,7 @@ pub const SIGNATURE: usize = 65;
 /// assert_eq!(cellfacet::check(signed), Ok(392));
 ///
 /// let refusal = cellfacet::check(&signed[..391]).unwrap_err();
-/// assert_eq!(refusal.to_string(), "2 at 327: cut short inside a field");
+/// assert_eq!(refusal.to_string(), "2 at 327: field is cut short");
 /// ```
 ///
 /// # Errors
@@ -58,7 +62,7 @@ pub fn check(bytes: &[u8]) -> Result<usize, Refusal> {
 
 /// Merges two drafts of one unsigned transaction into the front of `out`: the merge's number
 /// of bytes. Each slot then holds the signature that either draft holds there, and is empty
-/// where both are. Nothing behind the merge changes, and nothing at all on a refusal.
+/// if it is empty in both. Nothing after the merge changes, and nothing at all on a refusal.
 ///
 /// ```
 /// use cellfacet::{merge, Reason};
@@ -91,7 +95,7 @@ pub fn merge(first: &[u8], second: &[u8], out: &mut [u8]) -> Result<usize, Refus
 /// ```
 ///
 /// # Errors
-/// As [`check`], and then [`Reason::NoRoom`] where the table is too small.
+/// As [`check`], and then [`Reason::NoRoom`] if the table is too small.
 pub fn rows(bytes: &[u8], table: &mut [u32]) -> Result<usize, Refusal> {
     answered(library::rows(bytes, table))
 }
@@ -131,12 +135,12 @@ impl Kind {
     }
 }
 
-/// An entry of a transaction, and where it stands.
+/// An entry of a transaction, and where it is.
 #[derive(Clone, Copy, Debug, PartialEq, Eq, Hash)]
 pub struct Entry {
     /// What it is.
     pub kind: Kind,
-    /// Its first byte.
+    /// The offset of its first byte.
     pub start: usize,
     /// Its number of bytes.
     pub length: usize,
@@ -168,10 +172,10 @@ pub fn entries(bytes: &[u8]) -> Result<Vec<Entry>, Refusal> {
     Ok(rows.map(entry).collect())
 }
 
-/// Checks, and writes three numbers for each slot into the lent table: the credential that it
-/// stands in, from 0; its first byte; and 1 where it is filled, 0 where all of its bytes are
-/// zero. The answer is the number of slots; numbers beyond the rows keep their
-/// values, and on a refusal all of them do.
+/// Checks, and writes three numbers for each slot into the lent table: its credential, from 0;
+/// the offset of its first byte; and 1 if it is filled, 0 if all of its bytes are zero. The
+/// answer is the number of slots; numbers beyond the rows keep their values, and on a refusal
+/// all of them do.
 ///
 /// ```
 /// let mut table = [0; cellfacet::SLOT_NUMBERS];
@@ -181,19 +185,19 @@ pub fn entries(bytes: &[u8]) -> Result<Vec<Entry>, Refusal> {
 /// ```
 ///
 /// # Errors
-/// As [`check`], and then [`Reason::NoRoom`] where the table is too small.
+/// As [`check`], and then [`Reason::NoRoom`] if the table is too small.
 pub fn slot_rows(bytes: &[u8], table: &mut [u32]) -> Result<usize, Refusal> {
     answered(library::slots(bytes, table))
 }
 
-/// A place for a signature.
+/// The bytes for one signature.
 #[derive(Clone, Copy, Debug, PartialEq, Eq, Hash)]
 pub struct Slot {
-    /// The credential that it stands in, from 0.
+    /// The number of its credential, from 0.
     pub credential: usize,
-    /// Its first byte; it has [`SIGNATURE`] of them.
+    /// The offset of its first byte; it has [`SIGNATURE`] of them.
     pub place: usize,
-    /// Whether it holds a signature: it is empty where all of its bytes are zero.
+    /// Whether it holds a signature: it is empty if all of its bytes are zero.
     pub filled: bool,
 }
 

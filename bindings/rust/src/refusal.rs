@@ -3,19 +3,19 @@
 use std::error::Error;
 use std::fmt;
 
-/// The first broken rule, and where.
+/// The first broken rule, and the place that goes with it.
 ///
 /// ```
 /// let refusal = cellfacet::check(&[0, 0, 0, 0, 0, 9]).unwrap_err();
 /// assert_eq!((refusal.reason, refusal.place), (cellfacet::Reason::UnknownType, 2));
-/// assert_eq!(refusal.to_string(), "4 at 2: type or FxID unknown, or not allowed here");
+/// assert_eq!(refusal.to_string(), "4 at 2: type or FxID is unknown or not allowed here");
 /// ```
 #[derive(Clone, Copy, Debug, PartialEq, Eq, Hash)]
 pub struct Refusal {
     /// The broken rule.
     pub reason: Reason,
-    /// The place in the bytes that goes with it; of a [`Reason::Conflict`] the number of the
-    /// slot, and 0 of the other reasons from [`Reason::NoRoom`] on.
+    /// The place that goes with it: a byte offset; for [`Reason::Conflict`] the number of the
+    /// slot, and for the other reasons from [`Reason::NoRoom`] on 0.
     pub place: usize,
 }
 
@@ -27,7 +27,7 @@ impl fmt::Display for Refusal {
 
 impl Error for Refusal {}
 
-/// Declares the enum, its numbers back from the code, and its words.
+/// Declares the enum with its numbers and messages.
 macro_rules! reasons {
     ($($(#[$meta:meta])* $name:ident = $number:literal, $words:literal;)*) => {
         /// A rule, by its number in the table of `docs/FORMAT.md`.
@@ -43,7 +43,7 @@ macro_rules! reasons {
             pub const ALL: &'static [Reason] = &[$(Reason::$name),*];
 
             /// The reason with this number; none for 0, which is no refusal, and for numbers
-            /// that are not of the table.
+            /// that are not in the table.
             pub const fn of_number(number: u32) -> Option<Reason> {
                 match number {
                     $($number => Some(Reason::$name),)*
@@ -64,46 +64,48 @@ macro_rules! reasons {
 reasons! {
     /// More than 65,536 bytes. Place: 0.
     TooLong = 1, "more than 65,536 bytes";
-    /// A field is not wholly there. Place: the start of that field.
-    CutShort = 2, "cut short inside a field";
+    /// A field is cut short: not all of its bytes are there. Place: the start of the field.
+    CutShort = 2, "field is cut short";
     /// The codec is not 0. Place: 0.
-    WrongCodec = 3, "codec not 0";
-    /// A type or FxID is unknown, or not allowed where it stands. Place: its start.
-    UnknownType = 4, "type or FxID unknown, or not allowed here";
+    WrongCodec = 3, "codec is not 0";
+    /// A type or FxID is unknown or not allowed here. Place: its start.
+    UnknownType = 4, "type or FxID is unknown or not allowed here";
     /// An amount is 0. Place: the start of the amount.
-    ZeroAmount = 5, "amount of 0";
-    /// A list is not in its order. Place: the start of the later of the two elements.
-    OutOfOrder = 6, "list not in its order";
+    ZeroAmount = 5, "amount is 0";
+    /// A list is out of order. Place: the start of the later of the two elements.
+    OutOfOrder = 6, "list is out of order";
     /// A threshold is above the number of addresses. Place: the start of the threshold.
-    BadThreshold = 7, "threshold above the number of addresses";
-    /// The length of a name, symbol, memo or payload is not allowed. Place: its start.
-    BadLength = 8, "string length not allowed";
+    BadThreshold = 7, "threshold is above the number of addresses";
+    /// The length of a name, symbol, memo or payload is not allowed. Place: the start of the
+    /// length.
+    BadLength = 8, "length of a name, symbol, memo or payload is not allowed";
     /// A character of a name or symbol is not printable ASCII. Place: that character.
-    NotPrintable = 9, "character not printable";
+    NotPrintable = 9, "character of a name or symbol is not printable ASCII";
     /// The denomination is above 32. Place: that byte.
-    BadDenomination = 10, "denomination above 32";
-    /// A list is empty that needs an element. Place: the start of its count.
-    EmptyList = 11, "list empty that needs an element";
-    /// Not as many credentials or signatures as are due. Place: the start of the count.
-    WrongCount = 12, "not as many credentials or signatures as are due";
-    /// Bytes stand behind the end of the transaction. Place: the first of them.
-    BytesAfterEnd = 13, "bytes behind the end";
-    /// No room in the memory lent for the result. Place: 0.
+    BadDenomination = 10, "denomination is above 32";
+    /// A required list is empty. Place: the start of its count.
+    EmptyList = 11, "required list is empty";
+    /// Wrong number of credentials or signatures. Place: the start of the count.
+    WrongCount = 12, "wrong number of credentials or signatures";
+    /// Bytes follow the end of the transaction. Place: the first of them.
+    BytesAfterEnd = 13, "bytes follow the end of the transaction";
+    /// No room for the result in the lent table or buffer. Place: 0.
     NoRoom = 14, "no room for the result";
-    /// There is no such entry or slot. Place: 0.
+    /// No such entry or slot. Place: 0.
     NoEntry = 15, "no such entry or slot";
-    /// A step of the writer is not due. Place: 0.
-    StepNotDue = 16, "writer step not due";
+    /// The writer's step is not due. Place: 0.
+    StepNotDue = 16, "writer's step is not due";
     /// The first draft is not accepted. Place: 0.
-    FirstNotAccepted = 17, "first draft not accepted";
+    FirstNotAccepted = 17, "first draft is not accepted";
     /// The second draft is not accepted. Place: 0.
-    SecondNotAccepted = 18, "second draft not accepted";
-    /// The drafts differ before the credential count. Place: 0.
-    DraftsDiffer = 19, "drafts of different unsigned transactions";
+    SecondNotAccepted = 18, "second draft is not accepted";
+    /// The drafts are of different unsigned transactions: they differ before the credential
+    /// count. Place: 0.
+    DraftsDiffer = 19, "drafts are of different unsigned transactions";
     /// Two different signatures in one slot. Place: the number of the first such slot.
     Conflict = 20, "two different signatures in one slot";
-    /// A signature is not 65 bytes. Place: 0.
-    NotASignature = 21, "signature not 65 bytes";
+    /// The signature is not 65 bytes. Place: 0.
+    NotASignature = 21, "signature is not 65 bytes";
 }
 
 impl Reason {
