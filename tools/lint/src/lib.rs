@@ -7,7 +7,7 @@
 //!   laws cite is reached by no root either.
 //! - `width`: a line of more than 160 characters.
 //! - `visibility`: a `pub` item of a `.rt` file that no other crate uses. Not found are: what is
-//!   exported to C, methods, the calls that docs/DECISIONS.md offers under "What is a public entry",
+//!   exported to C, methods, the calls that docs/DECISIONS.md offers under "What is a public call",
 //!   what stands in a private module, types that a `pub` item of the crate names, and types that the
 //!   definitions or proofs of another crate name.
 //! - `closed`: a `pub` definition of a `.antt` file that no root, no other file and no other `pub`

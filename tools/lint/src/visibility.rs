@@ -116,7 +116,7 @@ fn used_types(tree: &Tree) -> BTreeSet<String> {
 // The names in the list of calls that users are offered.
 fn offered(tree: &Tree) -> BTreeSet<String> {
     let page = tree.texts.get("docs/DECISIONS.md").map_or("", String::as_str);
-    let section = page.split_once("### What is a public entry").map_or("", |(_, after)| after);
+    let section = page.split_once("### What is a public call").map_or("", |(_, after)| after);
     let section = section.split("\n### ").next().unwrap_or_default();
     code_spans(section).map(str::to_string).collect()
 }

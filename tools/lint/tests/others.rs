@@ -63,9 +63,9 @@ fn exports_methods_and_offered_calls() {
     let code = "#[no_mangle]\npub extern \"C\" fn e() {\n}\nimpl W {\n    pub fn m() {\n    }\n}\npub fn call() {\n}\n";
     let own = ("crates/a/src/lib.rt", code);
     assert_eq!(idle(&[own]), ["8: pub fn call is used by no other crate"]);
-    let page = "### What is a public entry\n`call` (`a`)\n\n### Other\n`x`\n";
+    let page = "### What is a public call\n`call` (`a`)\n\n### Other\n`x`\n";
     assert!(idle(&[own, ("docs/DECISIONS.md", page)]).is_empty());
-    let page = "### What is a public entry\n`x`\n\n### Other\n`call`\n";
+    let page = "### What is a public call\n`x`\n\n### Other\n`call`\n";
     assert_eq!(idle(&[own, ("docs/DECISIONS.md", page)]).len(), 1);
 }
 
