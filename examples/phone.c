@@ -1,6 +1,6 @@
 /*
- * Checks a transaction, joins two copies of it that two keyholders have signed, and meets two
- * copies that cannot be joined. Built and run at the root of the repository by
+ * Checks a transaction, merges two copies of it that two keyholders have signed, and tries to merge
+ * two copies that conflict. Build and run it at the root of the repository:
  *
  *     rt staticlib phone &&
  *     gcc -Iinclude examples/phone.c target/staticlib/libphone.a -o target/phone &&
@@ -12,7 +12,7 @@
 #include <stdlib.h>
 #include <string.h>
 
-/* A transaction has at most 65,536 bytes; one more, and it is refused. */
+/* A transaction has at most 65,536 bytes. There is room for one more, so that a longer file is refused. */
 struct draft {
     uint8_t bytes[65537];
     size_t length;
@@ -39,7 +39,7 @@ static void check(const char *what, const uint8_t *bytes, size_t length)
         printf("%s: refused by rule %u at byte %u\n", what, number, place);
 }
 
-/* Joins both into out, which is left as it was where they cannot be joined. */
+/* Merges both into out, which does not change if the merge is refused. */
 static void join(const char *what, const struct draft *first, const struct draft *second, struct draft *out)
 {
     uint64_t answer = cellfacet_merge(first->bytes, first->length, second->bytes, second->length,

@@ -1,4 +1,4 @@
-//! Copies of one transaction, from files, joined into one.
+//! Merges copies of one transaction, from files, into one.
 
 use std::ffi::OsString;
 use std::path::Path;
@@ -7,7 +7,7 @@ use cellfacet::{Reason, Refusal};
 
 use crate::file;
 
-/// An accepted transaction, and the file that it is from.
+/// An accepted transaction, and the file it was read from.
 struct Draft<'a> {
     path: &'a Path,
     bytes: Vec<u8>,
@@ -22,14 +22,14 @@ impl Draft<'_> {
         }
     }
 
-    /// Whether it holds a signature in a slot.
+    /// Whether slot number `slot` holds a signature.
     fn holds(&self, slot: usize) -> bool {
         let slots = cellfacet::slots(&self.bytes).unwrap_or_default();
         slots.get(slot).is_some_and(|slot| slot.filled)
     }
 }
 
-/// The merge of all of the files, of which there is at least one; or why there is none.
+/// The merge of all files, of which there is at least one; or the message why there is none.
 pub fn merged(files: &[OsString]) -> Result<Vec<u8>, String> {
     let drafts: Result<Vec<_>, _> =
         files.iter().map(|file| Draft::read(file.as_ref())).collect();
@@ -39,20 +39,20 @@ pub fn merged(files: &[OsString]) -> Result<Vec<u8>, String> {
     for (before, draft) in drafts.iter().enumerate().skip(1) {
         match cellfacet::merge(&merged, &draft.bytes, &mut room) {
             Ok(_) => merged.copy_from_slice(&room),
-            Err(refusal) => return Err(told(refusal, &drafts[..before], draft)),
+            Err(refusal) => return Err(message(refusal, &drafts[..before], draft)),
         }
     }
     Ok(merged)
 }
 
-/// A refusal with the two files that it is about.
-fn told(refusal: Refusal, before: &[Draft], draft: &Draft) -> String {
+/// The message for a refused merge, with the two files that it is about.
+fn message(refusal: Refusal, before: &[Draft], draft: &Draft) -> String {
     let later = draft.path.display();
     if refusal.reason != Reason::Conflict {
         return format!("{refusal}: {} and {later}", before[0].path.display());
     }
     let slot = refusal.place;
-    // The first that holds a signature there: the others that do hold the same.
+    // The first draft with a signature in that slot: the merge so far holds this signature.
     let holder = before.iter().find(|earlier| earlier.holds(slot)).unwrap_or(&before[0]);
     let earlier = holder.path.display();
     format!("20 at {slot}: slot {slot} holds different signatures in {earlier} and {later}")

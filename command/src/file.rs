@@ -1,12 +1,11 @@
-//! Files read, and replaced whole or not at all.
+//! Reads files, and replaces them whole or not at all.
 
 use std::fs::{self, File, OpenOptions};
 use std::io::{self, ErrorKind, Read, Write};
 use std::path::{Path, PathBuf};
 use std::process;
 
-/// Reads a file; of a longer one no more than one byte above what a transaction may have, which
-/// the check then refuses.
+/// Reads a file, at most one byte more than a transaction may have: the check refuses that.
 pub fn read(path: &Path) -> Result<Vec<u8>, String> {
     let most = cellfacet::MOST_BYTES as u64 + 1;
     let mut bytes = Vec::new();
@@ -15,8 +14,8 @@ pub fn read(path: &Path) -> Result<Vec<u8>, String> {
     Ok(bytes)
 }
 
-/// Puts the bytes into a file. They are written to another one beside it, which then takes its
-/// name: after a crash the file holds either what it held or all of the bytes.
+/// Replaces the content of a file. The bytes are written to a new file in the same folder, which is
+/// then renamed: after a crash the file holds either the old content or all of the bytes.
 pub fn replace(path: &Path, bytes: &[u8]) -> io::Result<()> {
     let target = target(path)?;
     let folder = match target.parent() {
@@ -27,15 +26,15 @@ pub fn replace(path: &Path, bytes: &[u8]) -> io::Result<()> {
     let (beside, file) = beside(folder)?;
     let written = write(file, bytes, &target).and_then(|()| fs::rename(&beside, &target));
     if let Err(error) = written {
-        // The error that is told is the first one.
+        // The first error is the one that is reported.
         let _ = fs::remove_file(&beside);
         return Err(error);
     }
     opened.sync_all()
 }
 
-/// The file behind a link, or a name that is free. What is no file (a folder, a device) is not
-/// replaced.
+/// The file that a link points to, or a name that is free. What is not a regular file (a folder, a
+/// device) is not replaced.
 fn target(path: &Path) -> io::Result<PathBuf> {
     match fs::canonicalize(path) {
         Ok(found) if found.is_file() => Ok(found),
@@ -45,7 +44,7 @@ fn target(path: &Path) -> io::Result<PathBuf> {
     }
 }
 
-/// A new file in a folder, under a name that was free.
+/// A new file in a folder, under a free name.
 fn beside(folder: &Path) -> io::Result<(PathBuf, File)> {
     let mut turn = 0;
     loop {

@@ -1,5 +1,4 @@
-//! The operator's command. Files are read and written here; what their bytes mean is asked of
-//! the proved code.
+//! The operator's command. It reads and writes files; the proved code says what their bytes mean.
 
 mod draft;
 mod file;
