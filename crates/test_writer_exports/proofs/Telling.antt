@@ -24,5 +24,22 @@ refused-told w a e q n h = ap (λ (i : ℕ). numbersOf w i (e .place)) h ∙ sym
 pub ruleset telling = (done-told, refused-told)
 
 -- f is the step's definition, v the state that the numbers are, and r what the step's method answered
-pub step-encoded : (f : Writer → Turn) (v w : Writer) (r : Step) (m b : List ℕ) → w ≡ v → after r b ≡ f w → m ≡ encoded r → probed m b ≡ encodedTurn (f v)
+step-encoded : (f : Writer → Turn) (v w : Writer) (r : Step) (m b : List ℕ) → w ≡ v → after r b ≡ f w → m ≡ encoded r → probed m b ≡ encodedTurn (f v)
 step-encoded f v w r m b h t e = rw e (ap encodedTurn t ∙ ap (λ x. encodedTurn (f x)) h)
+
+-- The same by how many arguments a step has besides the state and the buffer s: `search` then reads all of them off the goal
+pub step-of-none : (f : Writer → List ℕ → Turn) (v w : Writer) (r : Step) (m b s : List ℕ) → w ≡ v
+    → after r b ≡ f w s → m ≡ encoded r → probed m b ≡ encodedTurn (f v s)
+step-of-none f v w r m b s = step-encoded (λ q. f q s) v w r m b
+
+pub step-of-one : {X : Type 0} (f : Writer → List ℕ → X → Turn) (v w : Writer) (r : Step) (m b s : List ℕ) (x : X) → w ≡ v
+    → after r b ≡ f w s x → m ≡ encoded r → probed m b ≡ encodedTurn (f v s x)
+step-of-one f v w r m b s x = step-encoded (λ q. f q s x) v w r m b
+
+pub step-of-three : {X Y Z : Type 0} (f : Writer → List ℕ → X → Y → Z → Turn) (v w : Writer) (r : Step) (m b s : List ℕ) (x : X) (y : Y) (z : Z) → w ≡ v
+    → after r b ≡ f w s x y z → m ≡ encoded r → probed m b ≡ encodedTurn (f v s x y z)
+step-of-three f v w r m b s x y z = step-encoded (λ q. f q s x y z) v w r m b
+
+pub step-of-five : {X Y Z T U : Type 0} (f : Writer → List ℕ → X → Y → Z → T → U → Turn) (v w : Writer) (r : Step) (m b s : List ℕ)
+    (x : X) (y : Y) (z : Z) (t : T) (u : U) → w ≡ v → after r b ≡ f w s x y z t u → m ≡ encoded r → probed m b ≡ encodedTurn (f v s x y z t u)
+step-of-five f v w r m b s x y z t u = step-encoded (λ q. f q s x y z t u) v w r m b

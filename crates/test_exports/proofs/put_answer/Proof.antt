@@ -1,7 +1,7 @@
 -- `test_exports::put_answer` meets its contract. Assumes nothing.
 use borrow.Author.Needs.{needs}
 use Rattle.test_exports.specs.Values.{answerValues}
-use Rattle.test_exports.proofs.Putting.{put-one, put-known, put-none, by-case}
+use Rattle.test_exports.proofs.Putting.{put-one, put-found, put-known, put-none, by-case}
 use Rattle.test_exports.proofs.put_answer.Statement.{statement}
 use Rattle.test_exports.proofs.put_answer.Tie as tie
 
@@ -21,10 +21,13 @@ put-answer-spec =
     (λ c κs. search needs)  -- store-requires-5
     (λ c κs. search needs)  -- store-requires-6
     (λ c. search needs)  -- same-length
-    (λ c. by-case answerValues _ _ _ _
-    (c .before .before .before .before .before .before .before .before .before .before .before .before .before .before .before .before .before .before .before .before .before .answer .given .1) (put-one _ _ _ _ _ _ (c .before .before .before .before .before .before .before .before .before .before .before .before .before .before .before .before .before .before .put .ensures) (put-one _ _ _ _ _ _ (c .before .before .before .before .before .before .before .before .before .before .before .before .before .before .put2 .ensures) (put-one _ _ _ _ _ _ (c .before .before .before .before .before .before .before .before .before .before .put3 .ensures) (put-one _ _ _ _ _ _ (c .before .before .before .before .before .before .put4 .ensures) (c .before .before .put-entry .ensures))))))  -- returns
+    (λ c.
+    let fourth : tie.After-put4 = search in
+    let third : tie.After-put3 = search in
+    let second : tie.After-put2 = search in
+    let first : tie.After-put = search in
+    let case : tie.After-answer = search in
+    put-found _ _ _ _ _ (case .answer .given .1) _ _ _ _ _ _ (first .put .ensures) (second .put2 .ensures) (third .put3 .ensures)
+    (fourth .put4 .ensures) (c .before .before .put-entry .ensures))  -- returns
     (λ c. search needs)  -- same-length-2
-    (λ c. by-case answerValues _ _ _ _ (c .before .before .before .before .before .before .before .before .before .before .answer2 .given .1)
-    (put-known _ _ _ _ _ _ _ (c .before .before .before .before .before .before .put5 .ensures)
-    (c .before .before .before .before .before .before .before .number-of .ensures)
-    (put-one _ _ _ _ _ _ (c .before .before .put6 .ensures) (put-none _)))))  -- returns-2
+    (λ c. search (by-case answerValues, put-known, put-one, put-none)))  -- returns-2

@@ -1,6 +1,6 @@
 -- `test_exports::put_credential` meets its contract. Assumes nothing.
 use borrow.Author.Needs.{needs}
-use Rattle.test_exports.proofs.Putting.{put-one, put-none}
+use Rattle.test_exports.proofs.Putting.{put-three}
 use Rattle.test_exports.proofs.put_credential.Statement.{statement}
 use Rattle.test_exports.proofs.put_credential.Tie as tie
 
@@ -12,6 +12,4 @@ put-credential-spec =
     (λ c κs. search needs)  -- store-requires-2
     (λ c κs. search needs)  -- store-requires-3
     (λ c. search needs)  -- same-length
-    (λ c. put-one _ _ _ _ _ _ (c .before .before .before .before .before .before .before .before .before .before .put .ensures)
-    (put-one _ _ _ _ _ _ (c .before .before .before .before .before .before .put2 .ensures)
-    (put-one _ _ _ _ _ _ (c .before .before .put3 .ensures) (put-none _)))))  -- returns
+    (λ c. search put-three))  -- returns

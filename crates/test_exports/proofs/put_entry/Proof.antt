@@ -31,23 +31,16 @@ put-entry-spec =
     (λ c κs. search needs)  -- store-requires-7
     (λ c κs. search needs)  -- put-credential-requires
     (λ c. search needs)  -- same-length
-    (λ c. by-case entryValues _ _ _ _ (c .before .before .before .before .before .before .before .before .before .entry .given .1)
-    (put-one _ _ _ _ _ _ (c .before .before .before .before .before .before .put .ensures) (c .before .before .put-output .ensures)))  -- returns
+    (λ c. search (by-case entryValues, put-one))  -- returns
     (λ c. search needs)  -- same-length-2
-    (λ c. by-case entryValues _ _ _ _ (c .before .before .before .before .before .before .before .before .before .entry2 .given .1)
-    (put-one _ _ _ _ _ _ (c .before .before .before .before .before .before .put2 .ensures) (c .before .before .put-input .ensures)))  -- returns-2
+    (λ c. search (by-case entryValues, put-one))  -- returns-2
     (λ c. search needs)  -- same-length-3
-    (λ c. by-case entryValues _ _ _ _ (c .before .before .before .before .before .before .before .before .before .entry3 .given .1)
-    (put-one _ _ _ _ _ _ (c .before .before .before .before .before .before .put3 .ensures) (c .before .before .put-operation .ensures)))  -- returns-3
+    (λ c. search (by-case entryValues, put-one))  -- returns-3
     (λ c. search needs)  -- same-length-4
-    (λ c. by-case entryValues _ _ _ _ (c .before .before .before .before .before .before .before .before .before .entry4 .given .1)
-    (put-one _ _ _ _ _ _ (c .before .before .before .before .before .before .put4 .ensures) (c .before .before .put-input2 .ensures)))  -- returns-4
+    (λ c. search (by-case entryValues, put-one))  -- returns-4
     (λ c. search needs)  -- same-length-5
-    (λ c. by-case entryValues _ _ _ _ (c .before .before .before .before .before .before .before .before .before .entry5 .given .1)
-    (put-one _ _ _ _ _ _ (c .before .before .before .before .before .before .put5 .ensures) (c .before .before .put-output2 .ensures)))  -- returns-5
+    (λ c. search (by-case entryValues, put-one))  -- returns-5
     (λ c. search needs)  -- same-length-6
-    (λ c. by-case entryValues _ _ _ _ (c .before .before .before .before .before .before .before .before .before .entry6 .given .1)
-    (put-one _ _ _ _ _ _ (c .before .before .before .before .before .before .put6 .ensures) (c .before .before .put-output3 .ensures)))  -- returns-6
+    (λ c. search (by-case entryValues, put-one))  -- returns-6
     (λ c. search needs)  -- same-length-7
-    (λ c. by-case entryValues _ _ _ _ (c .before .before .before .before .before .before .before .before .before .entry7 .given .1)
-    (put-one _ _ _ _ _ _ (c .before .before .before .before .before .before .put7 .ensures) (c .before .before .put-credential .ensures))))  -- returns-7
+    (λ c. search (by-case entryValues, put-one)))  -- returns-7

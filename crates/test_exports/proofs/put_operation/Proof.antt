@@ -1,6 +1,6 @@
 -- `test_exports::put_operation` meets its contract. Assumes nothing.
 use borrow.Author.Needs.{needs}
-use Rattle.test_exports.proofs.Putting.{put-one}
+use Rattle.test_exports.proofs.Putting.{put-fields}
 use Rattle.test_exports.proofs.put_operation.Statement.{statement}
 use Rattle.test_exports.proofs.put_operation.Tie as tie
 
@@ -17,5 +17,14 @@ put-operation-spec =
     (λ c κs. search needs)  -- store-requires-7
     (λ c κs. search needs)  -- put-recipients-requires
     (λ c. search needs)  -- same-length
-    (λ c. put-one _ _ _ _ _ _
-    (c .before .before .before .before .before .before .before .before .before .before .before .before .before .before .before .before .before .before .before .before .before .before .before .before .before .before .before .before .before .before .put .ensures) (put-one _ _ _ _ _ _ (c .before .before .before .before .before .before .before .before .before .before .before .before .before .before .before .before .before .before .before .before .before .before .before .before .before .before .put2 .ensures) (put-one _ _ _ _ _ _ (c .before .before .before .before .before .before .before .before .before .before .before .before .before .before .before .before .before .before .before .before .before .before .put3 .ensures) (put-one _ _ _ _ _ _ (c .before .before .before .before .before .before .before .before .before .before .before .before .before .before .before .before .before .before .put4 .ensures) (put-one _ _ _ _ _ _ (c .before .before .before .before .before .before .before .before .before .before .before .before .before .before .put5 .ensures) (put-one _ _ _ _ _ _ (c .before .before .before .before .before .before .before .before .before .before .put6 .ensures) (put-one _ _ _ _ _ _ (c .before .before .before .before .before .before .put7 .ensures) (c .before .before .put-recipients .ensures)))))))))  -- returns
+    (λ c.
+    let seventh : tie.After-put7 = search in
+    let sixth : tie.After-put6 = search in
+    let fifth : tie.After-put5 = search in
+    let fourth : tie.After-put4 = search in
+    let third : tie.After-put3 = search in
+    let second : tie.After-put2 = search in
+    let first : tie.After-put = search in
+    let start : tie.Start = search in
+    put-fields (start .args .fields) (start .args .numbers .now) _ _ _ _ _ _ _ _ (first .put .ensures) (second .put2 .ensures) (third .put3 .ensures)
+    (fourth .put4 .ensures) (fifth .put5 .ensures) (sixth .put6 .ensures) (seventh .put7 .ensures) (c .before .before .put-recipients .ensures)))  -- returns

@@ -1,7 +1,7 @@
 -- `test_exports::put_output` meets its contract. Assumes nothing.
 use borrow.Author.Needs.{needs}
 use Rattle.test_exports.specs.Values.{outputValues}
-use Rattle.test_exports.proofs.Putting.{put-one, by-case}
+use Rattle.test_exports.proofs.Putting.{put-one, put-two, put-nft-transfer, by-case}
 use Rattle.test_exports.proofs.put_output.Statement.{statement}
 use Rattle.test_exports.proofs.put_output.Tie as tie
 
@@ -27,20 +27,17 @@ put-output-spec =
     (λ c κs. search needs)  -- store-requires-9
     (λ c κs. search needs)  -- put-owners-requires-4
     (λ c. search needs)  -- same-length
-    (λ c. by-case outputValues _ _ _ _ (c .before .before .before .before .before .before .before .before .before .fields .given .1)
-    (put-one _ _ _ _ _ _ (c .before .before .before .before .before .before .put .ensures) (c .before .before .put-owners .ensures)))  -- returns
+    (λ c. search (by-case outputValues, put-one))  -- returns
     (λ c. search needs)  -- same-length-2
-    (λ c. by-case outputValues _ _ _ _
-    (c .before .before .before .before .before .before .before .before .before .before .before .before .before .fields2 .given .1)
-    (put-one _ _ _ _ _ _ (c .before .before .before .before .before .before .before .before .before .before .put2 .ensures)
-    (put-one _ _ _ _ _ _ (c .before .before .before .before .before .before .put3 .ensures)
-    (c .before .before .put-owners2 .ensures))))  -- returns-2
+    (λ c. search (by-case outputValues, put-two))  -- returns-2
     (λ c. search needs)  -- same-length-3
-    (λ c. by-case outputValues _ _ _ _
-    (c .before .before .before .before .before .before .before .before .before .before .before .before .before .fields3 .given .1)
-    (put-one _ _ _ _ _ _ (c .before .before .before .before .before .before .before .before .before .before .put4 .ensures)
-    (put-one _ _ _ _ _ _ (c .before .before .before .before .before .before .put5 .ensures)
-    (c .before .before .put-owners3 .ensures))))  -- returns-3
+    (λ c. search (by-case outputValues, put-two))  -- returns-3
     (λ c. search needs)  -- same-length-4
-    (λ c. by-case outputValues _ _ _ _
-    (c .before .before .before .before .before .before .before .before .before .before .before .before .before .before .before .before .before .before .before .before .before .fields4 .given .1) (put-one _ _ _ _ _ _ (c .before .before .before .before .before .before .before .before .before .before .before .before .before .before .before .before .before .before .put6 .ensures) (put-one _ _ _ _ _ _ (c .before .before .before .before .before .before .before .before .before .before .before .before .before .before .put7 .ensures) (put-one _ _ _ _ _ _ (c .before .before .before .before .before .before .before .before .before .before .put8 .ensures) (put-one _ _ _ _ _ _ (c .before .before .before .before .before .before .put9 .ensures) (c .before .before .put-owners4 .ensures)))))))  -- returns-4
+    (λ c.
+    let fourth : tie.After-put9 = search in
+    let third : tie.After-put8 = search in
+    let second : tie.After-put7 = search in
+    let first : tie.After-put6 = search in
+    let case : tie.After-fields4 = search in
+    put-nft-transfer _ _ _ _ _ (case .fields4 .given .1) _ _ _ _ _ _ (first .put6 .ensures) (second .put7 .ensures) (third .put8 .ensures)
+    (fourth .put9 .ensures) (c .before .before .put-owners4 .ensures)))  -- returns-4

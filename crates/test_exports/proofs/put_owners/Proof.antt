@@ -1,6 +1,6 @@
 -- `test_exports::put_owners` meets its contract. Assumes nothing.
 use borrow.Author.Needs.{needs}
-use Rattle.test_exports.proofs.Putting.{put-one, put-none}
+use Rattle.test_exports.proofs.Putting.{all-four}
 use Rattle.test_exports.proofs.put_owners.Statement.{statement}
 use Rattle.test_exports.proofs.put_owners.Tie as tie
 
@@ -13,8 +13,4 @@ put-owners-spec =
     (λ c κs. search needs)  -- store-requires-3
     (λ c κs. search needs)  -- store-requires-4
     (λ c. search needs)  -- same-length
-    (λ c. put-one _ _ _ _ _ _
-    (c .before .before .before .before .before .before .before .before .before .before .before .before .before .before .put .ensures)
-    (put-one _ _ _ _ _ _ (c .before .before .before .before .before .before .before .before .before .before .put2 .ensures)
-    (put-one _ _ _ _ _ _ (c .before .before .before .before .before .before .put3 .ensures)
-    (put-one _ _ _ _ _ _ (c .before .before .put4 .ensures) (put-none _))))))  -- returns
+    (λ c. search all-four))  -- returns

@@ -1,7 +1,7 @@
 -- `test_exports::put_recipients` meets its contract. Assumes nothing.
 use borrow.Author.Needs.{needs}
 use Rattle.test_exports.specs.Values.{recipientsValues}
-use Rattle.test_exports.proofs.Putting.{put-one, put-none, by-case}
+use Rattle.test_exports.proofs.Putting.{put-one, put-three, by-case}
 use Rattle.test_exports.proofs.put_recipients.Statement.{statement}
 use Rattle.test_exports.proofs.put_recipients.Tie as tie
 
@@ -17,11 +17,6 @@ put-recipients-spec =
     (λ c κs. search needs)  -- store-requires-4
     (λ c κs. search needs)  -- put-owners-requires
     (λ c. search needs)  -- same-length
-    (λ c. by-case recipientsValues _ _ _ _
-    (c .before .before .before .before .before .before .before .before .before .before .before .before .before .recipients .given .1)
-    (put-one _ _ _ _ _ _ (c .before .before .before .before .before .before .before .before .before .before .put .ensures)
-    (put-one _ _ _ _ _ _ (c .before .before .before .before .before .before .put2 .ensures)
-    (put-one _ _ _ _ _ _ (c .before .before .put3 .ensures) (put-none _)))))  -- returns
+    (λ c. search (by-case recipientsValues, put-three))  -- returns
     (λ c. search needs)  -- same-length-2
-    (λ c. by-case recipientsValues _ _ _ _ (c .before .before .before .before .before .before .before .before .before .recipients2 .given .1)
-    (put-one _ _ _ _ _ _ (c .before .before .before .before .before .before .put4 .ensures) (c .before .before .put-owners .ensures))))  -- returns-2
+    (λ c. search (by-case recipientsValues, put-one)))  -- returns-2

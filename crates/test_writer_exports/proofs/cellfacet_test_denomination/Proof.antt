@@ -2,7 +2,7 @@
 use borrow.Author.Needs.{needs}
 use Rattle.transaction.specs.Answer.{memoMost}
 use Rattle.writer.specs.Fields.{putDenomination}
-use Rattle.test_writer_exports.proofs.Telling.{step-encoded}
+use Rattle.test_writer_exports.proofs.Telling.{step-of-one}
 use Rattle.test_writer_exports.proofs.cellfacet_test_denomination.Statement.{statement}
 use Rattle.test_writer_exports.proofs.cellfacet_test_denomination.Tie as tie
 
@@ -14,6 +14,4 @@ cellfacet-test-denomination-spec =
     (λ c κs. search needs)  -- denomination-requires
     (λ c κs. search needs)  -- numbers-of-requires
     (λ c. search needs)  -- same-length
-    (λ c. let a = c .before .before .before .before .before .before .before .before .args in
-    step-encoded (λ w. putDenomination memoMost w (a .buf .now) (a .value)) _ _ _ _ _
-    (c .before .before .before .before .before .writer-of .ensures) (c .before .before .before .denomination .ensures) (c .numbers-of .ensures)))  -- returns
+    (λ c. search (step-of-one (putDenomination memoMost))))  -- returns

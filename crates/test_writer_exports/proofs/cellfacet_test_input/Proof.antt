@@ -2,7 +2,7 @@
 use borrow.Author.Needs.{needs}
 use Rattle.transaction.specs.Answer.{memoMost}
 use Rattle.writer.specs.Fields.{addInput}
-use Rattle.test_writer_exports.proofs.Telling.{step-encoded}
+use Rattle.test_writer_exports.proofs.Telling.{step-of-five}
 use Rattle.test_writer_exports.proofs.cellfacet_test_input.Statement.{statement}
 use Rattle.test_writer_exports.proofs.cellfacet_test_input.Tie as tie
 
@@ -14,7 +14,4 @@ cellfacet-test-input-spec =
     (λ c κs. search needs)  -- add-input-requires
     (λ c κs. search needs)  -- numbers-of-requires
     (λ c. search needs)  -- same-length
-    (λ c. let a = c .before .before .before .before .before .before .before .before .before .before .before .args in
-    step-encoded (λ w. addInput memoMost w (a .buf .now) (a .txid .now) (a .index) (a .asset .now) (a .amount) (a .indices .now)) _ _ _ _ _
-    (c .before .before .before .before .before .before .before .writer-of .ensures) (c .before .before .before .add-input .ensures)
-    (c .numbers-of .ensures)))  -- returns
+    (λ c. search (step-of-five (addInput memoMost))))  -- returns

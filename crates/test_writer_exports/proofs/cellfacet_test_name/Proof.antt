@@ -2,7 +2,7 @@
 use borrow.Author.Needs.{needs}
 use Rattle.transaction.specs.Answer.{memoMost}
 use Rattle.writer.specs.Fields.{putName}
-use Rattle.test_writer_exports.proofs.Telling.{step-encoded}
+use Rattle.test_writer_exports.proofs.Telling.{step-of-one}
 use Rattle.test_writer_exports.proofs.cellfacet_test_name.Statement.{statement}
 use Rattle.test_writer_exports.proofs.cellfacet_test_name.Tie as tie
 
@@ -14,6 +14,4 @@ cellfacet-test-name-spec =
     (λ c κs. search needs)  -- name-requires
     (λ c κs. search needs)  -- numbers-of-requires
     (λ c. search needs)  -- same-length
-    (λ c. let a = c .before .before .before .before .before .before .before .before .before .args in
-    step-encoded (λ w. putName memoMost w (a .buf .now) (a .bytes .now)) _ _ _ _ _
-    (c .before .before .before .before .before .writer-of .ensures) (c .before .before .before .name .ensures) (c .numbers-of .ensures)))  -- returns
+    (λ c. search (step-of-one (putName memoMost))))  -- returns

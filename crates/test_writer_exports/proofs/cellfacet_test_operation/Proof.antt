@@ -2,7 +2,7 @@
 use borrow.Author.Needs.{needs}
 use Rattle.transaction.specs.Answer.{memoMost}
 use Rattle.writer.specs.Fields.{addOperation}
-use Rattle.test_writer_exports.proofs.Telling.{step-encoded}
+use Rattle.test_writer_exports.proofs.Telling.{step-of-one}
 use Rattle.test_writer_exports.proofs.cellfacet_test_operation.Statement.{statement}
 use Rattle.test_writer_exports.proofs.cellfacet_test_operation.Tie as tie
 
@@ -14,6 +14,4 @@ cellfacet-test-operation-spec =
     (λ c κs. search needs)  -- add-operation-requires
     (λ c κs. search needs)  -- numbers-of-requires
     (λ c. search needs)  -- same-length
-    (λ c. let a = c .before .before .before .before .before .before .before .before .before .args in
-    step-encoded (λ w. addOperation memoMost w (a .buf .now) (a .bytes .now)) _ _ _ _ _
-    (c .before .before .before .before .before .writer-of .ensures) (c .before .before .before .add-operation .ensures) (c .numbers-of .ensures)))  -- returns
+    (λ c. search (step-of-one (addOperation memoMost))))  -- returns

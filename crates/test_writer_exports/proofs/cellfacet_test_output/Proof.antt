@@ -2,7 +2,7 @@
 use borrow.Author.Needs.{needs}
 use Rattle.transaction.specs.Answer.{memoMost}
 use Rattle.writer.specs.Fields.{addOutput}
-use Rattle.test_writer_exports.proofs.Telling.{step-encoded}
+use Rattle.test_writer_exports.proofs.Telling.{step-of-five}
 use Rattle.test_writer_exports.proofs.cellfacet_test_output.Statement.{statement}
 use Rattle.test_writer_exports.proofs.cellfacet_test_output.Tie as tie
 
@@ -14,7 +14,4 @@ cellfacet-test-output-spec =
     (λ c κs. search needs)  -- add-output-requires
     (λ c κs. search needs)  -- numbers-of-requires
     (λ c. search needs)  -- same-length
-    (λ c. let a = c .before .before .before .before .before .before .before .before .before .before .args in
-    step-encoded (λ w. addOutput memoMost w (a .buf .now) (a .asset .now) (a .amount) (a .locktime) (a .threshold) (a .addresses .now)) _ _ _ _ _
-    (c .before .before .before .before .before .before .writer-of .ensures) (c .before .before .before .add-output .ensures)
-    (c .numbers-of .ensures)))  -- returns
+    (λ c. search (step-of-five (addOutput memoMost))))  -- returns

@@ -3,7 +3,7 @@ use borrow.Author.Needs.{needs}
 use Rattle.transaction.specs.Avm.{avm}
 use Rattle.transaction.specs.Answer.{memoMost}
 use Rattle.writer.specs.Steps.{start}
-use Rattle.test_writer_exports.proofs.Telling.{step-encoded}
+use Rattle.test_writer_exports.proofs.Telling.{step-of-three}
 use Rattle.test_writer_exports.proofs.cellfacet_test_start.Statement.{statement}
 use Rattle.test_writer_exports.proofs.cellfacet_test_start.Tie as tie
 
@@ -15,6 +15,4 @@ cellfacet-test-start-spec =
     (λ c κs. search needs)  -- start-requires
     (λ c κs. search needs)  -- numbers-of-requires
     (λ c. search needs)  -- same-length
-    (λ c. let a = c .before .before .before .before .before .before .before .before .before .args in
-    step-encoded (λ w. start (avm memoMost) w (a .buf .now) (a .type-id) (a .network) (a .chain .now)) _ _ _ _ _
-    (c .before .before .before .before .before .before .writer-of .ensures) (c .before .before .before .start .ensures) (c .numbers-of .ensures)))  -- returns
+    (λ c. search (step-of-three (start (avm memoMost)))))  -- returns
