@@ -22,11 +22,17 @@ state-rules-spec =
     (λ c. search needs)  -- enum-known-fx
     (λ c. search needs)  -- enum-told
     (λ c κs. search needs)  -- refuse-step-requires
-    (λ c. let a = c .before .before .before .before .before .before .args in on-fx-short (a .bytes .now) 0 _ _ _ _
+    (λ c.
+    let start : tie.Start = search in
+    let a = start .args in
+    on-fx-short (a .bytes .now) 0 _ _ _ _
     (c .before .before .before .u32-at .ensures) _ (c .before .enum-told .given .1) (cutAt 4 (a .bytes .now) 0) refl (c .refuse-step .ensures))  -- returns
     (λ c κs. search needs)  -- refuse-step-requires-2
-    (λ c. on-fx-unknown (c .before .before .before .before .before .before .before .before .args .bytes .now) 0 _ _ _ _
-    (c .before .before .before .before .before .u32-at .ensures) _ _ (c .before .before .before .fx .given .1) (c .before .if1 .taken)
+    (λ c.
+    let at-u32-at : tie.After-u32-at = search in
+    let start : tie.Start = search in
+    on-fx-unknown (start .args .bytes .now) 0 _ _ _ _
+    (at-u32-at .u32-at .ensures) _ _ (c .before .before .before .fx .given .1) (c .before .if1 .taken)
     (c .refuse-step2 .ensures))  -- returns-2
     (λ c κs. search needs)  -- between-requires
     (λ c κs. search needs)  -- between-requires-2
@@ -34,31 +40,77 @@ state-rules-spec =
     (λ c κs. search needs)  -- state-outputs-at-requires
     (λ c. search needs)  -- enum-known-refusal
     (λ c κs. search needs)  -- without-place-requires
-    (λ c. let a = c .before .before .before .before .before .before .before .before .before .before .before .before .before .before .before .before .args in
-    on-fx (a .bytes .now) 0 _ _ _ _
-    (c .before .before .before .before .before .before .before .before .before .before .before .before .before .u32-at .ensures) _ _
-    (c .before .before .before .before .before .before .before .before .before .before .before .fx .given .1)
-    (c .before .before .before .before .before .before .before .before .before .if1 .left)
-    (if-after (a .last .now) (a .bytes .now)
-    (c .before .before .before .before .before .before .before .before .before .before .before .before .before .before .shared-slice-known2 .given) _ (c .before .before .before .before .before .before .before .before .before .before .before .before .before .u32-at .ensures) _ _ (c .before .before .before .before .before .before .before .before .before .before .before .fx .given .1) (c .before .before .before .before .before .before .before .before .before .if1 .left) _ _ _ (c .before .before .before .before .before .before .before .before .between .ensures) (c .before .before .before .before .before .before .before .between2 .ensures) (c .before .before .before .before .before .before .is-below .ensures) _ _ _ (c .before .before .before .before .before .if2 .taken) (on-state-outputs-refused _ (a .bytes .now) _ _ _ _ _ _ (c .before .before .before .before .state-outputs-at .ensures) (c .before .before .refusal .given .1) (ap J.Refuse (c .without-place .ensures)))))  -- returns-3
+    (λ c.
+    let outputs : tie.After-state-outputs-at = search in
+    let tested : tie.Then2 = search in
+    let compared : tie.After-is-below = search in
+    let second : tie.After-between2 = search in
+    let first : tie.After-between = search in
+    let known : tie.Else1 = search in
+    let told : tie.After-fx = search in
+    let read : tie.After-u32-at = search in
+    let bytes : tie.After-shared-slice-known2 = search in
+    let start : tie.Start = search in
+    let a = start .args in
+    let number = read .u32-at .ensures in
+    let fx = told .fx .given .1 in
+    on-fx (a .bytes .now) 0 _ _ _ _ number _ _ fx (known .if1 .left)
+    (if-after (a .last .now) (a .bytes .now) (bytes .shared-slice-known2 .given) _ number _ _ fx (known .if1 .left) _ _ _
+    (first .between .ensures) (second .between2 .ensures) (compared .is-below .ensures) _ _ _ (tested .if2 .taken)
+    (on-state-outputs-refused _ (a .bytes .now) _ _ _ _ _ _ (outputs .state-outputs-at .ensures)
+    (c .before .before .refusal .given .1) (ap J.Refuse (c .without-place .ensures)))))  -- returns-3
     (λ c. search needs)  -- enum-known-end
-    (λ c. let a = c .before .before .before .before .before .before .before .before .before .before .before .before .before .before .before .before .args in
-    on-fx (a .bytes .now) 0 _ _ _ _
-    (c .before .before .before .before .before .before .before .before .before .before .before .before .before .u32-at .ensures) _ _
-    (c .before .before .before .before .before .before .before .before .before .before .before .fx .given .1)
-    (c .before .before .before .before .before .before .before .before .before .if1 .left)
-    (if-after (a .last .now) (a .bytes .now)
-    (c .before .before .before .before .before .before .before .before .before .before .before .before .before .before .shared-slice-known2 .given) _ (c .before .before .before .before .before .before .before .before .before .before .before .before .before .u32-at .ensures) _ _ (c .before .before .before .before .before .before .before .before .before .before .before .fx .given .1) (c .before .before .before .before .before .before .before .before .before .if1 .left) _ _ _ (c .before .before .before .before .before .before .before .before .between .ensures) (c .before .before .before .before .before .before .before .between2 .ensures) (c .before .before .before .before .before .before .is-below .ensures) _ _ _ (c .before .before .before .before .before .if2 .taken) (on-state-outputs _ (a .bytes .now) _ _ _ _ _ _ (c .before .before .before .before .state-outputs-at .ensures) (c .before .before .end .given .1) (λ v. if-eq _ (length (a .bytes .now)) _ _ _ (c .if3 .taken) refl))))  -- returns-4
+    (λ c.
+    let outputs : tie.After-state-outputs-at = search in
+    let tested : tie.Then2 = search in
+    let compared : tie.After-is-below = search in
+    let second : tie.After-between2 = search in
+    let first : tie.After-between = search in
+    let known : tie.Else1 = search in
+    let told : tie.After-fx = search in
+    let read : tie.After-u32-at = search in
+    let bytes : tie.After-shared-slice-known2 = search in
+    let start : tie.Start = search in
+    let a = start .args in
+    let number = read .u32-at .ensures in
+    let fx = told .fx .given .1 in
+    on-fx (a .bytes .now) 0 _ _ _ _ number _ _ fx (known .if1 .left)
+    (if-after (a .last .now) (a .bytes .now) (bytes .shared-slice-known2 .given) _ number _ _ fx (known .if1 .left) _ _ _
+    (first .between .ensures) (second .between2 .ensures) (compared .is-below .ensures) _ _ _ (tested .if2 .taken)
+    (on-state-outputs _ (a .bytes .now) _ _ _ _ _ _ (outputs .state-outputs-at .ensures)
+    (c .before .before .end .given .1) (λ v. if-eq _ (length (a .bytes .now)) _ _ _ (c .if3 .taken) refl))))  -- returns-4
     (λ c κs. search needs)  -- refuse-step-requires-3
-    (λ c. let a = c .before .before .before .before .before .before .before .before .before .before .before .before .before .before .before .before .before .args in on-fx (a .bytes .now) 0 _ _ _ _ (c .before .before .before .before .before .before .before .before .before .before .before .before .before .before .u32-at .ensures) _ _ (c .before .before .before .before .before .before .before .before .before .before .before .before .fx .given .1) (c .before .before .before .before .before .before .before .before .before .before .if1 .left) (if-after (a .last .now) (a .bytes .now) (c .before .before .before .before .before .before .before .before .before .before .before .before .before .before .before .shared-slice-known2 .given) _ (c .before .before .before .before .before .before .before .before .before .before .before .before .before .before .u32-at .ensures) _ _ (c .before .before .before .before .before .before .before .before .before .before .before .before .fx .given .1) (c .before .before .before .before .before .before .before .before .before .before .if1 .left) _ _ _ (c .before .before .before .before .before .before .before .before .before .between .ensures) (c .before .before .before .before .before .before .before .before .between2 .ensures) (c .before .before .before .before .before .before .before .is-below .ensures) _ _ _ (c .before .before .before .before .before .before .if2 .taken) (on-state-outputs _ (a .bytes .now) _ _ _ _ _ _ (c .before .before .before .before .before .state-outputs-at .ensures) (c .before .before .before .end .given .1) (λ v. if-ne _ (length (a .bytes .now)) _ _ _ (c .before .if3 .left) (c .refuse-step3 .ensures)))))  -- returns-5
+    (λ c.
+    let outputs : tie.After-state-outputs-at = search in
+    let tested : tie.Then2 = search in
+    let compared : tie.After-is-below = search in
+    let second : tie.After-between2 = search in
+    let first : tie.After-between = search in
+    let known : tie.Else1 = search in
+    let told : tie.After-fx = search in
+    let read : tie.After-u32-at = search in
+    let bytes : tie.After-shared-slice-known2 = search in
+    let start : tie.Start = search in
+    let a = start .args in
+    let number = read .u32-at .ensures in
+    let fx = told .fx .given .1 in
+    on-fx (a .bytes .now) 0 _ _ _ _ number _ _ fx (known .if1 .left)
+    (if-after (a .last .now) (a .bytes .now) (bytes .shared-slice-known2 .given) _ number _ _ fx (known .if1 .left) _ _ _
+    (first .between .ensures) (second .between2 .ensures) (compared .is-below .ensures) _ _ _ (tested .if2 .taken)
+    (on-state-outputs _ (a .bytes .now) _ _ _ _ _ _ (outputs .state-outputs-at .ensures)
+    (c .before .before .before .end .given .1) (λ v. if-ne _ (length (a .bytes .now)) _ _ _ (c .before .if3 .left) (c .refuse-step3 .ensures)))))  -- returns-5
     (λ c κs. search needs)  -- refuse-step-requires-4
-    (λ c. let a = c .before .before .before .before .before .before .before .before .before .before .before .before .args in on-fx (a .bytes .now) 0 _ _ _ _
-    (c .before .before .before .before .before .before .before .before .before .u32-at .ensures) _ _
-    (c .before .before .before .before .before .before .before .fx .given .1) (c .before .before .before .before .before .if1 .left)
-    (if-not-after (a .last .now) (a .bytes .now)
-    (c .before .before .before .before .before .before .before .before .before .before .shared-slice-known2 .given) _
-    (c .before .before .before .before .before .before .before .before .before .u32-at .ensures) _ _
-    (c .before .before .before .before .before .before .before .fx .given .1)
-    (c .before .before .before .before .before .if1 .left) _ _ _ (c .before .before .before .before .between .ensures)
-    (c .before .before .before .between2 .ensures) (c .before .before .is-below .ensures) _ _ _ (c .before .if2 .left)
+    (λ c.
+    let first : tie.After-between = search in
+    let known : tie.Else1 = search in
+    let told : tie.After-fx = search in
+    let read : tie.After-u32-at = search in
+    let bytes : tie.After-shared-slice-known2 = search in
+    let start : tie.Start = search in
+    let a = start .args in
+    let number = read .u32-at .ensures in
+    let fx = told .fx .given .1 in
+    on-fx (a .bytes .now) 0 _ _ _ _ number _ _ fx (known .if1 .left)
+    (if-not-after (a .last .now) (a .bytes .now) (bytes .shared-slice-known2 .given) _ number _ _ fx (known .if1 .left) _ _ _
+    (first .between .ensures) (c .before .before .before .between2 .ensures) (c .before .before .is-below .ensures) _ _ _ (c .before .if2 .left)
     (c .refuse-step4 .ensures))))  -- returns-6

@@ -12,13 +12,13 @@ use Rattle.writer_rules.proofs.transfers.input_head.Tie as tie
 returns : tie.Need-returns
 unfolding inputHead
 returns c =
-    let p₆ = c .before in
-    let p₅ = p₆ .before .before .before in
-    let p₄ = p₅ .before .before .before in
-    let p₃ = p₄ .before .before .before in
-    let p₂ = p₃ .before .before .before .before in
-    let p₁ = p₂ .before .before .before in
-    let start = p₁ .before .before .before in
+    let p₆ : tie.After-put-integer-after4 = search in
+    let p₅ : tie.After-put-integer-after3 = search in
+    let p₄ : tie.After-put-integer-after2 = search in
+    let p₃ : tie.After-put-bytes-after2 = search in
+    let p₂ : tie.After-put-integer-after = search in
+    let p₁ : tie.After-put-bytes-after = search in
+    let start : tie.Start = search in
     let given = start .args in
     let count = p₆ .put-integer-after4 in
     let amount = p₅ .put-integer-after3 in

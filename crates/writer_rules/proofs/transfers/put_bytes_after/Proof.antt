@@ -17,5 +17,8 @@ put-bytes-after-spec =
     (λ c. search needs)  -- part-put-bytes-end
     (λ c κs. search needs)  -- put-bytes-requires
     (λ c. search needs)  -- same-length
-    (λ c. let a = c .before .before .before .before .before .before .args in bytes-behind (a .room .now) _ _ (a .at) (length (a .from .now)) (omega arith)
+    (λ c.
+    let start : tie.Start = search in
+    let a = start .args in
+    bytes-behind (a .room .now) _ _ (a .at) (length (a .from .now)) (omega arith)
     (a .from .now) refl (c .before .before .put-bytes .ensures)))  -- returns

@@ -15,5 +15,8 @@ put-integer-after-spec =
     (λ c. search needs)  -- part-put-number-end
     (λ c κs. search needs)  -- put-integer-requires
     (λ c. search needs)  -- same-length
-    (λ c. let a = c .before .before .before .before .before .args in integer-behind (a .room .now) _ _ (a .at) (a .width) (omega arith) (a .value)
+    (λ c.
+    let start : tie.Start = search in
+    let a = start .args in
+    integer-behind (a .room .now) _ _ (a .at) (a .width) (omega arith) (a .value)
     (c .before .before .put-integer .ensures)))  -- returns

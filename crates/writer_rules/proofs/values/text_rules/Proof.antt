@@ -14,9 +14,16 @@ text-rules-spec =
     (λ c κs. search needs)  -- refuse-step-requires-2
     (λ c. search tests depth 8)  -- returns-2
     (λ c κs. search needs)  -- first-unprintable-requires
-    (λ c. let a = c .before .before .before .before .before .args in text-fine (a .most) (a .bytes .now) _ (c .before .first-unprintable .ensures)
+    (λ c.
+    let start : tie.Start = search in
+    let a = start .args in
+    text-fine (a .most) (a .bytes .now) _ (c .before .first-unprintable .ensures)
     (c .before .before .before .if1 .left) (c .before .before .if2 .left) (c .if3 .taken))  -- returns-3
     (λ c κs. search needs)  -- refuse-step-requires-3
-    (λ c. let a = c .before .before .before .before .before .before .args in text-unprintable (a .most) (a .bytes .now) _
-    (c .before .before .first-unprintable .ensures) (c .before .before .before .before .if1 .left) (c .before .before .before .if2 .left)
+    (λ c.
+    let else1 : tie.Else1 = search in
+    let start : tie.Start = search in
+    let a = start .args in
+    text-unprintable (a .most) (a .bytes .now) _
+    (c .before .before .first-unprintable .ensures) (else1 .if1 .left) (c .before .before .before .if2 .left)
     (c .before .if3 .left) _ (c .refuse-step3 .ensures)))  -- returns-4
