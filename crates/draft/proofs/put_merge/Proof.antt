@@ -10,8 +10,9 @@ use Rattle.draft.proofs.put_merge.Tie as tie
 -- the copy, and then the slots joined to it
 returns : tie.Need-returns
 returns c =
-    let copied = c .before .before .before .before .before .before in
-    let a = copied .before .before .before .before .before .args in
+    let copied : tie.After-put-bytes = search in
+    let start : tie.Start = search in
+    let a = start .args in
     c .before .before .join-slots .ensures ∙ ap (λ (s : List ℕ). joinedWith (a .second .now) (a .at) s) (copied .put-bytes .ensures)
 
 pub put-merge-spec : {M : Type 1} → statement M

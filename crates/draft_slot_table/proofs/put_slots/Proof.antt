@@ -38,32 +38,34 @@ put-slots-spec =
     (λ c. search needs)  -- same-length
     (λ c. search slotting)  -- returns-2
     (λ c κs.
-    let l = c .before .before .before .before .before .before .loop in
-    let slotsIn = c .before .before .before .before .range-at .ensures in
+    let l = (let turn : tie.At-loop Inv-loop μ-loop = search in turn .loop) in
+    let slotsIn = (let called : tie.After-range-at Inv-loop μ-loop = search in called .range-at .ensures) in
     let here = c .before .before .first .given .1 in
     let i = range-inside _ _ _ _ _ _ slotsIn here in
     let more = left-behind _ (l .credential) _ _ slotsIn (l .left) _ _ _ here (omega arith) in
     (omega arith, (omega arith, (omega arith, omega arith))))  -- put-range-requires
     (λ c.
-    let slotsIn = c .before .before .before .before .before .before .before .range-at .ensures in
-    let i = range-inside _ _ _ _ _ _ slotsIn (c .before .before .before .before .before .first .given .1) in
+    let slotsIn = (let called : tie.After-range-at Inv-loop μ-loop = search in called .range-at .ensures) in
+    let here = (let found : tie.After-first Inv-loop μ-loop = search in found .first .given .1) in
+    let i = range-inside _ _ _ _ _ _ slotsIn here in
     omega arith)  -- mul-i
     (λ c.
-    let l = c .before .before .before .before .before .before .before .before .before .loop in
-    let slotsIn = c .before .before .before .before .before .before .before .range-at .ensures in
-    let here = c .before .before .before .before .before .first .given .1 in
+    let l = (let turn : tie.At-loop Inv-loop μ-loop = search in turn .loop) in
+    let slotsIn = (let called : tie.After-range-at Inv-loop μ-loop = search in called .range-at .ensures) in
+    let here = (let found : tie.After-first Inv-loop μ-loop = search in found .first .given .1) in
     let more = left-behind _ (l .credential) _ _ slotsIn (l .left) _ _ _ here (omega arith) in
     omega arith)  -- add-i
     (λ c.
-    let slotsIn = c .before .before .before .before .before .before .before .range-at .ensures in
-    let i = range-inside _ _ _ _ _ _ slotsIn (c .before .before .before .before .before .first .given .1) in
+    let slotsIn = (let called : tie.After-range-at Inv-loop μ-loop = search in called .range-at .ensures) in
+    let here = (let found : tie.After-first Inv-loop μ-loop = search in found .first .given .1) in
+    let i = range-inside _ _ _ _ _ _ slotsIn here in
     omega arith)  -- add-credential
     (λ c. search needs)  -- sub-left
     (λ c. search needs)  -- loop-less
     (λ c.
-    let l = c .before .before .before .before .before .before .before .before .before .loop in
-    let slotsIn = c .before .before .before .before .before .before .before .range-at .ensures in
-    let here = c .before .before .before .before .before .first .given .1 in
+    let l = (let turn : tie.At-loop Inv-loop μ-loop = search in turn .loop) in
+    let slotsIn = (let called : tie.After-range-at Inv-loop μ-loop = search in called .range-at .ensures) in
+    let here = (let found : tie.After-first Inv-loop μ-loop = search in found .first .given .1) in
     let i = range-inside _ _ _ _ _ _ slotsIn here in
     let more = left-behind _ (l .credential) _ _ slotsIn (l .left) _ _ _ here (omega arith) in
     let same = same-length _ _ _ _ (c .before .before .put-range .ensures) in
