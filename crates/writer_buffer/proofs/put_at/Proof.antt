@@ -17,6 +17,9 @@ put-at-spec =
     (λ c. search needs)  -- part-put-bytes-end
     (λ c κs. search needs)  -- put-bytes-requires
     (λ c. search needs)  -- same-length
-    (λ c. let a = c .before .before .before .before .before .before .args in lent-bytes (a .buf .now) _ (a .from .now) (a .at)
+    (λ c.
+    let start : tie.Start = search in
+    let a = start .args in
+    lent-bytes (a .buf .now) _ (a .from .now) (a .at)
     (a .at + length (a .from .now)) (c .before .before .put-bytes .ensures) (omega arith)
-    (omega (arith, c .before .before .before .before .before .before .pre))))  -- returns
+    (omega (arith, start .pre))))  -- returns

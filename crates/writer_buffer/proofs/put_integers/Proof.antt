@@ -29,20 +29,28 @@ put-integers-spec =
     (λ c. (refl, omega arith, omega arith, refl))  -- loop-holds
     (λ c. search needs)  -- mul-put-u32
     (λ c. search needs)  -- shared-slice-read-put-u32
-    (λ c. omega (arith, c .before .before .before .before .shared-slice-known .given (c .before .before .before .loop .i)))  -- cast-put-u32
-    (λ c κs. omega (
+    (λ c.
+    let at-shared-slice-known : tie.After-shared-slice-known Inv-loop μ-loop = search in
+    omega (arith, at-shared-slice-known .shared-slice-known .given (c .before .before .before .loop .i)))  -- cast-put-u32
+    (λ c κs.
+    let start : tie.Start Inv-loop μ-loop = search in
+    omega (
       arith,
       c .before .before .before .loop .inv .0,
       c .before .before .before .loop .inv .1,
       c .before .before .loop-test .taken,
-      c .before .before .before .before .before .before .pre,
+      start .pre,
     ))  -- put-u32-requires
     (λ c. search needs)  -- add-i
     (λ c. search needs)  -- add-at
     (λ c. search needs)  -- loop-less
-    (λ c. let l = c .before .before .before .before .before .before .loop in let inv = l .inv in let p =
-    c .before .before .before .before .before .before .before .before .before in let fits : l .at + 4 ≤ length (l .buf) = omega
-    (arith, inv .0, inv .1, c .before .before .before .before .before .loop-test .taken, p .pre) in (
+    (λ c.
+    let in-loop : tie.In-loop Inv-loop μ-loop = search in
+    let at-loop : tie.At-loop Inv-loop μ-loop = search in
+    let at-shared-slice-known : tie.After-shared-slice-known Inv-loop μ-loop = search in
+    let p : tie.Start Inv-loop μ-loop = search in
+    let l = at-loop .loop in let inv = l .inv in let fits : l .at + 4 ≤ length (l .buf) = omega
+    (arith, inv .0, inv .1, in-loop .loop-test .taken, p .pre) in (
       omega (
         arith,
         inv .0,
@@ -53,9 +61,11 @@ put-integers-spec =
       omega (arith, inv .1),
       omega arith,
       integers-on (p .args .numbers .now) (l .i) (l .at)
-          (l .buf) _ (inv .3) (c .before .before .before .before .before .before .before .shared-slice-known .given)
-          (c .before .before .before .before .before .loop-test .taken) fits _ (c .before .before .put-u32 .ensures),
+          (l .buf) _ (inv .3) (at-shared-slice-known .shared-slice-known .given)
+          (in-loop .loop-test .taken) fits _ (c .before .before .put-u32 .ensures),
     ))  -- loop-again
     (λ c. search needs)  -- same-length
-    (λ c. integers-end (c .before .before .before .before .args .numbers .now) (c .before .loop .i) (c .before .loop .at) _ _ (c .before .loop .inv .3)
+    (λ c.
+    let start : tie.Start Inv-loop μ-loop = search in
+    integers-end (start .args .numbers .now) (c .before .loop .i) (c .before .loop .at) _ _ (c .before .loop .inv .3)
     (c .loop-test .left)))  -- returns

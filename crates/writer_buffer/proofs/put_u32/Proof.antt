@@ -20,7 +20,12 @@ put-u32-spec =
     (λ c. search needs)  -- part-put-number-end
     (λ c κs. search needs)  -- put-integer-requires
     (λ c. search needs)  -- same-length
-    (λ c. let a = c .before .before .before .before .before .before .before .args in integer-there (a .buf .now) (a .at) (a .value)
-    (omega (arith, c .before .before .before .before .if2 .left, c .before .before .before .before .before .if1 .left)) _
+    (λ c.
+    let else2 : tie.Else2 = search in
+    let else1 : tie.Else1 = search in
+    let start : tie.Start = search in
+    let a = start .args in
+    integer-there (a .buf .now) (a .at) (a .value)
+    (omega (arith, else2 .if2 .left, else1 .if1 .left)) _
     (lent-integer (a .buf .now) _ (a .at) (a .at + 4) (a .value) (c .before .before .put-integer .ensures) (omega arith)
-    (omega (arith, c .before .before .before .before .if2 .left, c .before .before .before .before .before .if1 .left)))))  -- returns-3
+    (omega (arith, else2 .if2 .left, else1 .if1 .left)))))  -- returns-3

@@ -10,17 +10,29 @@ room-of-spec =
     tie.close
     (tie.spec
     (λ c κs. search needs)  -- refuse-step-requires
-    (λ c. let a = c .before .before .before .before .before .args in c .refuse-step .ensures
+    (λ c.
+    let start : tie.Start = search in
+    let a = start .args in
+    c .refuse-step .ensures
     ∙ first-long (a .first .now) (a .second .now) (a .numbers .now) (a .at) (a .limit) (c .before .if1 .taken))  -- returns
     (λ c κs. search needs)  -- refuse-step-requires-2
-    (λ c. let a = c .before .before .before .before .before .before .args in c .refuse-step2 .ensures
+    (λ c.
+    let start : tie.Start = search in
+    let a = start .args in
+    c .refuse-step2 .ensures
     ∙ second-long (a .first .now) (a .second .now) (a .numbers .now) (a .at) (a .limit) (c .before .if2 .taken))  -- returns-2
     (λ c κs. search needs)  -- refuse-step-requires-3
-    (λ c. let a = c .before .before .before .before .before .before .before .args in c .refuse-step3 .ensures
+    (λ c.
+    let start : tie.Start = search in
+    let a = start .args in
+    c .refuse-step3 .ensures
     ∙ integers-long (a .first .now) (a .second .now) (a .numbers .now) (a .at) (a .limit) (c .before .if3 .taken))  -- returns-3
     (λ c. search needs)  -- add-room-for
     (λ c. search needs)  -- mul-room-for
     (λ c. search needs)  -- add-room-for-2
     (λ c κs. search needs)  -- room-for-requires
-    (λ c. let a = c .before .before .before .before .before .before .before .args in room-all (a .first .now) (a .second .now) (a .numbers .now) (a .at)
+    (λ c.
+    let start : tie.Start = search in
+    let a = start .args in
+    room-all (a .first .now) (a .second .now) (a .numbers .now) (a .at)
     (a .limit) _ (c .room-for .ensures)))  -- returns-4

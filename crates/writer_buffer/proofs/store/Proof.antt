@@ -13,20 +13,38 @@ store-spec =
     (λ c κs. search needs)  -- room-of-requires
     (λ c. search needs)  -- enum-known-refusal
     (λ c. search needs)  -- enum-told
-    (λ c κs. room-made _ (c .before .before .before .before .before .before .before .before .args .buf .now) _
+    (λ c κs.
+    let start : tie.Start = search in
+    room-made _ (start .args .buf .now) _
     (c .before .before .before .room-of .ensures) (c .before .enum-told .given .1))  -- put-all-requires
-    (λ c. let told = c .before .before .before .before in let a = told .before .before .before .before .before .before .before .args in
-    let f = room-made _ (a .buf .now) _ (told .before .before .room-of .ensures) (told .enum-told .given .1) in
+    (λ c.
+    let told : tie.After-enum-told = search in
+    let at-room-of : tie.After-room-of = search in
+    let start : tie.Start = search in
+    let a = start .args in
+    let f = room-made _ (a .buf .now) _ (at-room-of .room-of .ensures) (told .enum-told .given .1) in
     omega (arith, sum-fits (a .first .now) (a .second .now) (a .numbers .now) (a .buf .now) (a .at) f))  -- add-t14
-    (λ c. let told = c .before .before .before .before in let a = told .before .before .before .before .before .before .before .args in
-    let f = room-made _ (a .buf .now) _ (told .before .before .room-of .ensures) (told .enum-told .given .1) in
+    (λ c.
+    let told : tie.After-enum-told = search in
+    let at-room-of : tie.After-room-of = search in
+    let start : tie.Start = search in
+    let a = start .args in
+    let f = room-made _ (a .buf .now) _ (at-room-of .room-of .ensures) (told .enum-told .given .1) in
     omega (arith, sum-fits (a .first .now) (a .second .now) (a .numbers .now) (a .buf .now) (a .at) f))  -- add-t16
     (λ c. search needs)  -- mul-t18
-    (λ c. let told = c .before .before .before .before in let a = told .before .before .before .before .before .before .before .args in
-    let f = room-made _ (a .buf .now) _ (told .before .before .room-of .ensures) (told .enum-told .given .1) in
+    (λ c.
+    let told : tie.After-enum-told = search in
+    let at-room-of : tie.After-room-of = search in
+    let start : tie.Start = search in
+    let a = start .args in
+    let f = room-made _ (a .buf .now) _ (at-room-of .room-of .ensures) (told .enum-told .given .1) in
     omega (arith, sum-fits (a .first .now) (a .second .now) (a .numbers .now) (a .buf .now) (a .at) f))  -- add-t19
     (λ c. search room-bars)  -- returns
     (λ c. search needs)  -- same-length
-    (λ c. let told = c .before .before .before .before in let a = told .before .before .before .before .before .before .before .args in
-    all-done _ (a .buf .now) _ (told .before .before .room-of .ensures) _ _ (told .enum-told .given .1) _
+    (λ c.
+    let told : tie.After-enum-told = search in
+    let at-room-of : tie.After-room-of = search in
+    let start : tie.Start = search in
+    let a = start .args in
+    all-done _ (a .buf .now) _ (at-room-of .room-of .ensures) _ _ (told .enum-told .given .1) _
     (omega (arith, length-all (a .first .now) (a .second .now) (a .numbers .now))) _ (c .before .before .put-all .ensures)))  -- returns-2
