@@ -1,7 +1,7 @@
 -- Laws for functions that skip an element: its bytes, as the fields that the code steps over. A contract is entered by a law `..-passed` or
 -- `..-told`; the laws `..-next`, `..-refused` and `..-whole` continue after a call, as those of wire's proofs/Passing do.
 -- Assumes nothing.
-use Prim.Native.Nat.{ℕ, _+_, _*_, _^_, _≤_, _<_}
+use Prim.Native.Nat.{ℕ, _+_, _-_, _*_, _^_, _≤_, _<_}
 use mathlib.Core.Path.{_≡_, refl, sym, ap, subst}
 use mathlib.Core.Bool.{Bool, true, false}
 use mathlib.Core.List.{List, [], _∷_, _++_, append-assoc}
@@ -27,7 +27,7 @@ use Rattle.wire.proofs.Reading.{wide-chain, blob-wide, blob-ends, part-ends, va
 use Rattle.wire.proofs.Passing as W
 use Rattle.wire.proofs.Passing.{Yields, Leads, next, told, passes, leads, tells, Covers, reread, leads-covered, Wide, wide-covers, passes-wide}
 use Rattle.wire.proofs.Passing.{yields-parse, yields-end, parse-whole, parse-next, parse-refused, told-whole, told-next, told-refused}
-use Rattle.wire.proofs.Passing.{value-next, value-short, tag-next, tag-short, Each}
+use Rattle.wire.proofs.Passing.{value-next, value-short, tag-next, tag-short, Each, Onward}
 use Rattle.string.specs.Strings.{payload}
 use Rattle.string.proofs.Passing as S
 use Rattle.element.specs.Owners.{Owners, owners}
@@ -425,12 +425,41 @@ module _ (s : List ℕ) (at : ℕ) (x : End) where
   unfolding Each
   each-owners step p prev = leads owners s at x p
 
-  pub each-output : Slice s → (step : List ℕ → Output → List ℕ) (fx : Fx) → ((fx : Fx) → Passes (output (fxOutputs fx)) s at x)
+  each-output : Slice s → (step : List ℕ → Output → List ℕ) (fx : Fx) → ((fx : Fx) → Passes (output (fxOutputs fx)) s at x)
       → Each (notBelow (output (fxOutputs fx))) step s at x
   unfolding Each guard
   each-output b step fx p prev =
       leads (notBelow (output (fxOutputs fx)) prev) s at x
       (covered (notBelow (output (fxOutputs fx)) prev) (output (fxOutputs fx)) (λ v. v) (λ v g. (g .0, refl)) s at b x (p fx))
+
+-- the outputs of an initial state: the code that passes them does not ask for the FxID, so that each law is for any
+abbrev Outputs : Fx → List ℕ → Format Output
+Outputs fx = notBelow (output (fxOutputs fx))
+
+module _ (s : List ℕ) where
+  -- where what is left is passed the whole list is: c outputs from start, of which n are left, from `at` on
+  unfoldable pub OutputsOnward : ℕ → ℕ → ℕ → ℕ → Type 0
+  OutputsOnward n at c start = (fx : Fx) → Onward (Outputs fx) (left (Outputs fx)) s n at c start
+
+  pub outputs-start : (c start : ℕ) → OutputsOnward c start c start
+  unfolding OutputsOnward
+  outputs-start c start fx = W.onward-start (Outputs fx) (left (Outputs fx)) s c start
+
+  module _ (n at c start : ℕ) (o : OutputsOnward n at c start) where
+    module _ (b : Slice s) (x : End) (p : (fx : Fx) → Passes (output (fxOutputs fx)) s at x) (l : 0 < n) where
+      pub outputs-turn : (m : ℕ) → x ≡ P.At m → OutputsOnward (n - 1) m c start
+      unfolding OutputsOnward
+      outputs-turn m q fx =
+          W.onward-turn (Outputs fx) (left (Outputs fx)) s n at c start (o fx) x m l q (each-output s at x b (left (Outputs fx)) fx p)
+
+      pub outputs-refused : (e : Refusal) → x ≡ P.Refused e → (fx : Fx) (z : End) → Leads (nondecreasing (output (fxOutputs fx)) c) s start next z
+      unfolding OutputsOnward
+      outputs-refused e q fx z =
+          W.onward-refused (Outputs fx) (left (Outputs fx)) s n at c start (o fx) x e l q (each-output s at x b (left (Outputs fx)) fx p) [] z
+
+    pub outputs-end : n ≤ 0 → (fx : Fx) → Leads (nondecreasing (output (fxOutputs fx)) c) s start next (P.At at)
+    unfolding OutputsOnward
+    outputs-end l fx = W.onward-end (Outputs fx) (left (Outputs fx)) s n at c start (o fx) l []
 
 -- ---- rulesets: along the fields of an element, by its type, and over a list
 
@@ -442,4 +471,6 @@ pub ruleset passing = (W.passing, calls, acting, front-next, front-refused, fron
 
 pub ruleset typed = (output-mint, output-transfer, output-nft-mint, output-nft-transfer, output-short, mint-list, mint-short, transfer-passed)
 
-pub ruleset looping = (W.looping, each-owners, each-output)
+pub ruleset looping = (W.looping, each-owners)
+
+pub ruleset looping-outputs = (outputs-start, outputs-turn, outputs-refused, outputs-end)

@@ -165,6 +165,11 @@ module _ {A : Type 0} (G : List ℕ → Format A) (k : ℕ) (viewed : A → List
 unfoldable pub addressThen : ℕ → List ℕ → ℕ → End
 addressThen n s at = blob 20 .parse s at P.Refused (λ a q. ended (seriesFrom (above (blob 20)) a n) s q)
 
+-- what a turn gives by its test, t, of the address at `at` against the one before: y is the whole reading
+pub record AddressTurn (s : List ℕ) (n at : ℕ) (y : End) (t : Bool) : Type 0 where
+  pub again : t ≡ true → addressThen (n - 1) s at ≡ y
+  pub out-of-order : t ≡ false → (f : Refusal) → f ≡ by outOfOrder at → P.Refused f ≡ y
+
 module _ (s : List ℕ) (b : Slice s) where
   -- none stands before the first
   pub address-first : (c at : ℕ) → (c ≡ 0 → ⊥) → addressThen (c - 1) s at ≡ ended (increasing (blob 20) c) s at
@@ -182,7 +187,7 @@ module _ (s : List ℕ) (b : Slice s) where
   no-address c at h = W.list-end (above (blob 20)) (left (above (blob 20))) s at P.Refused (λ l k. P.At k) [] c (P.At at)
       (ended (increasing (blob 20) c) s at) refl (omega arith) refl
 
-  module _ (n prev at : ℕ) (x : End) (p : x ≡ ended (blob 20) s prev) (q : x ≡ P.At at) (h : 0 < n) (y : End) (w : addressThen n s prev ≡ y) where
+  module _ (n prev : ℕ) (y : End) (w : addressThen n s prev ≡ y) (at : ℕ) (x : End) (p : x ≡ ended (blob 20) s prev) (q : x ≡ P.At at) (h : 0 < n) where
     -- the next one, in view of that at prev
     address-next : blob 20 .parse s at P.Refused
         (λ a m. pick (below (wholeAt 20 s prev) a) (ended (seriesFrom (above (blob 20)) a (n - 1)) s m) (P.Refused (by outOfOrder at))) ≡ y
@@ -195,18 +200,18 @@ module _ (s : List ℕ) (b : Slice s) where
     pub address-cut : (e f : Refusal) (u : End) → u ≡ ended (blob 20) s at → u ≡ P.Refused e → f ≡ cutAt 20 s at → P.Refused f ≡ y
     address-cut e f u i j g = W.on-cut 20 s at (P.Refused f) P.Refused _ u e i j f g refl ∙ address-next
 
-    module _ (m : ℕ) (u : End) (i : u ≡ ended (blob 20) s at) (j : u ≡ P.At m) (a c : List ℕ) (ea : a ≡ wholeAt 20 s prev) (ec : c ≡ wholeAt 20 s at)
-        (t : Bool) (k : t ≡ below a c) where
+    module _ (t : Bool) (a c : List ℕ) (k : t ≡ below a c) (ea : a ≡ wholeAt 20 s prev) (ec : c ≡ wholeAt 20 s at) (u : End) (i : u ≡ ended (blob 20) s at)
+        (m : ℕ) (j : u ≡ P.At m) where
       compared : pick t (ended (seriesFrom (above (blob 20)) (between at m s) (n - 1)) s m) (P.Refused (by outOfOrder at)) ≡ y
       compared =
           rw (k, ea, ec, W.whole-next 20 s at (wholeAt 20 s at) u m refl i j) (W.on-part 20 s at _ P.Refused _ u m i j refl ∙ address-next)
 
-      pub address-again : t ≡ true → addressThen (n - 1) s at ≡ y
+      pub address-turn : AddressTurn s n at y t
       unfolding addressThen
-      address-again g = sym (W.on-part 20 s at _ P.Refused (λ a q. ended (seriesFrom (above (blob 20)) a (n - 1)) s q) u m i j refl) ∙ rw g at compared
-
-      pub address-not : t ≡ false → (f : Refusal) → f ≡ by outOfOrder at → P.Refused f ≡ y
-      address-not g f h = ap P.Refused h ∙ rw g at compared
+      address-turn = record {
+        again = λ g. sym (W.on-part 20 s at _ P.Refused (λ a q. ended (seriesFrom (above (blob 20)) a (n - 1)) s q) u m i j refl) ∙ rw g at compared;
+        out-of-order = λ g f h. ap P.Refused h ∙ rw g at compared;
+      }
 
   -- the address before is not there, or was the last
   pub address-gone : (n prev : ℕ) (x : End) (e f : Refusal) → x ≡ ended (blob 20) s prev → x ≡ P.Refused e → f ≡ cutAt 20 s prev → (y : End)

@@ -1,17 +1,16 @@
 -- `element::lengths::outputs_past` meets its contract. The invariant: where what is left is passed from here, the whole list is.
 -- Assumes nothing.
 use borrow.Author.Needs.{needs}
-use Rattle.wire.specs.Series.{left as written, notBelow, nondecreasing}
-use Rattle.wire.proofs.Passing.{Onward, passes}
+use Rattle.wire.specs.Series.{nondecreasing}
+use Rattle.wire.proofs.Passing.{passes}
 use Rattle.element.specs.Outputs.{output}
-use Rattle.element.specs.Operations.{Fx, fxOutputs}
-use Rattle.element.proofs.Passing.{looping}
+use Rattle.element.specs.Operations.{fxOutputs}
+use Rattle.element.proofs.Passing.{OutputsOnward, looping-outputs}
 use Rattle.element.proofs.lengths.outputs_past.Statement.{statement}
 use Rattle.element.proofs.lengths.outputs_past.Tie as tie
 
 abbrev Inv-loop : tie.InvT-loop
-Inv-loop s start count left₀ at₀ left at =
-    (fx : Fx) → Onward (notBelow (output (fxOutputs fx))) (written (notBelow (output (fxOutputs fx)))) s left at count start
+Inv-loop s start count left₀ at₀ left at = OutputsOnward s left at count start
 
 abbrev μ-loop : tie.MeasureT-loop
 μ-loop s start count left₀ at₀ left at = left
@@ -22,12 +21,12 @@ outputs-past-spec =
     (tie.spec
     Inv-loop
     μ-loop
-    (λ c. search looping)  -- loop-holds
+    (λ c. search looping-outputs)  -- loop-holds
     (λ c κs. search needs)  -- output-past-requires
     (λ c. search needs)  -- enum-known-refusal
-    (λ c fx. passes (nondecreasing (output (fxOutputs fx)) _) _ _ _ (search (looping, c .before .before .before .before .before .loop .inv fx)))  -- returns
+    (λ c fx. passes (nondecreasing (output (fxOutputs fx)) _) _ _ _ (search looping-outputs))  -- returns
     (λ c. search needs)  -- enum-known-next
     (λ c. search needs)  -- sub-left
     (λ c. search needs)  -- loop-less
-    (λ c fx. search (looping, c .before .before .before .before .before .loop .inv fx))  -- loop-again
-    (λ c fx. passes (nondecreasing (output (fxOutputs fx)) _) _ _ _ (search (looping, c .before .loop .inv fx))))  -- returns-2
+    (λ c. search looping-outputs)  -- loop-again
+    (λ c fx. passes (nondecreasing (output (fxOutputs fx)) _) _ _ _ (search looping-outputs)))  -- returns-2

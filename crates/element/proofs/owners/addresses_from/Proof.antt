@@ -1,14 +1,14 @@
 -- `element::owners::addresses_from` meets its contract. The invariant: reading the address before, and what is left behind it in view of it, is the
 -- whole reading.
 -- Assumes nothing.
-use native.Mathlib.Omega.{arith}
 use borrow.Author.Needs.{needs}
+use native.Mathlib.Omega.{arith}
 use mathlib.Core.Path.{_≡_}
 use Rattle.wire.specs.Fields.{blob}
 use Rattle.wire.specs.Series.{increasing}
 use Rattle.wire.specs.Answer.{ended}
-use Rattle.element.proofs.Reading.{addressThen, no-address, address-first, first-gone, address-gone, address-cut, address-again, address-not}
-use Rattle.element.proofs.Reading.{address-last}
+use Rattle.element.proofs.Reading.{addressThen, AddressTurn, address-turn}
+use Rattle.element.proofs.Reading.{no-address, address-first, first-gone, address-gone, address-cut, address-last}
 use Rattle.element.proofs.owners.addresses_from.Statement.{statement}
 use Rattle.element.proofs.owners.addresses_from.Tie as tie
 
@@ -18,6 +18,31 @@ Inv-loop s start count left₀ prev₀ left prev =
 
 abbrev μ-loop : tie.MeasureT-loop
 μ-loop s start count left₀ prev₀ left prev = left
+
+-- A turn, seen from where its two addresses are compared: where the second was found, where the first was, the loop's head, the start
+abbrev Compared : Type 0
+Compared = tie.After-address-below Inv-loop μ-loop
+
+abbrev second : Compared → tie.After-enum-told4 Inv-loop μ-loop
+second c = c .before .before .before
+
+abbrev first : Compared → tie.After-at Inv-loop μ-loop
+first c = let asked = second c .before .before in asked .before .before
+
+abbrev head : Compared → tie.At-loop Inv-loop μ-loop
+head c = let asked = first c .before .before in asked .before .before
+
+abbrev start : Compared → tie.After-shared-slice-known Inv-loop μ-loop
+start c = let asked = head c .before .before .before in asked .before .before
+
+turn : (c : Compared)
+    → AddressTurn (start c .before .args .s .now) (head c .loop .left) (first c .at .given .0 .0)
+    (ended (increasing (blob 20) (start c .before .args .count)) (start c .before .args .s .now) (start c .before .args .start))
+    (c .address-below .result)
+turn c =
+    address-turn _ (start c .shared-slice-known .given) _ (head c .loop .prev) _ (head c .loop .inv) _ _ (first c .before .before .field-at2 .ensures)
+    (first c .at .given .1) (omega arith) _ _ _ (c .address-below .ensures) (c .before .before .address-at .ensures) (c .before .address-at2 .ensures)
+    _ (second c .before .before .field-at3 .ensures) _ (second c .enum-told4 .given .1)
 
 pub addresses-from-spec : {M : Type 1} → statement M
 addresses-from-spec =
@@ -48,9 +73,8 @@ addresses-from-spec =
     (λ c κs. search needs)  -- address-below-requires
     (λ c. search needs)  -- sub-left-2
     (λ c. search needs)  -- loop-less
-    (λ c. address-again _
-    (c .before .before .before .before .before .before .before .before .before .before .before .before .before .before .before .before .before .shared-slice-known .given) (c .before .before .before .before .before .before .before .before .before .before .before .before .loop .left) (c .before .before .before .before .before .before .before .before .before .before .before .before .loop .prev) _ _ (c .before .before .before .before .before .before .before .before .before .before .field-at2 .ensures) (c .before .before .before .before .before .before .before .before .at .given .1) (omega arith) _ (c .before .before .before .before .before .before .before .before .before .before .before .before .loop .inv) _ _ (c .before .before .before .before .before .before .field-at3 .ensures) (c .before .before .before .before .enum-told4 .given .1) _ _ (c .before .before .before .address-at .ensures) (c .before .before .address-at2 .ensures) _ (c .before .address-below .ensures) (c .if2 .taken))  -- loop-again
+    (λ c. turn (c .before) .again (c .if2 .taken))  -- loop-again
     (λ c κs. search needs)  -- refuse-requires
-    (λ c. address-not _ (c .before .before .before .before .before .before .before .before .before .before .before .before .before .before .before .before .before .before .shared-slice-known .given) (c .before .before .before .before .before .before .before .before .before .before .before .before .before .loop .left) (c .before .before .before .before .before .before .before .before .before .before .before .before .before .loop .prev) _ _ (c .before .before .before .before .before .before .before .before .before .before .before .field-at2 .ensures) (c .before .before .before .before .before .before .before .before .before .at .given .1) (omega arith) _ (c .before .before .before .before .before .before .before .before .before .before .before .before .before .loop .inv) _ _ (c .before .before .before .before .before .before .before .field-at3 .ensures) (c .before .before .before .before .before .enum-told4 .given .1) _ _ (c .before .before .before .before .address-at .ensures) (c .before .before .before .address-at2 .ensures) _ (c .before .before .address-below .ensures) (c .before .if2 .left) _ (c .refuse .ensures))  -- returns-5
+    (λ c. turn (c .before .before) .out-of-order (c .before .if2 .left) _ (c .refuse .ensures))  -- returns-5
     (λ c κs. search needs)  -- field-at-requires-4
     (λ c. search address-last))  -- returns-6
