@@ -61,7 +61,7 @@ same-split (suc n) (x ∷ a) (y ∷ b) h k =
     ∙ sym (and-assoc (eqb x y) (same (take n a) (take n b)) (same (drop n a) (drop n b)))
 
 module _ (a b : List ℕ) (i : ℕ) (y : Bool) (w : sameFrom a b i ≡ y) (r : Bool) where
-  module _ (n : ℕ) (e : r ≡ same (take (i + n - i) (drop i a)) (take (i + n - i) (drop i b))) (h : n ≤ length a - i) (j : i ≤ length a)
+  module _ (n : ℕ) (h : n ≤ length a - i) (e : r ≡ same (take (i + n - i) (drop i a)) (take (i + n - i) (drop i b))) (j : i ≤ length a)
       (l : length a ≡ length b) where
     split : (r && sameFrom a b (i + n)) ≡ y
     unfolding sameFrom
@@ -75,8 +75,8 @@ module _ (a b : List ℕ) (i : ℕ) (y : Bool) (w : sameFrom a b i ≡ y) (r : B
         behind : (s : List ℕ) → drop (i + n) s ≡ drop n (drop i s)
         behind s = sym (drop-drop n i s)
 
-    pub block-same : r ≡ true → sameFrom a b (i + n) ≡ y
-    block-same t = sym (ap (λ (s : Bool). s && sameFrom a b (i + n)) t) ∙ split
+    pub block-same : r ≡ true → (k : ℕ) → i + n ≡ k → sameFrom a b k ≡ y
+    block-same t k g = ap (sameFrom a b) (sym g) ∙ sym (ap (λ (s : Bool). s && sameFrom a b (i + n)) t) ∙ split
 
     pub block-differs : r ≡ false → false ≡ y
     block-differs t = sym (ap (λ (s : Bool). s && sameFrom a b (i + n)) t) ∙ split

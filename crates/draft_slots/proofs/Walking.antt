@@ -1,5 +1,5 @@
 -- The loops over the slots of a draft: what is left to do, by what the code has found. Assumes nothing.
-use Prim.Native.Nat.{ℕ, zero, suc, _+_, _-_, _*_, _≤_, _<_}
+use Prim.Native.Nat.{ℕ, zero, suc, _+_, _-_, _*_, _^_, _≤_, _<_}
 use mathlib.Core.Path.{_≡_, refl, sym, ap, ap₂, _∙_}
 use mathlib.Core.Bool.{Bool, true, false, cond}
 use mathlib.Core.Option.{Option, none, some}
@@ -74,6 +74,33 @@ range-inside s q p n next x e h = type (leb 4 (length s - q)) refl (found e h)
         → Inside s q p n next
     type true h z = count (leb 4 (length s - (q + 4))) refl z
     type false h z = never z
+
+-- what a range that was found bounds, where k slots were counted before it
+module _ (s : List ℕ) (q p n next : ℕ) (x : SlotRange) (e : x ≡ rangeAt s q) (h : x ≡ R.Slots p n next) where
+  inside : Inside s q p n next
+  inside = range-inside s q p n next x e h
+
+  pub range-fits : p + 65 * n ≤ length s
+  range-fits = omega (arith, inside)
+
+  pub range-starts : (k : ℕ) → k ≤ q → k ≤ p
+  range-starts k i = omega (arith, inside)
+
+  pub range-ends : (k : ℕ) → k ≤ q → k + n ≤ next
+  range-ends k i = omega (arith, inside)
+
+  module _ (long : length s < 2 ^ 64) where
+    pub slots-counted : (k : ℕ) → k ≤ q → k + n < 2 ^ 64
+    slots-counted k i = omega (arith, inside)
+
+    pub slot-offset : (k : ℕ) → k < n → 65 * k < 2 ^ 64
+    slot-offset k i = omega (arith, inside)
+
+    pub slot-start : (k : ℕ) → k < n → p + 65 * k < 2 ^ 64
+    slot-start k i = omega (arith, inside)
+
+pub slots-fit : (c : ℕ) → c < 256 ^ 4 → 65 * c < 2 ^ 64
+slots-fit c h = omega arith
 
 -- ---- the walk
 

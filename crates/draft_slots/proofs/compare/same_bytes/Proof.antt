@@ -35,12 +35,7 @@ same-bytes-spec =
     (λ c κs. simp (length-take, length-drop) (omega arith))  -- same-block-requires
     (λ c. search needs)  -- add-i
     (λ c. search needs)  -- loop-less
-    (λ c. (
-      block-same _ _ _ _ (c .before .before .before .before .before .loop .inv .0) _ _ (c .before .same-block .ensures)
-          (c .before .before .before .before .loop-test .taken) (c .before .before .before .before .before .loop .inv .1)
-          (c .before .before .before .before .before .before .if1 .left) (c .if2 .taken),
-      omega arith,
-    ))  -- loop-again
+    (λ c. (search block-same, omega arith))  -- loop-again
     (λ c. search block-differs)  -- returns-2
     (λ c. search needs)  -- sub-same-run-3
     (λ c. search needs)  -- part-same-run-start-3

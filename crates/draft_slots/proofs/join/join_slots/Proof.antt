@@ -1,9 +1,8 @@
 -- `draft_slots::join::join_slots` meets its contract. The invariant: joining what is left gives what joining all gives. Assumes nothing.
 use mathlib.Core.Path.{_≡_, refl}
-use native.Mathlib.Omega.{arith}
 use lib.ListN.{length}
 use Rattle.draft_slots.specs.Scan.{scan, scanFrom, joinAll}
-use Rattle.draft_slots.proofs.Walking.{range-inside, joins-start, joins-absent, joining-walk}
+use Rattle.draft_slots.proofs.Walking.{range-fits, joins-start, joins-absent, joining-walk}
 use borrow.Author.Needs.{needs}
 use Rattle.draft_slots.proofs.join.join_slots.Statement.{statement}
 use Rattle.draft_slots.proofs.join.join_slots.Tie as tie
@@ -31,8 +30,7 @@ join-slots-spec =
     (λ c. search needs)  -- enum-told-2
     (λ c. search needs)  -- same-length
     (λ c. search joining-walk)  -- returns-2
-    (λ c κs. let i = range-inside _ _ _ _ _ _ (c .before .before .before .before .range-at .ensures)
-    (c .before .before .p .given .1) in omega arith)  -- join-range-requires
+    (λ c κs. search range-fits)  -- join-range-requires
     (λ c. search needs)  -- sub-left
     (λ c. search needs)  -- loop-less
     (λ c. (search joining-walk, search needs))  -- loop-again

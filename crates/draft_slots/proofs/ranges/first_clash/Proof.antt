@@ -3,7 +3,7 @@ use mathlib.Core.Path.{_≡_}
 use Prim.Native.Nat.{_≤_}
 use native.Mathlib.Omega.{arith}
 use Rattle.draft_slots.specs.Scan.{scan, scanFrom}
-use Rattle.draft_slots.proofs.Walking.{range-inside, clashFrom, clash-is, clash-start, clash-absent, clashing-walk}
+use Rattle.draft_slots.proofs.Walking.{range-fits, range-starts, range-ends, slots-counted, clashFrom, clash-is, clash-start, clash-absent, clashing-walk}
 use borrow.Author.Needs.{needs}
 use Rattle.draft_slots.proofs.ranges.first_clash.Statement.{statement}
 use Rattle.draft_slots.proofs.ranges.first_clash.Tie as tie
@@ -30,15 +30,12 @@ first-clash-spec =
     (λ c. search needs)  -- enum-known-p
     (λ c. search needs)  -- enum-told-2
     (λ c. search (clash-is, clashing-walk))  -- returns-2
-    (λ c κs. let i = range-inside _ _ _ _ _ _ (c .before .before .before .range-at .ensures) (c .before .p .given .1) in
-    (omega arith, omega arith))  -- clash-in-requires
+    (λ c κs. search (range-fits, range-starts))  -- clash-in-requires
     (λ c. search needs)  -- enum-known-slot
     (λ c. search (clash-is, clashing-walk))  -- returns-3
     (λ c. search needs)  -- enum-told-3
-    (λ c. let i = range-inside _ _ _ _ _ _ (c .before .before .before .before .before .before .range-at .ensures)
-    (c .before .before .before .before .p .given .1) in omega arith)  -- add-k
+    (λ c. search slots-counted)  -- add-k
     (λ c. search needs)  -- sub-left
     (λ c. search needs)  -- loop-less
-    (λ c. let i = range-inside _ _ _ _ _ _ (c .before .before .before .before .before .before .range-at .ensures)
-    (c .before .before .before .before .p .given .1) in (search clashing-walk, omega arith))  -- loop-again
+    (λ c. (search clashing-walk, search range-ends))  -- loop-again
     (λ c. search (clash-is, clashing-walk)))  -- returns-4

@@ -1,8 +1,7 @@
 -- `draft_slots::scan::place_of` meets its contract. The invariant: the slot among what is left is that of the whole. Assumes nothing.
 use mathlib.Core.Path.{_≡_}
-use native.Mathlib.Omega.{arith}
 use Rattle.draft_slots.specs.Scan.{scan, scanFrom}
-use Rattle.draft_slots.proofs.Walking.{range-inside, placeFrom, place-is, place-start, place-absent, placing-walk}
+use Rattle.draft_slots.proofs.Walking.{slot-offset, slot-start, placeFrom, place-is, place-start, place-absent, placing-walk}
 use borrow.Author.Needs.{needs}
 use Rattle.draft_slots.proofs.ranges.place_of.Statement.{statement}
 use Rattle.draft_slots.proofs.ranges.place_of.Tie as tie
@@ -28,8 +27,8 @@ place-of-spec =
     (λ c. search needs)  -- enum-known-p
     (λ c. search needs)  -- enum-told-2
     (λ c. search (place-is, placing-walk))  -- returns-2
-    (λ c. let i = range-inside _ _ _ _ _ _ (c .before .before .before .before .range-at .ensures) (c .before .before .p .given .1) in omega arith)  -- mul-t16
-    (λ c. let i = range-inside _ _ _ _ _ _ (c .before .before .before .before .range-at .ensures) (c .before .before .p .given .1) in omega arith)  -- add-t17
+    (λ c. search slot-offset)  -- mul-t16
+    (λ c. search slot-start)  -- add-t17
     (λ c. search (place-is, placing-walk))  -- returns-3
     (λ c. search needs)  -- sub-before
     (λ c. search needs)  -- sub-left

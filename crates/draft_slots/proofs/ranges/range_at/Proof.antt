@@ -1,7 +1,6 @@
 -- `draft_slots::scan::range_at` meets its contract. Assumes nothing.
-use native.Mathlib.Omega.{arith}
 use Rattle.wire.proofs.Reading.{value-small}
-use Rattle.draft_slots.proofs.Walking.{running}
+use Rattle.draft_slots.proofs.Walking.{slots-fit, running}
 use borrow.Author.Needs.{needs}
 use Rattle.draft_slots.proofs.ranges.range_at.Statement.{statement}
 use Rattle.draft_slots.proofs.ranges.range_at.Tie as tie
@@ -18,11 +17,7 @@ range-at-spec =
     (λ c. search needs)  -- enum-known-count
     (λ c. search needs)  -- enum-told-2
     (λ c. search running depth 10)  -- returns-2
-    (λ c. omega (
-      arith,
-      value-small 4 _ _ _ _ _ (c .before .before .before .u32-at .ensures) (c .before .count .given .1)
-          (c .before .before .before .before .before .before .before .before .shared-slice-known .given),
-    ))  -- mul-part-at
+    (λ c. search (slots-fit, value-small))  -- mul-part-at
     (λ c κs. search needs)  -- field-at-requires-2
     (λ c. search needs)  -- enum-known-next
     (λ c. search needs)  -- enum-told-3
