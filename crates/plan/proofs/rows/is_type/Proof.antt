@@ -7,9 +7,9 @@ pub is-type-spec : {M : Type 1} → statement M
 is-type-spec =
     tie.close
     (tie.spec
-    (λ c. search numbers depth 12)  -- returns
-    (λ c. search numbers depth 12)  -- returns-2
-    (λ c. search numbers depth 12)  -- returns-3
-    (λ c. search numbers depth 12)  -- returns-4
-    (λ c. search numbers depth 12)  -- returns-5
-    (λ c. search numbers depth 12))  -- returns-6
+    (λ c. search numbers depth 40)  -- returns
+    (λ c. search numbers depth 40)  -- returns-2
+    (λ c. search numbers depth 40)  -- returns-3
+    (λ c. search numbers depth 40)  -- returns-4
+    (λ c. search numbers depth 40)  -- returns-5
+    (λ c. search numbers depth 40))  -- returns-6

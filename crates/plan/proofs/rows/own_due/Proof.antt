@@ -9,12 +9,12 @@ own-due-spec =
     tie.close
     (tie.spec
     (λ c κs. search needs)  -- base-due-requires
-    (λ c. search by-type depth 12)  -- returns
+    (λ c. search by-type depth 40)  -- returns
     (λ c κs. search needs)  -- asset-due-requires
-    (λ c. search by-type depth 12)  -- returns-2
+    (λ c. search by-type depth 40)  -- returns-2
     (λ c κs. search needs)  -- operation-due-requires
-    (λ c. search by-type depth 12)  -- returns-3
+    (λ c. search by-type depth 40)  -- returns-3
     (λ c κs. search needs)  -- import-due-requires
-    (λ c. search by-type depth 12)  -- returns-4
+    (λ c. search by-type depth 40)  -- returns-4
     (λ c κs. search needs)  -- export-due-requires
-    (λ c. search by-type depth 12))  -- returns-5
+    (λ c. search by-type depth 40))  -- returns-5
