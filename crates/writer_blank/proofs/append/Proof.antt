@@ -33,29 +33,36 @@ append-spec =
     (λ c κs. search needs)  -- refuse-requires-2
     (λ c. search needs)  -- same-length
     (λ c.
-    let u = c .before .before .before .before .before .before in
-    let b = u .before .before .before in
-    let a = b .before .args in
+    let at-layout : tie.After-layout = search in
+    let u : tie.After-unsigned-at = search in
+    let b : tie.After-slice-known = search in
+    let start : tie.Start = search in
+    let a = start .args in
     made (a .buf .now) _ _ (c .refuse2 .ensures) _
     (close-after (a .most) (a .buf .now) (a .at) (omega arith) _ (u .unsigned-at .ensures) _
-    (c .before .before .before .before .layout .given .1) (b .slice-known .given) (c .before .if2 .taken)))  -- returns-2
+    (at-layout .layout .given .1) (b .slice-known .given) (c .before .if2 .taken)))  -- returns-2
     (λ c κs.
-    let u = c .before .before .before .before .before .before in
-    let b = u .before .before .before in
-    let a = b .before .args in
+    let at-layout : tie.After-layout = search in
+    let u : tie.After-unsigned-at = search in
+    let b : tie.After-slice-known = search in
+    let start : tie.Start = search in
+    let a = start .args in
     close-ahead (a .most) (a .buf .now) (a .at) (omega arith) _ (u .unsigned-at .ensures) _
-    (c .before .before .before .before .layout .given .1) (b .slice-known .given))  -- close-layout-requires
+    (at-layout .layout .given .1) (b .slice-known .given))  -- close-layout-requires
     (λ c. search needs)  -- same-length-2
     (λ c.
-    let u = c .before .before .before .before in
-    let a = u .before .before .before .before .args in
+    let u : tie.After-unsigned-at = search in
+    let start : tie.Start = search in
+    let a = start .args in
     made (a .buf .now) _ _ (c .without-place .ensures) _
     (close-refused (a .most) (a .buf .now) (a .at) (omega arith) _ (u .unsigned-at .ensures) _ (c .before .before .refusal .given .1)))  -- returns-3
     (λ c. search needs)  -- same-length-3
     (λ c.
-    let p = c .before .before in
-    let u = p .before .before .before .before .before .before .before in
-    let b = u .before .before .before in
-    let a = b .before .args in
+    let p : tie.After-close-layout = search in
+    let at-layout : tie.After-layout = search in
+    let u : tie.After-unsigned-at = search in
+    let b : tie.After-slice-known = search in
+    let start : tie.Start = search in
+    let a = start .args in
     close-whole (a .most) (a .buf .now) (a .at) (omega arith) _ (u .unsigned-at .ensures) _
-    (p .before .before .before .before .before .layout .given .1) (b .slice-known .given) (omega arith) _ _ (p .close-layout .ensures)))  -- returns-4
+    (at-layout .layout .given .1) (b .slice-known .given) (omega arith) _ _ (p .close-layout .ensures)))  -- returns-4

@@ -23,11 +23,13 @@ blank-end-spec =
     ap P.Refused (c .before .before .refuse .ensures) ∙ fitted-full (a .at) (credentialWidth (a .count)) (a .limit) (omega arith))  -- returns-2
     (λ c. search needs)  -- sub-if3
     (λ c.
-    let a = c .before .before .before .before .args in
+    let start : tie.Start = search in
+    let a = start .args in
     ap P.Refused (c .before .before .before .refuse .ensures) ∙ fitted-full (a .at) (credentialWidth (a .count)) (a .limit) (omega arith))  -- returns-3
     (λ c. search needs)  -- add-t8
     (λ c. search needs)  -- mul-t12
     (λ c. search needs)  -- add-t13
     (λ c.
-    let a = c .before .before .before .before .args in
+    let start : tie.Start = search in
+    let a = start .args in
     fitted-room (a .at) (credentialWidth (a .count)) (a .limit) _ (omega arith) (omega arith)))  -- returns-4

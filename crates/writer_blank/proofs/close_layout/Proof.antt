@@ -17,9 +17,9 @@ close-layout-spec =
     (λ c. search needs)  -- enum-known-refusal
     (λ c. search needs)  -- enum-known-end
     (λ c κs.
-    let e = c .before .before .before .before in
-    let m = e .before .before in
-    let s = m .before .before in
+    let e : tie.After-closing-end = search in
+    let m : tie.After-most-in = search in
+    let s : tie.Start = search in
     let a = s .args in
     close-room (a .layout) (a .buf .now) (a .at) _ (m .most-in .ensures) _ (e .closing-end .ensures)
     (s .pre .1) _ (c .before .before .end .given .1))  -- put-closing-requires
@@ -31,9 +31,11 @@ close-layout-spec =
     close-full (a .layout) (a .buf .now) (a .at) _ (m .most-in .ensures) _ (e .closing-end .ensures) _ (c .before .refusal .given .1))  -- returns
     (λ c. search needs)  -- same-length-2
     (λ c.
-    let p = c .before .before in
-    let e = p .before .before .before .before .before in
-    let m = e .before .before in
-    let a = m .before .before .args in
+    let p : tie.After-put-closing = search in
+    let at-end : tie.After-end = search in
+    let e : tie.After-closing-end = search in
+    let m : tie.After-most-in = search in
+    let start : tie.Start = search in
+    let a = start .args in
     close-done (a .layout) (a .buf .now) (a .at) _ (m .most-in .ensures) _ (e .closing-end .ensures) _
-    (p .before .before .before .end .given .1) _ (p .put-closing .ensures)))  -- returns-2
+    (at-end .end .given .1) _ (p .put-closing .ensures)))  -- returns-2

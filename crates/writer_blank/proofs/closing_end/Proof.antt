@@ -14,11 +14,13 @@ closing-end-spec =
     let a = c .before .before .before .args in
     closing-full (a .layout) (a .s .now) (a .at) (a .limit) (omega arith) _ (c .before .refuse .ensures))  -- returns
     (λ c.
-    let a = c .before .before .before .before .args in
+    let start : tie.Start = search in
+    let a = start .args in
     closing-full (a .layout) (a .s .now) (a .at) (a .limit) (omega arith) _ (c .before .before .refuse .ensures))  -- returns-2
     (λ c κs. search needs)  -- first-wanting-requires
     (λ c. search needs)  -- add-blanks-end
     (λ c κs. search needs)  -- blanks-end-requires
     (λ c.
-    let a = c .before .before .before .before .before .before .args in
+    let start : tie.Start = search in
+    let a = start .args in
     closing-on (a .layout) (a .s .now) (a .at) _ (c .before .first-wanting .ensures) (a .limit) _ (c .blanks-end .ensures)))  -- returns-3

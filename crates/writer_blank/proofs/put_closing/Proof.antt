@@ -19,9 +19,9 @@ put-closing-spec =
     closing-room (a .layout) (a .buf .now) (a .at) (b .pre) _ (p .put-u32 .ensures) _ (f .first-wanting .ensures))  -- put-blanks-requires
     (λ c. search needs)  -- same-length
     (λ c.
-    let p = c .before .before .before .before .before .before in
-    let f = p .before .before in
-    let b = f .before .before in
+    let p : tie.After-put-u32 = search in
+    let f : tie.After-first-wanting = search in
+    let b : tie.Start = search in
     let a = b .args in
     closing-written (a .layout) (a .buf .now) (a .at) (b .pre) _ (p .put-u32 .ensures) _ (f .first-wanting .ensures) _
     (c .before .before .put-blanks .ensures)))  -- returns

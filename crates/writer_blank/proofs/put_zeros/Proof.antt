@@ -16,5 +16,6 @@ put-zeros-spec =
     (λ c κs. search needs)  -- clear-requires
     (λ c. search needs)  -- same-length
     (λ c.
-    let a = c .before .before .before .before .before .args in
+    let start : tie.Start = search in
+    let a = start .args in
     zeros-back (a .buf .now) (a .at) _ (a .count) (omega arith) (c .before .before .clear .ensures)))  -- returns
