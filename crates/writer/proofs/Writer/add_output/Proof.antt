@@ -23,7 +23,8 @@ add-output-spec =
     (λ c. search needs)  -- same-length
     (λ c. search output-barred)  -- returns-3
     (λ c. search needs)  -- enum-told
-    (λ c. let start = c .before .before .before .before .before .before .before .before .before .before .before .before .before .before in
+    (λ c.
+    let start : tie.Start = search in
     search (needs, output-head-wide, start .good))  -- slice-aggregate-put-element
     (λ c. search needs)  -- array-share-prefix-none
     (λ c. search needs)  -- slice-aggregate-put-element-2

@@ -13,10 +13,14 @@ finish-spec =
     (tie.spec
     (λ c κs. search needs)  -- end-at-requires
     (λ c κs. search needs)  -- not-due-requires
-    (λ c. let a = c .before .before .before .before .args in
+    (λ c.
+    let start : tie.Start = search in
+    let a = start .args in
     finish-not (a .self) (a .buf .now) _ (c .before .before .end-at .ensures) memoMost (not-true _ (c .before .if1 .taken)) _
     (c .not-due .ensures))  -- returns
-    (λ c. let a = c .before .before .before .before .args in
+    (λ c.
+    let start : tie.Start = search in
+    let a = start .args in
     omega (arith, finish-small (a .self) (a .buf .now) _ (c .before .before .end-at .ensures) (not-false _ (c .before .if1 .left))))  -- add-phase
     (λ c κs. search needs)  -- append-requires
     (λ c. search needs)  -- enum-known-refusal
@@ -24,13 +28,23 @@ finish-spec =
     (λ c. search needs)  -- enum-known-end
     (λ c κs. search needs)  -- stored-requires
     (λ c. search needs)  -- same-length
-    (λ c. let a = c .before .before .before .before .before .before .before .before .before .before .before .before .args in
-    finish-refused (a .self) (a .buf .now) _ (c .before .before .before .before .before .before .before .before .before .before .end-at .ensures)
-    (not-false _ (c .before .before .before .before .before .before .before .before .before .if1 .left)) memoMost _ _
-    (c .before .before .before .before .before .before .append .ensures) _ (c .before .before .refusal .given .1) _
+    (λ c.
+    let at-append : tie.After-append = search in
+    let else1 : tie.Else1 = search in
+    let at-end-at : tie.After-end-at = search in
+    let start : tie.Start = search in
+    let a = start .args in
+    finish-refused (a .self) (a .buf .now) _ (at-end-at .end-at .ensures)
+    (not-false _ (else1 .if1 .left)) memoMost _ _
+    (at-append .append .ensures) _ (c .before .before .refusal .given .1) _
     (c .refused .ensures))  -- returns-2
     (λ c. search needs)  -- same-length-2
-    (λ c. let a = c .before .before .before .before .before .before .before .before .before .before .before .before .args in
-    finish-done (a .self) (a .buf .now) _ (c .before .before .before .before .before .before .before .before .before .before .end-at .ensures)
-    (not-false _ (c .before .before .before .before .before .before .before .before .before .if1 .left)) memoMost _ _
-    (c .before .before .before .before .before .before .append .ensures) _ (c .before .before .end .given .1) _ (c .stored .ensures)))  -- returns-3
+    (λ c.
+    let at-append : tie.After-append = search in
+    let else1 : tie.Else1 = search in
+    let at-end-at : tie.After-end-at = search in
+    let start : tie.Start = search in
+    let a = start .args in
+    finish-done (a .self) (a .buf .now) _ (at-end-at .end-at .ensures)
+    (not-false _ (else1 .if1 .left)) memoMost _ _
+    (at-append .append .ensures) _ (c .before .before .end .given .1) _ (c .stored .ensures)))  -- returns-3

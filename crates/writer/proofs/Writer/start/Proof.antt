@@ -19,7 +19,9 @@ start-spec =
     (λ c κs. search needs)  -- type-rules-requires
     (λ c. search needs)  -- enum-known-refusal
     (λ c κs. search needs)  -- refused-requires
-    (λ c. search (start-barred, c .before .before .before .before .before .before .before .before .before .before .good))  -- returns-3
+    (λ c.
+    let start : tie.Start = search in
+    search (start-barred, start .good))  -- returns-3
     (λ c. search needs)  -- enum-told
     (λ c. search needs)  -- slice-aggregate-put-number
     (λ c. search needs)  -- mul-put-number
@@ -30,7 +32,7 @@ start-spec =
     (λ c κs. search needs)  -- settle-requires
     (λ c. search needs)  -- same-length
     (λ c.
-    let b = c .before .before .before .before .before .before .before .before .before .before .before .before .before .before .before .before .before in
+    let b : tie.Start = search in
     let k : b .args .type-id < 256 ^ 4 = omega (arith, b .fits) in
     let n : b .args .network < 256 ^ 4 = omega (arith, b .fits) in
     let l : length (b .args .t5) ≡ 32 = b .good .1 .1 .1 .1 .0 .1 .0 .1 in

@@ -11,10 +11,18 @@ is-sane-spec =
     tie.close
     (tie.spec
     (λ c. count-outside (c .before .before .args .w) (omega (arith, c .if1 .taken)))  -- returns
-    (λ c. count-outside (c .before .before .before .before .before .args .w) (omega (arith, c .if2 .taken, c .before .before .before .if1 .left)))  -- returns-2
-    (λ c. last-outside (c .before .before .before .before .before .before .before .args .w) (omega
-    (arith, c .before .before .if2 .left, c .before .before .before .before .before .if1 .left)) (c .if3 .taken))  -- returns-3
+    (λ c.
+    let start : tie.Start = search in
+    count-outside (start .args .w) (omega (arith, c .if2 .taken, c .before .before .before .if1 .left)))  -- returns-2
+    (λ c.
+    let else1 : tie.Else1 = search in
+    let start : tie.Start = search in
+    last-outside (start .args .w) (omega
+    (arith, c .before .before .if2 .left, else1 .if1 .left)) (c .if3 .taken))  -- returns-3
     (λ c. search needs)  -- cast-result
-    (λ c. inside (c .before .before .before .before .before .before .before .before .args .w) _ (omega
-    (arith, c .before .before .before .if2 .left, c .before .before .before .before .before .before .if1 .left))
+    (λ c.
+    let else1 : tie.Else1 = search in
+    let start : tie.Start = search in
+    inside (start .args .w) _ (omega
+    (arith, c .before .before .before .if2 .left, else1 .if1 .left))
     (c .before .if3 .left) refl))  -- returns-4

@@ -13,7 +13,8 @@ put-element-spec =
     (λ c. search needs)  -- enum-known-refusal
     (λ c κs. search needs)  -- refused-requires
     (λ c. search needs)  -- enum-known-end
-    (λ c. let start = c .before .before .before .before .before .before .before .before .before .before .before .before in
+    (λ c.
+    let start : tie.Start = search in
     omega (arith, sane-inv (start .args .w) (start .pre) .1))  -- add-count
     (λ c. search needs)  -- cast-put-u32
     (λ c κs. search needs)  -- put-u32-requires
