@@ -7,31 +7,31 @@ use Rattle.draft.proofs.fill_within.Tie as tie
 returns-4 : tie.Need-returns-4
 returns-4 c =
     let clashed : tie.After-clash = search in
-    let at-slot-of : tie.After-slot-of = search in
-    let else1 : tie.Else1 = search in
+    let slot : tie.After-slot-of = search in
+    let whole : tie.Else1 = search in
     let located : tie.After-at = search in
     let found : tie.After-place-of = search in
     let accepted : tie.After-layout = search in
     let called : tie.After-check-within = search in
-    let at-slice-known : tie.After-slice-known = search in
-    fill-20 _ _ _ _ _ (called .check-within .ensures) _ _ (accepted .layout .given .1) (at-slice-known .slice-known .given)
-    _ (found .place-of .ensures) _ (located .at .given .1) (else1 .if1 .left)
-    _ (at-slot-of .slot-of .ensures) _ (clashed .clash .ensures) (c .before .if2 .taken) _ (c .refused4 .ensures)
+    let bytes : tie.After-slice-known = search in
+    fill-20 _ _ _ _ _ (called .check-within .ensures) _ _ (accepted .layout .given .1) (bytes .slice-known .given)
+    _ (found .place-of .ensures) _ (located .at .given .1) (whole .if1 .left)
+    _ (slot .slot-of .ensures) _ (clashed .clash .ensures) (c .before .if2 .taken) _ (c .refused4 .ensures)
 
 returns-5 : tie.Need-returns-5
 returns-5 c =
-    let else2 : tie.Else2 = search in
+    let no-clash : tie.Else2 = search in
     let clashed : tie.After-clash = search in
-    let at-slot-of : tie.After-slot-of = search in
-    let else1 : tie.Else1 = search in
+    let slot : tie.After-slot-of = search in
+    let whole : tie.Else1 = search in
     let located : tie.After-at = search in
     let found : tie.After-place-of = search in
     let accepted : tie.After-layout = search in
     let called : tie.After-check-within = search in
-    let at-slice-known : tie.After-slice-known = search in
-    fill-0 _ _ _ _ _ (called .check-within .ensures) _ _ (accepted .layout .given .1) (at-slice-known .slice-known .given)
-    _ (found .place-of .ensures) _ (located .at .given .1) (else1 .if1 .left)
-    _ (at-slot-of .slot-of .ensures) _ (clashed .clash .ensures) (else2 .if2 .left) _ (c .before .before .join-at .ensures)
+    let bytes : tie.After-slice-known = search in
+    fill-0 _ _ _ _ _ (called .check-within .ensures) _ _ (accepted .layout .given .1) (bytes .slice-known .given)
+    _ (found .place-of .ensures) _ (located .at .given .1) (whole .if1 .left)
+    _ (slot .slot-of .ensures) _ (clashed .clash .ensures) (no-clash .if2 .left) _ (c .before .before .join-at .ensures)
 
 pub fill-within-spec : {M : Type 1} → statement M
 fill-within-spec =

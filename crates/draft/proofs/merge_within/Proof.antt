@@ -6,78 +6,62 @@ use borrow.Author.Needs.{needs}
 use Rattle.draft.proofs.merge_within.Statement.{statement}
 use Rattle.draft.proofs.merge_within.Tie as tie
 
-returns-3 : tie.Need-returns-3
-returns-3 c =
-    let compared : tie.After-same-bytes = search in
-    let at-between2 : tie.After-between2 = search in
-    let at-between : tie.After-between = search in
-    let second : tie.After-other = search in
-    let at-check-within2 : tie.After-check-within2 = search in
-    let first : tie.After-layout = search in
-    let at-check-within : tie.After-check-within = search in
-    let slices : tie.After-shared-slice-known2 = search in
-    let at-shared-slice-known : tie.After-shared-slice-known = search in
-    merge-19 _ _ _ _ _ (at-check-within .check-within .ensures) _ _ (first .layout .given .1) (at-shared-slice-known .shared-slice-known .given)
-    _ (at-check-within2 .check-within2 .ensures) _ _ (second .other .given .1) (slices .shared-slice-known2 .given)
-    _ _ (at-between .between .ensures) (at-between2 .between2 .ensures) _ (compared .same-bytes .ensures)
-    (c .before .if1 .taken) _ (c .refused3 .ensures)
-
 returns-4 : tie.Need-returns-4
 returns-4 c =
     let searched : tie.After-first-clash = search in
-    let else1 : tie.Else1 = search in
+    let same-bodies : tie.Else1 = search in
     let compared : tie.After-same-bytes = search in
-    let at-between2 : tie.After-between2 = search in
-    let at-between : tie.After-between = search in
+    let second-body : tie.After-between2 = search in
+    let first-body : tie.After-between = search in
     let second : tie.After-other = search in
-    let at-check-within2 : tie.After-check-within2 = search in
+    let checked-second : tie.After-check-within2 = search in
     let first : tie.After-layout = search in
-    let at-check-within : tie.After-check-within = search in
-    let slices : tie.After-shared-slice-known2 = search in
-    let at-shared-slice-known : tie.After-shared-slice-known = search in
-    merge-20 _ _ _ _ _ (at-check-within .check-within .ensures) _ _ (first .layout .given .1) (at-shared-slice-known .shared-slice-known .given)
-    _ (at-check-within2 .check-within2 .ensures) _ _ (second .other .given .1) (slices .shared-slice-known2 .given)
-    _ _ (at-between .between .ensures) (at-between2 .between2 .ensures) _ (compared .same-bytes .ensures)
-    _ (searched .first-clash .ensures) (else1 .if1 .left) _ (c .before .before .k .given .1) _ (c .refused4 .ensures)
+    let checked-first : tie.After-check-within = search in
+    let second-bytes : tie.After-shared-slice-known2 = search in
+    let first-bytes : tie.After-shared-slice-known = search in
+    merge-20 _ _ _ _ _ (checked-first .check-within .ensures) _ _ (first .layout .given .1) (first-bytes .shared-slice-known .given)
+    _ (checked-second .check-within2 .ensures) _ _ (second .other .given .1) (second-bytes .shared-slice-known2 .given)
+    _ _ (first-body .between .ensures) (second-body .between2 .ensures) _ (compared .same-bytes .ensures)
+    _ (searched .first-clash .ensures) (same-bodies .if1 .left) _ (c .before .before .k .given .1) _ (c .refused4 .ensures)
 
 returns-5 : tie.Need-returns-5
 returns-5 c =
     let searched : tie.After-first-clash = search in
-    let else1 : tie.Else1 = search in
+    let same-bodies : tie.Else1 = search in
     let compared : tie.After-same-bytes = search in
-    let at-between2 : tie.After-between2 = search in
-    let at-between : tie.After-between = search in
+    let second-body : tie.After-between2 = search in
+    let first-body : tie.After-between = search in
     let second : tie.After-other = search in
-    let at-check-within2 : tie.After-check-within2 = search in
+    let checked-second : tie.After-check-within2 = search in
     let first : tie.After-layout = search in
-    let at-check-within : tie.After-check-within = search in
-    let slices : tie.After-shared-slice-known2 = search in
-    let at-shared-slice-known : tie.After-shared-slice-known = search in
-    merge-14 _ _ _ _ _ (at-check-within .check-within .ensures) _ _ (first .layout .given .1) (at-shared-slice-known .shared-slice-known .given)
-    _ (at-check-within2 .check-within2 .ensures) _ _ (second .other .given .1) (slices .shared-slice-known2 .given)
-    _ _ (at-between .between .ensures) (at-between2 .between2 .ensures) _ (compared .same-bytes .ensures)
-    _ (searched .first-clash .ensures) (else1 .if1 .left) (c .before .before .enum-told3 .given .1) (c .before .if2 .taken) _ (c .refused5 .ensures)
+    let checked-first : tie.After-check-within = search in
+    let second-bytes : tie.After-shared-slice-known2 = search in
+    let first-bytes : tie.After-shared-slice-known = search in
+    merge-14 _ _ _ _ _ (checked-first .check-within .ensures) _ _ (first .layout .given .1) (first-bytes .shared-slice-known .given)
+    _ (checked-second .check-within2 .ensures) _ _ (second .other .given .1) (second-bytes .shared-slice-known2 .given)
+    _ _ (first-body .between .ensures) (second-body .between2 .ensures) _ (compared .same-bytes .ensures)
+    _ (searched .first-clash .ensures) (same-bodies .if1 .left) (c .before .before .enum-told3 .given .1) (c .before .if2 .taken) _ (c .refused5 .ensures)
 
 returns-6 : tie.Need-returns-6
 returns-6 c =
-    let else2 : tie.Else2 = search in
-    let at-enum-told3 : tie.After-enum-told3 = search in
+    let room : tie.Else2 = search in
+    let no-clash : tie.After-enum-told3 = search in
     let searched : tie.After-first-clash = search in
-    let else1 : tie.Else1 = search in
+    let same-bodies : tie.Else1 = search in
     let compared : tie.After-same-bytes = search in
-    let at-between2 : tie.After-between2 = search in
-    let at-between : tie.After-between = search in
+    let second-body : tie.After-between2 = search in
+    let first-body : tie.After-between = search in
     let second : tie.After-other = search in
-    let at-check-within2 : tie.After-check-within2 = search in
+    let checked-second : tie.After-check-within2 = search in
     let first : tie.After-layout = search in
-    let at-check-within : tie.After-check-within = search in
-    let slices : tie.After-shared-slice-known2 = search in
-    let at-shared-slice-known : tie.After-shared-slice-known = search in
-    merge-0 _ _ _ _ _ (at-check-within .check-within .ensures) _ _ (first .layout .given .1) (at-shared-slice-known .shared-slice-known .given)
-    _ (at-check-within2 .check-within2 .ensures) _ _ (second .other .given .1) (slices .shared-slice-known2 .given)
-    _ _ (at-between .between .ensures) (at-between2 .between2 .ensures) _ (compared .same-bytes .ensures)
-    _ (searched .first-clash .ensures) (else1 .if1 .left) (at-enum-told3 .enum-told3 .given .1)
-    _ (else2 .if2 .left) (c .before .before .put-merge .ensures)
+    let checked-first : tie.After-check-within = search in
+    let second-bytes : tie.After-shared-slice-known2 = search in
+    let first-bytes : tie.After-shared-slice-known = search in
+    merge-0 _ _ _ _ _ (checked-first .check-within .ensures) _ _ (first .layout .given .1) (first-bytes .shared-slice-known .given)
+    _ (checked-second .check-within2 .ensures) _ _ (second .other .given .1) (second-bytes .shared-slice-known2 .given)
+    _ _ (first-body .between .ensures) (second-body .between2 .ensures) _ (compared .same-bytes .ensures)
+    _ (searched .first-clash .ensures) (same-bodies .if1 .left) (no-clash .enum-told3 .given .1)
+    _ (room .if2 .left) (c .before .before .put-merge .ensures)
 
 pub merge-within-spec : {M : Type 1} → statement M
 merge-within-spec =
@@ -97,7 +81,7 @@ merge-within-spec =
     (λ c κs. search needs)  -- between-requires-2
     (λ c κs. search needs)  -- same-bytes-requires
     (λ c κs. search needs)  -- refused-requires-3
-    returns-3
+    (λ c. search merge-19)  -- returns-3
     (λ c κs. search needs)  -- first-clash-requires
     (λ c. search needs)  -- enum-known-k
     (λ c κs. search needs)  -- refused-requires-4

@@ -34,35 +34,35 @@ append-spec =
     (λ c. search needs)  -- same-length
     (λ c.
     let at-layout : tie.After-layout = search in
-    let u : tie.After-unsigned-at = search in
-    let b : tie.After-slice-known = search in
+    let read : tie.After-unsigned-at = search in
+    let bytes : tie.After-slice-known = search in
     let start : tie.Start = search in
     let a = start .args in
     made (a .buf .now) _ _ (c .refuse2 .ensures) _
-    (close-after (a .most) (a .buf .now) (a .at) (omega arith) _ (u .unsigned-at .ensures) _
-    (at-layout .layout .given .1) (b .slice-known .given) (c .before .if2 .taken)))  -- returns-2
+    (close-after (a .most) (a .buf .now) (a .at) (omega arith) _ (read .unsigned-at .ensures) _
+    (at-layout .layout .given .1) (bytes .slice-known .given) (c .before .if2 .taken)))  -- returns-2
     (λ c κs.
     let at-layout : tie.After-layout = search in
-    let u : tie.After-unsigned-at = search in
-    let b : tie.After-slice-known = search in
+    let read : tie.After-unsigned-at = search in
+    let bytes : tie.After-slice-known = search in
     let start : tie.Start = search in
     let a = start .args in
-    close-ahead (a .most) (a .buf .now) (a .at) (omega arith) _ (u .unsigned-at .ensures) _
-    (at-layout .layout .given .1) (b .slice-known .given))  -- close-layout-requires
+    close-ahead (a .most) (a .buf .now) (a .at) (omega arith) _ (read .unsigned-at .ensures) _
+    (at-layout .layout .given .1) (bytes .slice-known .given))  -- close-layout-requires
     (λ c. search needs)  -- same-length-2
     (λ c.
-    let u : tie.After-unsigned-at = search in
+    let read : tie.After-unsigned-at = search in
     let start : tie.Start = search in
     let a = start .args in
     made (a .buf .now) _ _ (c .without-place .ensures) _
-    (close-refused (a .most) (a .buf .now) (a .at) (omega arith) _ (u .unsigned-at .ensures) _ (c .before .before .refusal .given .1)))  -- returns-3
+    (close-refused (a .most) (a .buf .now) (a .at) (omega arith) _ (read .unsigned-at .ensures) _ (c .before .before .refusal .given .1)))  -- returns-3
     (λ c. search needs)  -- same-length-3
     (λ c.
-    let p : tie.After-close-layout = search in
+    let closed : tie.After-close-layout = search in
     let at-layout : tie.After-layout = search in
-    let u : tie.After-unsigned-at = search in
-    let b : tie.After-slice-known = search in
+    let read : tie.After-unsigned-at = search in
+    let bytes : tie.After-slice-known = search in
     let start : tie.Start = search in
     let a = start .args in
-    close-whole (a .most) (a .buf .now) (a .at) (omega arith) _ (u .unsigned-at .ensures) _
-    (at-layout .layout .given .1) (b .slice-known .given) (omega arith) _ _ (p .close-layout .ensures)))  -- returns-4
+    close-whole (a .most) (a .buf .now) (a .at) (omega arith) _ (read .unsigned-at .ensures) _
+    (at-layout .layout .given .1) (bytes .slice-known .given) (omega arith) _ _ (closed .close-layout .ensures)))  -- returns-4

@@ -31,43 +31,42 @@ blanks-end-spec =
     (λ c. search needs)  -- enum-known-signatures
     (λ c. search needs)  -- enum-told
     (λ c.
-    let n : tie.After-next-wanted Inv-loop μ-loop = search in
+    let wanted : tie.After-next-wanted Inv-loop μ-loop = search in
     let in-loop : tie.In-loop Inv-loop μ-loop = search in
     let at-loop : tie.At-loop Inv-loop μ-loop = search in
     let start : tie.Start Inv-loop μ-loop = search in
     let l = at-loop .loop in
     let a = start .args in
     l .inv .0 _ (of-end (a .s .now) (a .type-id) record { phase = l .phase; asks = l .asks; at = l .q; left = l .elements } (l .left) _
-    (n .next-wanted .ensures) _ (in-loop .loop-test .taken) (c .enum-told .given .1)))  -- returns
+    (wanted .next-wanted .ensures) _ (in-loop .loop-test .taken) (c .enum-told .given .1)))  -- returns
     (λ c κs. search needs)  -- blank-end-requires
     (λ c. search needs)  -- enum-known-refusal
     (λ c.
-    let b : tie.After-blank-end Inv-loop μ-loop = search in
+    let ended : tie.After-blank-end Inv-loop μ-loop = search in
     let at-signatures : tie.After-signatures Inv-loop μ-loop = search in
-    let n : tie.After-next-wanted Inv-loop μ-loop = search in
+    let wanted : tie.After-next-wanted Inv-loop μ-loop = search in
     let at-loop : tie.At-loop Inv-loop μ-loop = search in
     let start : tie.Start Inv-loop μ-loop = search in
     let l = at-loop .loop in
     let a = start .args in
     l .inv .0 _ (end-full (a .s .now) (a .type-id) record { phase = l .phase; asks = l .asks; at = l .q; left = l .elements } (l .left) _
-    (n .next-wanted .ensures) _ _ _
-    (at-signatures .signatures .given .1) (l .at) _ _ (b .blank-end .ensures) _ (c .before .refusal .given .1)))  -- returns-2
+    (wanted .next-wanted .ensures) _ _ _
+    (at-signatures .signatures .given .1) (l .at) _ _ (ended .blank-end .ensures) _ (c .before .refusal .given .1)))  -- returns-2
     (λ c. search needs)  -- enum-known-end
     (λ c. search needs)  -- sub-left
     (λ c. search needs)  -- loop-less
     (λ c.
-    let b : tie.After-blank-end Inv-loop μ-loop = search in
+    let ended : tie.After-blank-end Inv-loop μ-loop = search in
     let at-signatures : tie.After-signatures Inv-loop μ-loop = search in
-    let n : tie.After-next-wanted Inv-loop μ-loop = search in
+    let wanted : tie.After-next-wanted Inv-loop μ-loop = search in
     let at-loop : tie.At-loop Inv-loop μ-loop = search in
     let start : tie.Start Inv-loop μ-loop = search in
     let l = at-loop .loop in
-    let a = start .args in
-    (
+    let a = start .args in (
       λ r h. l .inv .0 r (end-on (a .s .now) (a .type-id) record { phase = l .phase; asks = l .asks; at = l .q; left = l .elements } (l .left) _
-          (n .next-wanted .ensures) _ _ _
-          (at-signatures .signatures .given .1) (l .at) _ _ (b .blank-end .ensures) r _ (c .before .end .given .1) h),
-      fitted-next _ _ _ _ (b .blank-end .ensures) _ (c .before .end .given .1) .1,
+          (wanted .next-wanted .ensures) _ _ _
+          (at-signatures .signatures .given .1) (l .at) _ _ (ended .blank-end .ensures) r _ (c .before .end .given .1) h),
+      fitted-next _ _ _ _ (ended .blank-end .ensures) _ (c .before .end .given .1) .1,
     ))  -- loop-again
     (λ c.
     let l = c .before .loop in

@@ -17,12 +17,12 @@ close-layout-spec =
     (λ c. search needs)  -- enum-known-refusal
     (λ c. search needs)  -- enum-known-end
     (λ c κs.
-    let e : tie.After-closing-end = search in
-    let m : tie.After-most-in = search in
-    let s : tie.Start = search in
-    let a = s .args in
-    close-room (a .layout) (a .buf .now) (a .at) _ (m .most-in .ensures) _ (e .closing-end .ensures)
-    (s .pre .1) _ (c .before .before .end .given .1))  -- put-closing-requires
+    let ended : tie.After-closing-end = search in
+    let most : tie.After-most-in = search in
+    let start : tie.Start = search in
+    let a = start .args in
+    close-room (a .layout) (a .buf .now) (a .at) _ (most .most-in .ensures) _ (ended .closing-end .ensures)
+    (start .pre .1) _ (c .before .before .end .given .1))  -- put-closing-requires
     (λ c. search needs)  -- same-length
     (λ c.
     let e = c .before .before .before in
@@ -31,11 +31,11 @@ close-layout-spec =
     close-full (a .layout) (a .buf .now) (a .at) _ (m .most-in .ensures) _ (e .closing-end .ensures) _ (c .before .refusal .given .1))  -- returns
     (λ c. search needs)  -- same-length-2
     (λ c.
-    let p : tie.After-put-closing = search in
+    let closed : tie.After-put-closing = search in
     let at-end : tie.After-end = search in
-    let e : tie.After-closing-end = search in
-    let m : tie.After-most-in = search in
+    let ended : tie.After-closing-end = search in
+    let most : tie.After-most-in = search in
     let start : tie.Start = search in
     let a = start .args in
-    close-done (a .layout) (a .buf .now) (a .at) _ (m .most-in .ensures) _ (e .closing-end .ensures) _
-    (at-end .end .given .1) _ (p .put-closing .ensures)))  -- returns-2
+    close-done (a .layout) (a .buf .now) (a .at) _ (most .most-in .ensures) _ (ended .closing-end .ensures) _
+    (at-end .end .given .1) _ (closed .put-closing .ensures)))  -- returns-2

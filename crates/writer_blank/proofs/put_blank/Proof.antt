@@ -20,13 +20,12 @@ put-blank-spec =
     (λ c. search needs)  -- add
     (λ c. search needs)  -- same-length
     (λ c.
-    let z : tie.After-put-zeros = search in
+    let zeros : tie.After-put-zeros = search in
     let second : tie.After-put-u322 = search in
     let first : tie.After-put-u32 = search in
     let start : tie.Start = search in
-    let a = start .args in
-    (
+    let a = start .args in (
       omega arith,
       blank-back (a .buf .now) _ _ _ (a .at) (a .code) (a .count) (omega arith) (omega arith) (omega arith)
-          (first .put-u32 .ensures) (second .put-u322 .ensures) (z .put-zeros .ensures),
+          (first .put-u32 .ensures) (second .put-u322 .ensures) (zeros .put-zeros .ensures),
     )))  -- returns

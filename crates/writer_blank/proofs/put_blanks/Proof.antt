@@ -32,19 +32,19 @@ put-blanks-spec =
     let l = n .before .before .before .loop in
     writing-end (l .inv) _ (n .next-wanted .ensures) (n .before .before .loop-test .taken) (c .enum-told .given .1))  -- returns
     (λ c κs.
-    let n : tie.After-next-wanted Inv-loop μ-loop = search in
+    let wanted : tie.After-next-wanted Inv-loop μ-loop = search in
     let at-loop : tie.At-loop Inv-loop μ-loop = search in
     let l = at-loop .loop in
-    writing-room (l .inv) _ (n .next-wanted .ensures) _ _ _ (c .before .before .code .given .1))  -- put-blank-requires
+    writing-room (l .inv) _ (wanted .next-wanted .ensures) _ _ _ (c .before .before .code .given .1))  -- put-blank-requires
     (λ c. search needs)  -- sub-owed
     (λ c. search needs)  -- loop-less
     (λ c.
-    let p : tie.After-put-blank Inv-loop μ-loop = search in
+    let blank : tie.After-put-blank Inv-loop μ-loop = search in
     let at-code : tie.After-code Inv-loop μ-loop = search in
-    let n : tie.After-next-wanted Inv-loop μ-loop = search in
+    let wanted : tie.After-next-wanted Inv-loop μ-loop = search in
     let at-loop : tie.At-loop Inv-loop μ-loop = search in
     let l = at-loop .loop in
-    writing-on (l .inv) _ (n .next-wanted .ensures) _ _ _ (at-code .code .given .1) _ _
-    (p .put-blank .ensures .1) (p .put-blank .ensures .0))  -- loop-again
+    writing-on (l .inv) _ (wanted .next-wanted .ensures) _ _ _ (at-code .code .given .1) _ _
+    (blank .put-blank .ensures .1) (blank .put-blank .ensures .0))  -- loop-again
     (λ c. search needs)  -- same-length-2
     (λ c. writing-none (c .before .loop .inv) (omega arith)))  -- returns-2

@@ -19,9 +19,9 @@ put-closing-spec =
     closing-room (a .layout) (a .buf .now) (a .at) (b .pre) _ (p .put-u32 .ensures) _ (f .first-wanting .ensures))  -- put-blanks-requires
     (λ c. search needs)  -- same-length
     (λ c.
-    let p : tie.After-put-u32 = search in
-    let f : tie.After-first-wanting = search in
-    let b : tie.Start = search in
-    let a = b .args in
-    closing-written (a .layout) (a .buf .now) (a .at) (b .pre) _ (p .put-u32 .ensures) _ (f .first-wanting .ensures) _
+    let counted : tie.After-put-u32 = search in
+    let wanting : tie.After-first-wanting = search in
+    let start : tie.Start = search in
+    let a = start .args in
+    closing-written (a .layout) (a .buf .now) (a .at) (start .pre) _ (counted .put-u32 .ensures) _ (wanting .first-wanting .ensures) _
     (c .before .before .put-blanks .ensures)))  -- returns
