@@ -37,10 +37,10 @@ use Rattle.checker.specs.Wanted.{Wants, First, Nexts, NextWants, Beside,
 use Rattle.checker.proofs.Planning.{none-asked}
 use Rattle.checker.proofs.Ahead.{front-of, list-over}
 
--- ---- the loop: what is left, from here, gives the whole
+-- ---- the loop: what is left, n from `at` on, beside what c has ahead
 
 module _ (s : List ℕ) («type_id» : ℕ) (c : Wanting) (n at : ℕ) (x : Wanted) (h : NextWants «type_id» s c x) where
-  pub beside-end : (r : End) → 0 < n → x ≡ X.Nothing → Beside «type_id» s c n at r
+  beside-end : (r : End) → 0 < n → x ≡ X.Nothing → Beside «type_id» s c n at r
   beside-end r o q most ws w e =
       let none : ws ≡ [] = subst (λ (x : Wanted). Nexts most s «type_id» ws x) q (h most ws w) in
       absurd (omega (arith, ap length none))
@@ -57,21 +57,51 @@ module _ (s : List ℕ) («type_id» : ℕ) (c : Wanting) (n at : ℕ) (x : Want
         ∙ ap₂ (λ (i j : ℕ). pieces (credentialPieces i j []) .parse s at Q.Refused (λ b m. ended (pieces (each (f .others))) s m)) (sym (f .type))
         (sym (f .signatures))
 
-    pub beside-refused : (e : Refusal) → y ≡ Q.Refused e → Beside «type_id» s c n at (Q.Refused e)
+    beside-refused : (e : Refusal) → y ≡ Q.Refused e → Beside «type_id» s c n at (Q.Refused e)
     beside-refused e i most ws w l =
         let f = first most ws w in
         W.stops (pieces (credentialPieces t k [])) End s at (Q.Refused e) Q.Refused _ y e g i refl ∙ sym (split most ws f)
 
-    pub beside-past : (r : End) (m : ℕ) → y ≡ Q.At m → Beside «type_id» s d (n - 1) m r → Beside «type_id» s c n at r
+    beside-past : (r : End) (m : ℕ) → y ≡ Q.At m → Beside «type_id» s d (n - 1) m r → Beside «type_id» s c n at r
     beside-past r m i b most ws w l =
         let f = first most ws w in
         let left : length (f .others) ≡ n - 1 = omega (arith, ap length (f .all)) in
         W.ends (pieces (credentialPieces t k [])) End s at r Q.Refused _ y m g i (λ v. b most (f .others) (f .behind) left) ∙ sym (split most ws f)
 
-pub beside-done : (s : List ℕ) («type_id» : ℕ) (c : Wanting) (n at : ℕ) → n ≤ 0 → Beside «type_id» s c n at (Q.At at)
+beside-done : (s : List ℕ) («type_id» : ℕ) (c : Wanting) (n at : ℕ) → n ≤ 0 → Beside «type_id» s c n at (Q.At at)
 unfolding each pieces
 beside-done s «type_id» c n at h most [] w l = refl
 beside-done s «type_id» c n at h most (d ∷ ws) w l = absurd (omega arith)
+
+-- where what is left is read, so is the whole: count from start on, beside what `from` has ahead
+module _ (s : List ℕ) («type_id» : ℕ) (from : Wanting) (count start : ℕ) where
+  unfoldable pub BesideOnward : Wanting → ℕ → ℕ → Type 0
+  BesideOnward c n at = (r : End) → Beside «type_id» s c n at r → Beside «type_id» s from count start r
+
+  pub onward-start : BesideOnward from count start
+  unfolding BesideOnward
+  onward-start r h = h
+
+  module _ (c : Wanting) (n at : ℕ) (o : BesideOnward c n at) where
+    pub onward-done : n ≤ 0 → Beside «type_id» s from count start (Q.At at)
+    unfolding BesideOnward
+    onward-done h = o (Q.At at) (beside-done s «type_id» c n at h)
+
+    module _ (x : Wanted) (h : NextWants «type_id» s c x) where
+      pub onward-end : (r : End) → 0 < n → x ≡ X.Nothing → Beside «type_id» s from count start r
+      unfolding BesideOnward
+      onward-end r l q = o r (beside-end s «type_id» c n at x h r l q)
+
+      module _ (t k : ℕ) (d : Wanting) (q : x ≡ X.Credential t k d) (y : End) (g : y ≡ ended (pieces (credentialPieces t k [])) s at) where
+        pub onward-refused : (e : Refusal) → y ≡ Q.Refused e → Beside «type_id» s from count start (Q.Refused e)
+        unfolding BesideOnward
+        onward-refused e i = o (Q.Refused e) (beside-refused s «type_id» c n at x h t k d q y g e i)
+
+        pub onward-past : (m : ℕ) → y ≡ Q.At m → BesideOnward d (n - 1) m
+        unfolding BesideOnward
+        onward-past m i r b = o r (beside-past s «type_id» c n at x h t k d q y g r m i b)
+
+pub ruleset onward = (onward-start, onward-done, onward-end, onward-refused, onward-past)
 
 -- ---- all credentials
 

@@ -12,12 +12,15 @@ use borrow.Author.Tests.{leb-true, leb-false}
 use Rattle.wire.specs.declared.Refusal.{Refusal}
 use Rattle.wire.specs.declared.End.{End}
 use Rattle.wire.specs.declared.End.the-variants as P
+use Rattle.wire.specs.declared.Integer.{Integer}
+use Rattle.wire.specs.declared.Integer.the-variants as N
 use Rattle.wire.specs.Bytes.{pick}
 use Rattle.wire.specs.Numbers.{cutAt}
 use Rattle.wire.specs.Format.{took, refused, read, pick-inv, took-refused}
-use Rattle.wire.specs.Fields.{blob, blobParse}
-use Rattle.wire.specs.Answer.{ended}
-use Rattle.wire.proofs.Reading.{next-took, next-refused, blob-has, blob-ends}
+use Rattle.wire.specs.Fields.{integer, blob, blobParse}
+use Rattle.wire.specs.Answer.{ended, valued}
+use Rattle.wire.proofs.Bytes.{Slice}
+use Rattle.wire.proofs.Reading.{next-took, next-refused, blob-has, blob-ends, value-small}
 use Rattle.transaction.specs.Slots.{signatureWidth}
 use Rattle.transaction.specs.Credentials.{signatures, pieces}
 use Rattle.checker.specs.Cut.{firstCut}
@@ -41,8 +44,9 @@ module _ (s : List ℕ) (at : ℕ) where
 pub signatures-fit : (n : ℕ) → n < 256 ^ 4 → 65 * n < 2 ^ 64
 signatures-fit n h = omega arith
 
-pub wanted-fit : (n w : ℕ) → n ≡ w → n < 256 ^ 4 → w < 256 ^ 4
-wanted-fit n w e h = rw (← e) h
+-- so many are wanted as a count that was read has found
+pub wanted-fit : (n w : ℕ) → n ≡ w → (x : Integer) (m : ℕ) → x ≡ N.Value n m → (s : List ℕ) (at : ℕ) → x ≡ valued (integer 4) s at → Slice s → w < 256 ^ 4
+wanted-fit n w e x m q s at p b = rw (← e) (value-small 4 s at x n m p q b)
 
 module _ (s : List ℕ) where
   all-there : (n at : ℕ) → 65 * n ≤ length s - at → P.At (at + 65 * n) ≡ ended (pieces (signatures n [])) s at

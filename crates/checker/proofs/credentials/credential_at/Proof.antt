@@ -2,7 +2,6 @@
 use borrow.Author.Needs.{needs}
 use Rattle.transaction.proofs.Reading.{piecewise}
 use Rattle.checker.proofs.Signatures.{wanted-fit}
-use Rattle.wire.proofs.Reading.{value-small}
 use Rattle.transaction.specs.Credentials.{pieces}
 use Rattle.wire.specs.Fields.{constant}
 use Rattle.checker.proofs.credentials.credential_at.Statement.{statement}
@@ -27,8 +26,5 @@ credential-at-spec =
     (λ c. search piecewise depth 12)  -- returns-3
     (λ c κs. search needs)  -- refuse-requires-2
     (λ c. search piecewise depth 12)  -- returns-4
-    (λ c κs.
-    let r = c .before .before .before .before in
-    let b = r .before .before .before .before .before .before .shared-slice-known .given in
-    wanted-fit _ _ (c .if2 .left) (value-small 4 _ _ _ _ _ (r .u32-at2 .ensures) (c .before .before .count .given .1) b))  -- signatures-at-requires
+    (λ c κs. search (wanted-fit _ _ (c .if2 .left)))  -- signatures-at-requires
     (λ c. search piecewise depth 12))  -- returns-5

@@ -3,7 +3,8 @@ use mathlib.Core.Path.{_≡_}
 use Prim.Native.Nat.{_≤_}
 use native.Mathlib.Omega.{arith}
 use Rattle.draft_slots.specs.Scan.{scan, scanFrom}
-use Rattle.draft_slots.proofs.Walking.{range-fits, range-starts, range-ends, slots-counted, clashFrom, clash-is, clash-start, clash-absent, clashing-walk}
+use Rattle.draft_slots.proofs.Walking.{range-fits, range-starts, range-ends, slots-counted}
+use Rattle.draft_slots.proofs.Walking.{clashFrom, clash-is, clash-start, clash-absent, clashing-walk}
 use borrow.Author.Needs.{needs}
 use Rattle.draft_slots.proofs.ranges.first_clash.Statement.{statement}
 use Rattle.draft_slots.proofs.ranges.first_clash.Tie as tie
