@@ -276,17 +276,18 @@ part-over a e s h =
 
 -- ---- copies of s into z
 
--- all of s
-pub copy-all : (s z : List ℕ) → length s ≤ length z → take (length s) s ++ drop (length s) z ≡ take (length z) s ++ drop (length s) z
-copy-all s z h = rw (take-length, take-all (length z) s)
+-- what is left, y, where z was filled from s: all of s
+pub copy-all : (s z y : List ℕ) → length s ≤ length z → y ≡ take (length s) s ++ drop (length s) z → y ≡ take (length z) s ++ drop (length s) z
+copy-all s z y h e = e ∙ rw (take-length, take-all (length z) s)
 
 -- as much of s as z has room for
-pub copy-some : (s z : List ℕ) → length z < length s
-    → take (length (take (length z) s)) (take (length z) s) ++ drop (length (take (length z) s)) z ≡ take (length z) s ++ drop (length s) z
-copy-some s z h =
+pub copy-some : (s z y : List ℕ) → length z < length s
+    → y ≡ take (length (take (length z) s)) (take (length z) s) ++ drop (length (take (length z) s)) z
+    → y ≡ take (length z) s ++ drop (length s) z
+copy-some s z y h e =
     let n : length (take (length z) s) ≡ length z = length-take-le (length z) s (omega arith) in
     let o : length z ≤ length s = omega arith in
-    rw (take-length (take (length z) s), n, drop-of-length-le z {i = length z} (le-refl (length z)), drop-of-length-le z {i = length s} o)
+    e ∙ rw (take-length (take (length z) s), n, drop-of-length-le z {i = length z} (le-refl (length z)), drop-of-length-le z {i = length s} o)
 
 -- what is left, y, where z was filled with the bytes from at, which are there
 pub copy-part : (s z y : List ℕ) (at : ℕ) (t : Bool) → y ≡ take (length z) (between at (at + length z) s) ++ drop (length (between at (at + length z) s)) z
