@@ -472,3 +472,10 @@ pub ruleset reading = (W.reading, S.on-string, S.on-string-refused, on-owners, o
 -- an operation behind its pairs
 pub ruleset acting =
     (on-operation-type, on-operation-type-below, on-operation-type-above, on-operation-type-short, on-terms, on-terms-refused, W.part-made)
+
+-- an element of a list that begins with its key, which is above that of the one before: a key that is cut, one that is above, one that is not
+pub ruleset key-cut = (W.list-on, W.on-part-there, W.on-cut, W.on-value, W.on-short)
+
+pub ruleset key-above = (W.list-on, W.on-part-there, W.on-value, W.value-small, if-key-follows)
+
+pub ruleset key-not-above = (W.list-on, W.on-part-there, W.on-value, W.value-small, if-key-not, W.part-made)

@@ -11,9 +11,9 @@ use Rattle.wire.specs.Fields.{integer}
 use Rattle.wire.specs.Sequence.{guard}
 use Rattle.wire.specs.Series.{series}
 use Rattle.wire.specs.Answer.{ended}
-use Rattle.wire.proofs.Reading.{list-on, list-end, on-part-there, on-cut, on-value, on-short, value-small, part-made}
+use Rattle.wire.proofs.Reading.{list-end, value-small}
 use Rattle.element.specs.Inputs.{key, inputAfter, input}
-use Rattle.element.proofs.Reading.{if-key-follows, if-key-not, key-again, id-length, inputsAfter, inputs-are, on-spend, on-spend-refused}
+use Rattle.element.proofs.Reading.{key-cut, key-above, key-not-above, key-again, id-length, inputsAfter, inputs-are, on-spend, on-spend-refused}
 use Rattle.element.proofs.inputs.inputs_from.Statement.{statement}
 use Rattle.element.proofs.inputs.inputs_from.Tie as tie
 
@@ -36,26 +36,21 @@ inputs-from-spec =
     (λ c. search needs)  -- enum-known-i
     (λ c. search needs)  -- enum-told
     (λ c κs. search needs)  -- cut-requires
-    (λ c. search (list-on, on-part-there, on-cut) depth 10)  -- returns
+    (λ c. search key-cut depth 10)  -- returns
     (λ c κs. search needs)  -- id-at-requires
     (λ c κs. search needs)  -- u32-at-requires
     (λ c. search needs)  -- enum-known-index
     (λ c. search needs)  -- enum-told-2
     (λ c κs. search needs)  -- cut-requires-2
-    (λ c. search (list-on, on-part-there, on-cut, on-value, on-short) depth 10)  -- returns-2
+    (λ c. search key-cut depth 10)  -- returns-2
     (λ c κs. search needs)  -- key-follows-requires
     (λ c κs. search needs)  -- spend-at-requires
     (λ c. search needs)  -- enum-known-refusal
-    (λ c. search (list-on, on-part-there, on-value, value-small, if-key-follows, on-spend-refused) depth 10)  -- returns-3
+    (λ c. search (key-above, on-spend-refused) depth 10)  -- returns-3
     (λ c. search needs)  -- enum-known-next
     (λ c. search needs)  -- sub-left
     (λ c. search needs)  -- loop-less
-    (λ c. (
-      search id-length,
-      search value-small,
-      search
-          (list-on, on-part-there, on-value, value-small, if-key-follows, on-spend, key-again) depth 10,
-    ))  -- loop-again
+    (λ c. (search id-length, search value-small, search (key-above, on-spend, key-again) depth 10))  -- loop-again
     (λ c κs. search needs)  -- refuse-requires
-    (λ c. search (list-on, on-part-there, on-value, value-small, if-key-not, part-made) depth 10)  -- returns-4
+    (λ c. search key-not-above depth 10)  -- returns-4
     (λ c. search list-end))  -- returns-5
