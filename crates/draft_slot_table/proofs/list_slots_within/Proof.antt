@@ -8,7 +8,7 @@ pub list-slots-within-spec : {M : Type 1} → statement M
 list-slots-within-spec =
     tie.close
     (tie.spec
-    (λ c κs. search needs)  -- check-requires
+    (λ c κs. search needs)  -- check-within-requires
     (λ c. search needs)  -- enum-known-refusal
     (λ c. search needs)  -- enum-known-layout
     (λ c κs. search needs)  -- count-requires

@@ -10,16 +10,16 @@ put-answer-spec =
     tie.close
     (tie.spec
     (λ c. search needs)  -- enum-known-answer
-    (λ c κs. search needs)  -- store-requires
-    (λ c κs. search needs)  -- store-requires-2
-    (λ c κs. search needs)  -- store-requires-3
-    (λ c κs. search needs)  -- store-requires-4
+    (λ c κs. search needs)  -- put-requires
+    (λ c κs. search needs)  -- put-requires-2
+    (λ c κs. search needs)  -- put-requires-3
+    (λ c κs. search needs)  -- put-requires-4
     (λ c κs. search needs)  -- put-entry-requires
     (λ c. search needs)  -- enum-known-answer-2
     (λ c κs. search needs)  -- number-of-requires
     (λ c. search needs)  -- cast-put
-    (λ c κs. search needs)  -- store-requires-5
-    (λ c κs. search needs)  -- store-requires-6
+    (λ c κs. search needs)  -- put-requires-5
+    (λ c κs. search needs)  -- put-requires-6
     (λ c. search needs)  -- same-length
     (λ c.
     let fourth : tie.After-put4 = search in

@@ -10,25 +10,25 @@ put-entry-spec =
     tie.close
     (tie.spec
     (λ c. search needs)  -- enum-known-entry
-    (λ c κs. search needs)  -- store-requires
+    (λ c κs. search needs)  -- put-requires
     (λ c κs. search needs)  -- put-output-requires
     (λ c. search needs)  -- enum-known-entry-2
-    (λ c κs. search needs)  -- store-requires-2
+    (λ c κs. search needs)  -- put-requires-2
     (λ c κs. search needs)  -- put-input-requires
     (λ c. search needs)  -- enum-known-entry-3
-    (λ c κs. search needs)  -- store-requires-3
+    (λ c κs. search needs)  -- put-requires-3
     (λ c κs. search needs)  -- put-operation-requires
     (λ c. search needs)  -- enum-known-entry-4
-    (λ c κs. search needs)  -- store-requires-4
+    (λ c κs. search needs)  -- put-requires-4
     (λ c κs. search needs)  -- put-input-requires-2
     (λ c. search needs)  -- enum-known-entry-5
-    (λ c κs. search needs)  -- store-requires-5
+    (λ c κs. search needs)  -- put-requires-5
     (λ c κs. search needs)  -- put-output-requires-2
     (λ c. search needs)  -- enum-known-entry-6
-    (λ c κs. search needs)  -- store-requires-6
+    (λ c κs. search needs)  -- put-requires-6
     (λ c κs. search needs)  -- put-output-requires-3
     (λ c. search needs)  -- enum-known-entry-7
-    (λ c κs. search needs)  -- store-requires-7
+    (λ c κs. search needs)  -- put-requires-7
     (λ c κs. search needs)  -- put-credential-requires
     (λ c. search needs)  -- same-length
     (λ c. search (by-case entryValues, put-one))  -- returns

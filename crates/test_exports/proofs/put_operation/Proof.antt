@@ -8,13 +8,13 @@ pub put-operation-spec : {M : Type 1} → statement M
 put-operation-spec =
     tie.close
     (tie.spec
-    (λ c κs. search needs)  -- store-requires
-    (λ c κs. search needs)  -- store-requires-2
-    (λ c κs. search needs)  -- store-requires-3
-    (λ c κs. search needs)  -- store-requires-4
-    (λ c κs. search needs)  -- store-requires-5
-    (λ c κs. search needs)  -- store-requires-6
-    (λ c κs. search needs)  -- store-requires-7
+    (λ c κs. search needs)  -- put-requires
+    (λ c κs. search needs)  -- put-requires-2
+    (λ c κs. search needs)  -- put-requires-3
+    (λ c κs. search needs)  -- put-requires-4
+    (λ c κs. search needs)  -- put-requires-5
+    (λ c κs. search needs)  -- put-requires-6
+    (λ c κs. search needs)  -- put-requires-7
     (λ c κs. search needs)  -- put-recipients-requires
     (λ c. search needs)  -- same-length
     (λ c.

@@ -10,21 +10,21 @@ put-output-spec =
     tie.close
     (tie.spec
     (λ c. search needs)  -- enum-known-fields
-    (λ c κs. search needs)  -- store-requires
+    (λ c κs. search needs)  -- put-requires
     (λ c κs. search needs)  -- put-owners-requires
     (λ c. search needs)  -- enum-known-fields-2
-    (λ c κs. search needs)  -- store-requires-2
-    (λ c κs. search needs)  -- store-requires-3
+    (λ c κs. search needs)  -- put-requires-2
+    (λ c κs. search needs)  -- put-requires-3
     (λ c κs. search needs)  -- put-owners-requires-2
     (λ c. search needs)  -- enum-known-fields-3
-    (λ c κs. search needs)  -- store-requires-4
-    (λ c κs. search needs)  -- store-requires-5
+    (λ c κs. search needs)  -- put-requires-4
+    (λ c κs. search needs)  -- put-requires-5
     (λ c κs. search needs)  -- put-owners-requires-3
     (λ c. search needs)  -- enum-known-fields-4
-    (λ c κs. search needs)  -- store-requires-6
-    (λ c κs. search needs)  -- store-requires-7
-    (λ c κs. search needs)  -- store-requires-8
-    (λ c κs. search needs)  -- store-requires-9
+    (λ c κs. search needs)  -- put-requires-6
+    (λ c κs. search needs)  -- put-requires-7
+    (λ c κs. search needs)  -- put-requires-8
+    (λ c κs. search needs)  -- put-requires-9
     (λ c κs. search needs)  -- put-owners-requires-4
     (λ c. search needs)  -- same-length
     (λ c. search (by-case outputValues, put-one))  -- returns

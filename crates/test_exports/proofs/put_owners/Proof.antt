@@ -8,9 +8,9 @@ pub put-owners-spec : {M : Type 1} → statement M
 put-owners-spec =
     tie.close
     (tie.spec
-    (λ c κs. search needs)  -- store-requires
-    (λ c κs. search needs)  -- store-requires-2
-    (λ c κs. search needs)  -- store-requires-3
-    (λ c κs. search needs)  -- store-requires-4
+    (λ c κs. search needs)  -- put-requires
+    (λ c κs. search needs)  -- put-requires-2
+    (λ c κs. search needs)  -- put-requires-3
+    (λ c κs. search needs)  -- put-requires-4
     (λ c. search needs)  -- same-length
     (λ c. search all-four))  -- returns

@@ -10,11 +10,11 @@ put-recipients-spec =
     tie.close
     (tie.spec
     (λ c. search needs)  -- enum-known-recipients
-    (λ c κs. search needs)  -- store-requires
-    (λ c κs. search needs)  -- store-requires-2
-    (λ c κs. search needs)  -- store-requires-3
+    (λ c κs. search needs)  -- put-requires
+    (λ c κs. search needs)  -- put-requires-2
+    (λ c κs. search needs)  -- put-requires-3
     (λ c. search needs)  -- enum-known-recipients-2
-    (λ c κs. search needs)  -- store-requires-4
+    (λ c κs. search needs)  -- put-requires-4
     (λ c κs. search needs)  -- put-owners-requires
     (λ c. search needs)  -- same-length
     (λ c. search (by-case recipientsValues, put-three))  -- returns

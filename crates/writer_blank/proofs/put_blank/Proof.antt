@@ -17,7 +17,7 @@ put-blank-spec =
     (λ c. search needs)  -- add-put-u32
     (λ c κs. search needs)  -- put-u32-requires-2
     (λ c κs. search needs)  -- put-zeros-requires
-    (λ c. search needs)  -- add
+    (λ c. search needs)  -- add-result
     (λ c. search needs)  -- same-length
     (λ c.
     let zeros : tie.After-put-zeros = search in

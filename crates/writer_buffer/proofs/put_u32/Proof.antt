@@ -14,10 +14,10 @@ put-u32-spec =
     (λ c. search needs)  -- sub-if2
     (λ c. let a = c .before .before .before .args in not-there (a .buf .now) (a .at) (a .value)
     (omega (arith, c .if2 .taken, c .before .if1 .left)))  -- returns-2
-    (λ c. search needs)  -- add-put-number
-    (λ c. search needs)  -- sub-put-number
-    (λ c. search needs)  -- part-put-number-start
-    (λ c. search needs)  -- part-put-number-end
+    (λ c. search needs)  -- add-put-integer
+    (λ c. search needs)  -- sub-put-integer
+    (λ c. search needs)  -- part-put-integer-start
+    (λ c. search needs)  -- part-put-integer-end
     (λ c κs. search needs)  -- put-integer-requires
     (λ c. search needs)  -- same-length
     (λ c.

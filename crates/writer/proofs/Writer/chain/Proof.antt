@@ -15,8 +15,8 @@ chain-spec =
     (λ c κs. search needs)  -- no-room-requires
     (λ c. search field-short)  -- returns-2
     (λ c. search needs)  -- array-share-prefix-none
-    (λ c. search needs)  -- slice-aggregate-put-part
-    (λ c. search needs)  -- slice-aggregate-put-part-2
+    (λ c. search needs)  -- slice-aggregate-put-segment
+    (λ c. search needs)  -- slice-aggregate-put-segment-2
     (λ c κs. search field-small)  -- put-segment-requires
     (λ c. search needs)  -- same-length
     (λ c. search chain-is))  -- returns-3

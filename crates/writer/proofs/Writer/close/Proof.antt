@@ -24,9 +24,9 @@ close-spec =
     (λ c. search close-barred)  -- returns-2
     (λ c. search needs)  -- enum-told-4
     (λ c. search needs)  -- array-share-prefix-none
-    (λ c. search needs)  -- slice-aggregate-put-part
+    (λ c. search needs)  -- slice-aggregate-put-segment
     (λ c. search needs)  -- array-share-prefix-nothing
-    (λ c. search needs)  -- slice-aggregate-put-part-2
+    (λ c. search needs)  -- slice-aggregate-put-segment-2
     (λ c κs. search close-small)  -- put-segment-requires
     (λ c. search close-not)  -- returns-3
     (λ c. search close-not)  -- returns-4

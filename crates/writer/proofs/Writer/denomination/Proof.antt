@@ -19,11 +19,11 @@ denomination-spec =
     (λ c κs. search needs)  -- refused-requires
     (λ c. search denomination-barred)  -- returns-3
     (λ c. search needs)  -- enum-told
-    (λ c. search needs)  -- slice-aggregate-put-number
+    (λ c. search needs)  -- slice-aggregate-put-integer
     (λ c κs. search needs)  -- put-integer-requires
-    (λ c. search needs)  -- slice-aggregate-put-part
+    (λ c. search needs)  -- slice-aggregate-put-segment
     (λ c. search needs)  -- array-share-prefix-none
-    (λ c. search needs)  -- slice-aggregate-put-part-2
+    (λ c. search needs)  -- slice-aggregate-put-segment-2
     (λ c κs. search field-small)  -- put-segment-requires
     (λ c. search needs)  -- same-length
     (λ c. search denomination-is))  -- returns-4

@@ -19,9 +19,9 @@ name-spec =
     (λ c κs. search needs)  -- refused-requires
     (λ c. search name-barred)  -- returns-3
     (λ c. search needs)  -- enum-told
-    (λ c. search needs)  -- slice-aggregate-put-number
+    (λ c. search needs)  -- slice-aggregate-put-integer
     (λ c κs. search needs)  -- put-integer-requires
-    (λ c. search needs)  -- slice-aggregate-put-part
+    (λ c. search needs)  -- slice-aggregate-put-segment
     (λ c κs. search field-small)  -- put-segment-requires
     (λ c. search needs)  -- same-length
     (λ c. search name-is))  -- returns-4

@@ -23,9 +23,9 @@ start-spec =
     let start : tie.Start = search in
     search (start-barred, start .good))  -- returns-3
     (λ c. search needs)  -- enum-told
-    (λ c. search needs)  -- slice-aggregate-put-number
-    (λ c. search needs)  -- mul-put-number
-    (λ c. search needs)  -- add-put-number
+    (λ c. search needs)  -- slice-aggregate-put-integer
+    (λ c. search needs)  -- mul-put-integer
+    (λ c. search needs)  -- add-put-integer
     (λ c κs. search needs)  -- put-integer-requires
     (λ c. search needs)  -- slice-aggregate-settle
     (λ c. search needs)  -- slice-aggregate-settle-2

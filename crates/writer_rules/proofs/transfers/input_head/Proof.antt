@@ -12,20 +12,20 @@ use Rattle.writer_rules.proofs.transfers.input_head.Tie as tie
 returns : tie.Need-returns
 unfolding inputHead
 returns c =
-    let p₆ : tie.After-put-integer-after4 = search in
-    let p₅ : tie.After-put-integer-after3 = search in
-    let p₄ : tie.After-put-integer-after2 = search in
-    let p₃ : tie.After-put-bytes-after2 = search in
-    let p₂ : tie.After-put-integer-after = search in
-    let p₁ : tie.After-put-bytes-after = search in
+    let at-count : tie.After-put-integer-after4 = search in
+    let at-amount : tie.After-put-integer-after3 = search in
+    let at-type : tie.After-put-integer-after2 = search in
+    let at-asset : tie.After-put-bytes-after2 = search in
+    let at-index : tie.After-put-integer-after = search in
+    let at-txid : tie.After-put-bytes-after = search in
     let start : tie.Start = search in
     let given = start .args in
-    let count = p₆ .put-integer-after4 in
-    let amount = p₅ .put-integer-after3 in
-    let type = p₄ .put-integer-after2 in
-    let asset = p₃ .put-bytes-after2 in
-    let index = p₂ .put-integer-after in
-    let txid = p₁ .put-bytes-after in
+    let count = at-count .put-integer-after4 in
+    let amount = at-amount .put-integer-after3 in
+    let type = at-type .put-integer-after2 in
+    let asset = at-asset .put-bytes-after2 in
+    let index = at-index .put-integer-after in
+    let txid = at-txid .put-bytes-after in
     all-put (count .last .0) _ 84 (omega arith)
     (then-integer (count .last .0) (amount .last .0) _ 84 80 4 _ _ (count .ensures) refl
     (then-integer (amount .last .0) (type .last .0) _ 80 72 8 _ (given .amount) (amount .ensures) (mod-eq-of-lt {m = 256 ^ 8} (omega arith))
@@ -38,18 +38,18 @@ pub input-head-spec : {M : Type 1} → statement M
 input-head-spec =
     tie.close
     (tie.spec
-    (λ c. search needs)  -- slice-aggregate-put-bytes-behind
-    (λ c. search needs)  -- slice-aggregate-put-bytes-behind-2
+    (λ c. search needs)  -- slice-aggregate-put-bytes-after
+    (λ c. search needs)  -- slice-aggregate-put-bytes-after-2
     (λ c κs. search needs)  -- put-bytes-after-requires
-    (λ c. search needs)  -- slice-aggregate-put-number-behind
+    (λ c. search needs)  -- slice-aggregate-put-integer-after
     (λ c κs. search needs)  -- put-integer-after-requires
-    (λ c. search needs)  -- slice-aggregate-put-bytes-behind-3
-    (λ c. search needs)  -- slice-aggregate-put-bytes-behind-4
+    (λ c. search needs)  -- slice-aggregate-put-bytes-after-3
+    (λ c. search needs)  -- slice-aggregate-put-bytes-after-4
     (λ c κs. search needs)  -- put-bytes-after-requires-2
-    (λ c. search needs)  -- slice-aggregate-put-number-behind-2
+    (λ c. search needs)  -- slice-aggregate-put-integer-after-2
     (λ c κs. search needs)  -- put-integer-after-requires-2
-    (λ c. search needs)  -- slice-aggregate-put-number-behind-3
+    (λ c. search needs)  -- slice-aggregate-put-integer-after-3
     (λ c κs. search needs)  -- put-integer-after-requires-3
-    (λ c. search needs)  -- slice-aggregate-put-number-behind-4
+    (λ c. search needs)  -- slice-aggregate-put-integer-after-4
     (λ c κs. search needs)  -- put-integer-after-requires-4
     returns)  -- returns

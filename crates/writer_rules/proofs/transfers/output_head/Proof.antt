@@ -12,20 +12,20 @@ use Rattle.writer_rules.proofs.transfers.output_head.Tie as tie
 returns : tie.Need-returns
 unfolding outputFront outputHead
 returns c =
-    let p₆ = c .before in
-    let p₅ = p₆ .before .before .before in
-    let p₄ = p₅ .before .before .before in
-    let p₃ = p₄ .before .before .before in
-    let p₂ = p₃ .before .before .before in
-    let p₁ = p₂ .before .before .before in
-    let start = p₁ .before .before .before in
+    let at-count : tie.After-put-integer-after5 = search in
+    let at-threshold : tie.After-put-integer-after4 = search in
+    let at-locktime : tie.After-put-integer-after3 = search in
+    let at-amount : tie.After-put-integer-after2 = search in
+    let at-type : tie.After-put-integer-after = search in
+    let at-asset : tie.After-put-bytes-after = search in
+    let start : tie.Start = search in
     let given = start .args in
-    let count = p₆ .put-integer-after5 in
-    let threshold = p₅ .put-integer-after4 in
-    let locktime = p₄ .put-integer-after3 in
-    let amount = p₃ .put-integer-after2 in
-    let type = p₂ .put-integer-after in
-    let asset = p₁ .put-bytes-after in
+    let count = at-count .put-integer-after5 in
+    let threshold = at-threshold .put-integer-after4 in
+    let locktime = at-locktime .put-integer-after3 in
+    let amount = at-amount .put-integer-after2 in
+    let type = at-type .put-integer-after in
+    let asset = at-asset .put-bytes-after in
     all-put (count .last .0) _ 60 (omega arith)
     (then-integer (count .last .0) (threshold .last .0) _ 60 56 4 _ _ (count .ensures) refl
     (then-integer (threshold .last .0) (locktime .last .0) _ 56 52 4 _ (given .threshold) (threshold .ensures) (mod-eq-of-lt {m = 256 ^ 4} (omega arith))
@@ -38,17 +38,17 @@ pub output-head-spec : {M : Type 1} → statement M
 output-head-spec =
     tie.close
     (tie.spec
-    (λ c. search needs)  -- slice-aggregate-put-bytes-behind
-    (λ c. search needs)  -- slice-aggregate-put-bytes-behind-2
+    (λ c. search needs)  -- slice-aggregate-put-bytes-after
+    (λ c. search needs)  -- slice-aggregate-put-bytes-after-2
     (λ c κs. search needs)  -- put-bytes-after-requires
-    (λ c. search needs)  -- slice-aggregate-put-number-behind
+    (λ c. search needs)  -- slice-aggregate-put-integer-after
     (λ c κs. search needs)  -- put-integer-after-requires
-    (λ c. search needs)  -- slice-aggregate-put-number-behind-2
+    (λ c. search needs)  -- slice-aggregate-put-integer-after-2
     (λ c κs. search needs)  -- put-integer-after-requires-2
-    (λ c. search needs)  -- slice-aggregate-put-number-behind-3
+    (λ c. search needs)  -- slice-aggregate-put-integer-after-3
     (λ c κs. search needs)  -- put-integer-after-requires-3
-    (λ c. search needs)  -- slice-aggregate-put-number-behind-4
+    (λ c. search needs)  -- slice-aggregate-put-integer-after-4
     (λ c κs. search needs)  -- put-integer-after-requires-4
-    (λ c. search needs)  -- slice-aggregate-put-number-behind-5
+    (λ c. search needs)  -- slice-aggregate-put-integer-after-5
     (λ c κs. search needs)  -- put-integer-after-requires-5
     returns)

@@ -9,10 +9,10 @@ pub put-integer-after-spec : {M : Type 1} → statement M
 put-integer-after-spec =
     tie.close
     (tie.spec
-    (λ c. search needs)  -- add-put-number
-    (λ c. search needs)  -- sub-put-number
-    (λ c. search needs)  -- part-put-number-start
-    (λ c. search needs)  -- part-put-number-end
+    (λ c. search needs)  -- add-put-integer
+    (λ c. search needs)  -- sub-put-integer
+    (λ c. search needs)  -- part-put-integer-start
+    (λ c. search needs)  -- part-put-integer-end
     (λ c κs. search needs)  -- put-integer-requires
     (λ c. search needs)  -- same-length
     (λ c.
