@@ -14,7 +14,7 @@ use Rattle.wire.proofs.Bytes.{Slice}
 use Rattle.wire.proofs.Passing.{Yields, next, passes, parse-next, parse-refused, leads-parse, leads-covered, Covers}
 use Rattle.string.specs.Strings.{string, memo, text}
 
--- w bytes of length, and so many bytes
+-- a length of w bytes, and that many bytes
 abbrev pub byLength : ℕ → Format (ℕ × List ℕ)
 byLength w = andThen (integer w) blob
 
@@ -40,7 +40,7 @@ module _ (s : List ℕ) (at : ℕ) (b : Slice s) (z : End) where
       passes (text most) s at z
       (leads-covered (text most) (byLength 2) measured (text-covers most) s at b next z (leads-parse (byLength 2) s at next z P.Refused h))
 
--- what a call of `string_past` has passed
+-- after a call of `string_past`, whose answer is x
 module _ {B R : Type 0} (most : ℕ) (s : List ℕ) (at : ℕ) (k : List ℕ → ℕ → Result B) (go : B → ℕ → R) (z : R) (x : End) where
   pub string-next : (m : ℕ) → x ≡ P.At m → ((most : ℕ) → Passes (memo most) s at x) → ((v : List ℕ) → Yields (k v m) go z)
       → Yields (memo most .parse s at refused k) go z

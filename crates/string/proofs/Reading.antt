@@ -27,7 +27,7 @@ module _ {R : Type 0} (most : ℕ) (s : List ℕ) (at : ℕ) (z : R) (stop : Ref
   pub on-string-refused : (e : Refusal) → x ≡ ended (string 4 most) s at → x ≡ P.Refused e → z ≡ stop e → z ≡ string 4 most .parse s at stop go
   on-string-refused = W.stops (string 4 most) R s at z stop go x
 
--- characters: what is left of the search for one that is not printable, from index i on
+-- the index of the first character that is not printable, searched from index i on
 unfoldable pub unprintableFrom : List ℕ → ℕ → ℕ
 unprintableFrom s i = i + unprintable (drop i s)
 
@@ -56,7 +56,7 @@ module _ (s : List ℕ) (i y : ℕ) (w : unprintableFrom s i ≡ y) where
 
 pub ruleset characters = (unprintable-low, unprintable-high, unprintable-on, unprintable-end)
 
--- the characters of a body that is wholly there, where the code has looked at them: u is the index of the first that is not printable
+-- the characters of a body that is all there, after the code has checked them: u is the index of the first that is not printable
 module _ (k : ℕ) (s : List ℕ) (at : ℕ) (z X : End) (x : End) (n : ℕ) (b : List ℕ) (u : ℕ)
     (p : x ≡ ended (blob k) s at) (q : x ≡ P.At n) (c : Slice s) (e : b ≡ between at n s) (d : u ≡ unprintable b) where
   pub if-printable : u ≡ k → z ≡ X
@@ -67,7 +67,7 @@ module _ (k : ℕ) (s : List ℕ) (at : ℕ) (z X : End) (x : End) (n : ℕ) (b 
       → z ≡ pick (eqb (unprintable (between at n s)) (length (between at n s))) X (P.Refused (by notPrintable (at + unprintable (between at n s))))
   if-unprintable h f g i = rw (W.part-long k s at x n p q c, ← e, ← d, ne-eqb u k h) (i ∙ ap P.Refused g)
 
--- and its place is a number of 64 bits
+-- the offset of that character fits in 64 bits
 pub unprintable-fits : (s b : List ℕ) (a e u : ℕ) → b ≡ between a e s → u ≡ unprintable b → length s < 2 ^ 64 → a < 2 ^ 64 → a + u < 2 ^ 64
 unprintable-fits s b a e u h k i j = omega (arith, k, unprintable-le b, ap length h, length-take (e - a) (drop a s), length-drop a s)
 

@@ -20,7 +20,7 @@ use Rattle.wire.specs.declared.Order.the-variants.{Below, Equal, Above}
 use Rattle.wire.specs.Bytes.{Bytes, bytes-take, bytes-drop, pick, between, value, value-lt, digits, pow-positive, below}
 use Rattle.wire.specs.Order.{order, keyBelow}
 
--- what the rule for a slice of bytes gives: each element is a byte
+-- every element is a byte: what the rule for a slice of bytes gives
 abbrev pub Slice : List ℕ → Type 0
 Slice s = (j : ℕ) → Fits w8 (getD s j 0)
 
@@ -28,11 +28,11 @@ pub slice-bytes : (s : List ℕ) → Slice s → Bytes s
 slice-bytes [] h = tt
 slice-bytes (x ∷ xs) h = (omega (arith, h 0), slice-bytes xs (λ i. h (suc i)))
 
--- what a call ensures and what its match found
+-- a call ensures x ≡ y and the match on x found z, so y ≡ z
 pub found : {A : Type 0} {x y z : A} → x ≡ y → x ≡ z → y ≡ z
 found p q = sym p ∙ q
 
--- ---- a number read byte by byte
+-- ---- an integer read byte by byte
 
 value-snoc : (xs : List ℕ) (x : ℕ) → value (xs ++ (x ∷ [])) ≡ value xs * 256 + x
 unfolding value
@@ -44,23 +44,23 @@ value-more s at i h =
     let k : i < length (drop at s) = rw length-drop (omega arith) in
     rw (add-one, take-suc (drop at s) i 0 k, value-snoc, getD-drop)
 
--- with fewer than 8 bytes there is room for one more
+-- the value of fewer than 8 bytes leaves room for one more byte
 pub value-room : (s : List ℕ) (at : ℕ) → Slice s → (i : ℕ) → at + i < length s → i < 8 → value (take i (drop at s)) < 256 ^ 7
 value-room s at hb i k h =
     let len : length (take i (drop at s)) ≡ i = length-take-le i (drop at s) (rw length-drop (omega arith)) in
     lt-of-lt-of-le (value-lt (take i (drop at s)) (bytes-take i (drop at s) (bytes-drop at s (slice-bytes s hb))))
     (rw len (pow-le-pow-right {n = 256} (zero-lt-suc 255) {i = i} {j = 7} (omega arith)))
 
--- ---- a number written byte by byte, the lowest first
+-- ---- an integer written byte by byte, the lowest first
 
--- the lowest w + 1 bytes of v
+-- the lowest w + 1 bytes of v are its byte w and its lowest w bytes
 digits-low : (w v : ℕ) → digits (suc w) (v % 256 ^ suc w) ≡ v / 256 ^ w % 256 ∷ digits w (v % 256 ^ w)
 unfolding digits
 digits-low w v =
     let r : v % 256 ^ w < 256 ^ w = mod-lt v (pow-positive w) in
     rw (pow-succ', mod-mul v (zero-lt-suc 255) (pow-positive w), digits-div (v / 256 ^ w % 256) r, digits-mod (v / 256 ^ w % 256) r)
 
--- one more byte in front
+-- storing b at index j puts it in front of ys
 put-front : (s ys : List ℕ) (j b : ℕ) → suc j ≤ length s → set (take (suc j) s ++ ys) j b ≡ take j s ++ (b ∷ ys)
 put-front s ys j b h = rw (take-suc s j 0 h, append-snoc) (set-at (take j s) (getD s j 0) ys b j (length-take-le j s (omega arith)))
 
@@ -87,7 +87,7 @@ integer-more s v (suc j) h k =
 
 -- ---- the order of two strings
 
--- from index i on. It is shut, so that `search` reads a, b and i off it
+-- the order of a and b from index i on; opaque, so that `search` reads a, b and i off it
 unfoldable pub orderFrom : List ℕ → List ℕ → ℕ → Order
 orderFrom a b i = order (drop i a) (drop i b)
 
@@ -95,7 +95,7 @@ pub order-all : (a b : List ℕ) → orderFrom a b 0 ≡ order a b
 unfolding orderFrom
 order-all a b = refl
 
--- what is left of a comparison is y: where a byte decides, where both are equal, and where a string ends
+-- the comparison from index i on gives y: by a byte that decides, by equal bytes, or by the end of a string
 module _ (a b : List ℕ) (i : ℕ) (y : Order) (w : orderFrom a b i ≡ y) where
   pub order-lt : i < length a → i < length b → getD a i 0 < getD b i 0 → Below ≡ y
   unfolding order below orderFrom
@@ -126,7 +126,7 @@ module _ (a b : List ℕ) (i : ℕ) (y : Order) (w : orderFrom a b i ≡ y) wher
 
 pub ruleset comparing = (order-lt, order-gt, order-eq, order-longer, order-shorter, order-same)
 
--- the same of `below` alone, where a test tells only that two bytes differ
+-- the same for `below` alone, if a test finds only that two bytes differ
 unfoldable pub belowFrom : List ℕ → List ℕ → ℕ → Bool
 belowFrom a b i = below (drop i a) (drop i b)
 
@@ -140,7 +140,7 @@ unfolding below
 below-empty [] = refl
 below-empty (x ∷ xs) = refl
 
--- m is the length of the shorter
+-- m is the length of the shorter string
 module _ (a b : List ℕ) (i : ℕ) (y : Bool) (w : belowFrom a b i ≡ y) (m : ℕ) (s : m ≡ min (length a) (length b)) where
   pub below-differ : i < m → (getD a i 0 ≡ getD b i 0 → ⊥) → ltb (getD a i 0) (getD b i 0) ≡ y
   unfolding below belowFrom
@@ -177,17 +177,17 @@ module _ (a b : List ℕ) (i : ℕ) (y : Bool) (w : belowFrom a b i ≡ y) (m : 
 
 pub ruleset separating = (below-differ, below-on, below-ended)
 
--- what was compared, a and b, is p and q
+-- the strings compared, a and b, are p and q
 pub below-parts : (a b p q : List ℕ) (t : Bool) → t ≡ below a b → a ≡ p → b ≡ q → t ≡ below p q
 below-parts a b p q t h e f = rw (← e, ← f) h
 
--- what a test on the order answers: t where both are equal
+-- the answer of a test on the order: t if both are equal
 abbrev pub orElse : Order → Bool → Bool
 orElse Below t = true
 orElse Equal t = t
 orElse Above t = false
 
--- the order x of a and b was found to be o, and the test's answer is y
+-- the code found the order x of a and b to be o; y is the test's answer
 module _ (a b : List ℕ) (x o : Order) (p : x ≡ order a b) (q : x ≡ o) (y : Bool) where
   order-else : (t : Bool) → y ≡ orElse o t → y ≡ pick (below a b) true (pick (below b a) false t)
   unfolding order
@@ -212,7 +212,7 @@ module _ (a b : List ℕ) (x o : Order) (p : x ≡ order a b) (q : x ≡ o) (y :
 
 pub ruleset ordered = (order-below, order-key)
 
--- strings in two parts, the first of one length
+-- of concatenations whose first strings have equal lengths, the second strings decide only if the first are equal
 pub below-append : (a b c d : List ℕ) → length a ≡ length b → below (a ++ c) (b ++ d) ≡ pick (below a b) true (pick (below b a) false (below c d))
 unfolding below
 below-append [] [] c d h = refl
@@ -227,7 +227,7 @@ below-append (x ∷ a) (y ∷ b) c d h = cases (ltb x y) (ltb y x) (below-append
     cases false true e = refl
     cases false false e = e
 
--- numbers are in order as their bytes are
+-- integers of one width are in the order of their big-endian bytes
 pub below-digits : (k i j : ℕ) → i < 256 ^ k → j < 256 ^ k → below (digits k i) (digits k j) ≡ ltb i j
 unfolding below digits
 below-digits zero i j h g = sym (le-ltb i j (omega arith))
@@ -237,7 +237,7 @@ below-digits (suc k) i j h g =
     b : ℕ
     b = 256 ^ k
 
-    -- a number with the lower quotient is lower
+    -- an integer with a lower quotient is lower
     lower : (m n : ℕ) → ltb (m / b) (n / b) ≡ true → m < n
     lower m n e =
         lt-of-lt-of-le (div-lt-iff-lt-mul (pow-positive k) .0 (ltb-true (m / b) (n / b) e)) (omega (arith, div-add-mod' n b))
@@ -255,15 +255,15 @@ below-digits (suc k) i j h g =
         rest true r = let l = ltb-true (i % b) (j % b) r in sym (lt-ltb i j (omega (arith, same, div-add-mod' i b, div-add-mod' j b)))
         rest false r = let l = ltb-false (i % b) (j % b) r in sym (le-ltb i j (omega (arith, same, div-add-mod' i b, div-add-mod' j b)))
 
--- a key's bytes are in order as its parts are
+-- the bytes of two keys are in the order of the keys: by identifier, then by index
 pub key-below : (a b : List ℕ) (i j : ℕ) → length a ≡ length b → i < 256 ^ 4 → j < 256 ^ 4 → below (a ++ digits 4 i) (b ++ digits 4 j) ≡ keyBelow a i b j
 unfolding keyBelow
 key-below a b i j h g k = below-append a b (digits 4 i) (digits 4 j) h
     ∙ ap (λ (t : Bool). pick (below a b) true (pick (below b a) false t)) (below-digits 4 i j g k)
 
--- ---- parts
+-- ---- byte ranges
 
--- the bytes from a up to e where not all of that is there
+-- the bytes from a up to e, if a is past the end of s, if e is before a, and if e is past the end of s
 pub part-out : (a e : ℕ) (s : List ℕ) → length s < a → [] ≡ between a e s
 part-out a e s h = let o : length s ≤ a = omega arith in rw (drop-of-length-le s, take-nil)
 
@@ -276,11 +276,11 @@ part-over a e s h =
 
 -- ---- copies of s into z
 
--- what is left, y, where z was filled from s: all of s
+-- y is z after a copy from s, which fits
 pub copy-all : (s z y : List ℕ) → length s ≤ length z → y ≡ take (length s) s ++ drop (length s) z → y ≡ take (length z) s ++ drop (length s) z
 copy-all s z y h e = e ∙ rw (take-length, take-all (length z) s)
 
--- as much of s as z has room for
+-- y is z after a copy of as much of s as fits
 pub copy-some : (s z y : List ℕ) → length z < length s
     → y ≡ take (length (take (length z) s)) (take (length z) s) ++ drop (length (take (length z) s)) z
     → y ≡ take (length z) s ++ drop (length s) z
@@ -289,7 +289,7 @@ copy-some s z y h e =
     let o : length z ≤ length s = omega arith in
     e ∙ rw (take-length (take (length z) s), n, drop-of-length-le z {i = length z} (le-refl (length z)), drop-of-length-le z {i = length s} o)
 
--- what is left, y, where z was filled with the bytes from at, which are there
+-- y is z after a copy of the bytes from `at` on, which are all there
 pub copy-part : (s z y : List ℕ) (at : ℕ) (t : Bool) → y ≡ take (length z) (between at (at + length z) s) ++ drop (length (between at (at + length z) s)) z
     → t ≡ leb (length z) (length s - at) → t ≡ true → y ≡ take (length z) (drop at s)
 copy-part s z y at t e q h =

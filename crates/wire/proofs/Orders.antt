@@ -21,7 +21,7 @@ use Rattle.wire.specs.Order.{keyBelow}
 use Rattle.wire.specs.Orders.{All, OneOf, Adjacent, Ascending}
 use Rattle.wire.proofs.Bytes.{below-empty, below-digits}
 
--- ---- tests and what they say
+-- ---- tests, and the facts that they decide
 
 pub test-lt : (a b : ℕ) → (ltb a b ≡ true) ↔ (a < b)
 test-lt a b = (ltb-true a b, lt-ltb a b)
@@ -30,7 +30,7 @@ pub test-not : (t : Bool) → (not t ≡ true) ↔ (t ≡ false)
 test-not true = (not-true true, λ e. sym e)
 test-not false = (λ e. refl, λ e. refl)
 
--- ---- a number that has to be v, and a number that stands for one of the kinds listed
+-- ---- an integer that must be v, and an integer that encodes one of the values listed
 
 pub constant-good : (w v : ℕ) (x : ReadingRule) → constant w v x .Good tt ↔ (v < 256 ^ w)
 unfolding constant integer
@@ -57,7 +57,7 @@ unfolding below
 empty-below [] h = absurd (omega arith)
 empty-below (x ∷ xs) h = refl
 
--- ---- none is below itself, and of two different strings one is below the other
+-- ---- no string is below itself, and of two different strings one is below the other
 
 pub below-self : (a : List ℕ) → below a a ≡ false
 unfolding below
@@ -100,11 +100,11 @@ keyBelow-order a b i j = turn (below a b) (below b a) refl refl
       ⊎-elim (λ h. let z : _≡_ {A = ℕ} 0 1 = cc in absurd (omega arith)) (λ h. lt-ltb i j (h .1)),
     )
 
--- big-endian numbers of one width are in order as their bytes are
+-- integers of one width are in the order of their big-endian bytes
 pub digits-order : (w i j : ℕ) → i < 256 ^ w → j < 256 ^ w → (below (digits w i) (digits w j) ≡ true) ↔ (i < j)
 digits-order w i j hi hj = rw (below-digits w i j hi hj) (test-lt i j)
 
--- ---- lists of elements, each in view of the bytes of the one before
+-- ---- lists of elements, each read given the bytes of the one before
 
 module _ {A : Type 0} (E : List ℕ → Format A) (Fit : A → Type 0) (R : List ℕ → A → Type 0) (S : A → A → Type 0)
     (good : (prev : List ℕ) (a : A) → E prev .Good a ↔ (Fit a × R prev a))
@@ -135,7 +135,7 @@ module _ {A : Type 0} (E : List ℕ → Format A) (Fit : A → Type 0) (R : List
         (good [] a .1 (fa, start a fa), chain-after [] a l fa .1 (c .0 .1, c .1)),
   )
 
--- ---- the orders: each element above the one before, none below it, and no order
+-- ---- the orders: each element above the one before, no element below the one before, and no order at all
 
 module _ {A : Type 0} (F : Format A) (Fit : A → Type 0) (good : (a : A) → F .Good a ↔ Fit a) where
   pub above-good : ((a : A) → Fit a → 0 < length (F .write a)) → (l : List A)
@@ -159,7 +159,7 @@ module _ {A : Type 0} (F : Format A) (Fit : A → Type 0) (good : (a : A) → F 
   unordered-good prev [] = Iff·rfl
   unordered-good prev (a ∷ l) = Iff·and (good a) (unordered-good (F .write a) l)
 
--- numbers of w bytes, each above the one before
+-- integers of w bytes, each above the one before
 pub ascending-good : (w : ℕ) → 0 < w → (l : List ℕ) → Chain (above (integer w)) (left (above (integer w))) [] l ↔ (All (λ n. n < 256 ^ w) l × Ascending l)
 unfolding guard integer
 ascending-good w some =
@@ -168,7 +168,7 @@ ascending-good w some =
     (λ prev m n. digits-order w m n)
     (λ n h. empty-below (digits w n) (rw (length-digits w n) some))
 
--- elements whose first n + 1 bytes are a key, each of a key above that of the one before
+-- elements that start with a key of n + 1 bytes, each key above the one before
 module _ {A : Type 0} (E : List ℕ → Format A) (Fit : A → Type 0) (n : ℕ) (key : A → List ℕ) (S : A → A → Type 0)
     (good : (prev : List ℕ) (a : A) → E prev .Good a ↔ (Fit a × (below (take (suc n) prev) (key a) ≡ true)))
     (front : (prev : List ℕ) (a : A) → (t : List ℕ) × (E prev .write a ≡ key a ++ t))
@@ -180,7 +180,7 @@ module _ {A : Type 0} (E : List ℕ → Format A) (Fit : A → Type 0) (n : ℕ)
       (λ prev a b fa fb. rw (front prev a .1, take-at (key a) (front prev a .0) (suc n) (wide a fa)) (order a b fa fb))
       (λ a fa. empty-below (key a) (omega (arith, wide a fa)))
 
--- ---- so many elements, and a count and as many
+-- ---- a given number of elements, and a list with its count in front
 
 module _ {A : Type 0} (E : List ℕ → Format A) (P : List A → Type 0) (good : (l : List A) → Chain E (left E) [] l ↔ P l) where
   pub series-good : (n : ℕ) (l : List A) → series E n .Good l ↔ ((length l ≡ n) × P l)
@@ -191,7 +191,7 @@ module _ {A : Type 0} (E : List ℕ → Format A) (P : List A → Type 0) (good 
   unfolding countPrefixed items
   counted-good C l = (λ h. (h .0, good l .0 (h .1 .1)), λ h. (h .0, (refl, good l .1 (h .1))))
 
--- ---- lists in order by what a function gives of each element
+-- ---- lists ordered by the images of their elements under a function
 
 pub adjacent-map : {A B : Type 0} (f : A → B) (R : B → B → Type 0) (l : List A) → Adjacent (λ a b. R (f a) (f b)) l ↔ Adjacent R (map f l)
 adjacent-map f R [] = Iff·rfl

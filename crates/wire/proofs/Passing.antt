@@ -21,7 +21,7 @@ use Rattle.wire.specs.Answer.{ended, valued, Passes, Tells}
 use Rattle.wire.proofs.Bytes.{found, Slice, slice-bytes}
 use Rattle.wire.proofs.Reading.{parse-took}
 
--- of what was taken, z is what `go` makes
+-- if the result is a value, z is what `go` makes of it
 unfoldable pub Yields : {A R : Type 0} → Result A → (A → ℕ → R) → R → Type 0
 Yields {A} o go z = (v : A) (n : ℕ) → o ≡ took v n → z ≡ go v n
 
@@ -63,14 +63,14 @@ module _ {A : Type 0} (F : Format A) (s : List ℕ) (at : ℕ) where
   unfolding Yields
   tells f z h = h
 
-  -- what was read with no condition
+  -- an answer that is the whole parse, with its refusals
   pub leads-parse : {R : Type 0} (go : A → ℕ → R) (z : R) (stop : Refusal → R) → z ≡ F .parse s at stop go → Leads F s at go z
   unfolding Yields
   leads-parse go z stop h v n e = h ∙ parse-took F s at stop go v n e
 
 -- ---- the same bytes, read by another format
 
--- what F has, G has, and writes alike
+-- every value of F is one of G, with the same bytes
 abbrev pub Covers : {A B : Type 0} → Format A → Format B → (A → B) → Type 0
 Covers {A} F G f = (v : A) → F .Good v → G .Good (f v) × (F .write v ≡ G .write (f v))
 
@@ -86,7 +86,7 @@ module _ {A B : Type 0} (F : Format A) (G : Format B) (f : A → B) (c : Covers 
   unfolding Yields
   leads-covered go z h v n e = h (f v) n (reread v n e)
 
--- a format whose values all have k bytes
+-- every value of the format has k bytes
 abbrev pub Wide : {A : Type 0} → Format A → ℕ → Type 0
 Wide {A} F k = (v : A) → F .Good v → length (F .write v) ≡ k
 
@@ -94,9 +94,9 @@ pub wide-covers : {A : Type 0} (F : Format A) (k : ℕ) → Wide F k → Covers 
 unfolding blob
 wide-covers F k h v g = ((h v g, F .bytes v g), refl)
 
--- ---- one format behind another: F was read, and k goes on with it
+-- ---- one format after another: F was read, and k continues
 
--- the end: all was read
+-- the end: everything was read
 pub yields-end : {A R : Type 0} (v : A) (n : ℕ) (go : A → ℕ → R) (z : R) → z ≡ go v n → Yields (took v n) go z
 unfolding Yields
 yields-end v n go z h w m e = moved (λ w m. z ≡ go w m) e h
@@ -108,7 +108,7 @@ module _ {A B R : Type 0} (F : Format A) (s : List ℕ) (at : ℕ) (k : A → �
       let (v, n, ev, e₁) = parse-inv F s at k w m e in
       h v n ev w m e₁
 
-  -- a call that passes F has answered x
+  -- x is the answer of a call that skips a value of F
   module _ (x : End) (p : Passes F s at x) where
     pub parse-whole : ((v : A) (n : ℕ) → x ≡ P.At n → Yields (k v n) go z) → Yields (F .parse s at refused k) go z
     parse-whole h = yields-parse (λ v n e. h v n (p v n e))
@@ -119,7 +119,7 @@ module _ {A B R : Type 0} (F : Format A) (s : List ℕ) (at : ℕ) (k : A → �
     pub parse-refused : (e : Refusal) → x ≡ P.Refused e → Yields (F .parse s at refused k) go z
     parse-refused e q = parse-whole (λ v n r. absurd (next-refused (found r q)))
 
-  -- or one that tells a number of it
+  -- x is the answer of a call that skips a value of F and returns a number computed from it
   module _ (f : A → ℕ) (x : Integer) (p : Tells F f s at x) where
     pub told-whole : ((v : A) (n : ℕ) → x ≡ N.Value (f v) n → Yields (k v n) go z) → Yields (F .parse s at refused k) go z
     told-whole h = yields-parse (λ v n e. h v n (p v n e))
@@ -133,7 +133,7 @@ module _ {A B R : Type 0} (F : Format A) (s : List ℕ) (at : ℕ) (k : A → �
     pub told-refused : (e : Refusal) → x ≡ N.Refused e → Yields (F .parse s at refused k) go z
     told-refused e q = told-whole (λ v n r. absurd (value-refused (found r q)))
 
--- a format of one width, passed as a part
+-- a format of one width, skipped as that many bytes
 module _ {A : Type 0} (F : Format A) (w : ℕ) (wide : Wide F w) (s : List ℕ) (at : ℕ) (b : Slice s) (x : End) (p : x ≡ ended (blob w) s at) where
   pub passes-wide : Passes F s at x
   passes-wide = passes F s at x (leads-covered F (blob w) (F .write) (wide-covers F w wide) s at b next x (leads-parse (blob w) s at next x P.Refused p))
@@ -161,7 +161,7 @@ module _ {B R : Type 0} (s : List ℕ) (at : ℕ) (go : B → ℕ → R) (z : R)
       pub value-short : (e : Refusal) → x ≡ N.Refused e → Yields (integer w .parse s at refused k) go z
       value-short = told-refused (integer w) s at k go z (λ c. c) x integer-tells
 
-    -- a number that is passed as a part
+    -- an integer that is skipped as bytes
     module _ (b : Slice s) (x : End) (p : x ≡ ended (blob w) s at) where
       pub integer-next : (m : ℕ) → x ≡ P.At m → ((v : ℕ) → Yields (k v m) go z) → Yields (integer w .parse s at refused k) go z
       integer-next = parse-next (integer w) s at k go z x (passes-wide (integer w) w (λ v g. length-integer w v) s at b x p)
@@ -169,10 +169,10 @@ module _ {B R : Type 0} (s : List ℕ) (at : ℕ) (go : B → ℕ → R) (z : R)
       pub integer-refused : (e : Refusal) → x ≡ P.Refused e → Yields (integer w .parse s at refused k) go z
       integer-refused = parse-refused (integer w) s at k go z x (passes-wide (integer w) w (λ v g. length-integer w v) s at b x p)
 
--- along parts and numbers, to the end
+-- along byte strings and integers, to the end
 pub ruleset passing = (part-next, part-refused, value-next, value-short, integer-next, integer-refused, yields-end)
 
--- a number that stands for a kind
+-- an integer that encodes a type
 module _ {B K R : Type 0} (code : K → ℕ) (decode : ℕ → K) (back : (k : K) → decode (code k) ≡ k) (w : ℕ) (ks : List K) (r : ReadingRule)
     (s : List ℕ) (at : ℕ) (k : K → ℕ → Result B) (go : B → ℕ → R) (z : R) (x : Integer) (p : x ≡ valued (integer w) s at) where
   tag-parse : (Yields (integer w .parse s at refused (λ n m. k (decode n) m)) go z) → Yields (tag code decode back (integer w) ks r .parse s at refused k) go z
@@ -191,15 +191,15 @@ module _ {B K R : Type 0} (code : K → ℕ) (decode : ℕ → K) (back : (k : K
 -- ---- a loop over a list
 
 module _ {A S : Type 0} (E : S → Format A) (step : S → A → S) (s : List ℕ) where
-  -- the element at a place is passed by a call, in whatever state
+  -- x is the answer of a call that skips the element at `at`, in any state
   unfoldable pub Each : ℕ → End → Type 0
   Each at x = (st : S) → Leads (E st) s at next x
 
-  -- what is left of the list is passed
+  -- z is the answer of skipping the n elements that are left, from `at` on
   abbrev Rest : ℕ → ℕ → End → Type 0
   Rest n at z = (st : S) → Leads (items E step st n) s at next z
 
-  -- so the whole of it is: c elements from start, of which n are left, from `at` on
+  -- what skips the n elements that are left, from `at` on, skips all c elements from `start`
   unfoldable pub Onward : ℕ → ℕ → ℕ → ℕ → Type 0
   Onward n at c start = (z : End) → Rest n at z → Rest c start z
 

@@ -28,10 +28,10 @@ use Rattle.wire.specs.Series.{listParse, listWrite, Chain, items, left, 
 use Rattle.wire.specs.Answer.{ended, valued, wholeAt}
 use Rattle.wire.proofs.Bytes.{found, Slice, slice-bytes}
 
--- ---- what an answer says of the reading: for an answer of this crate, what its two cases say. A crate with answers of its own does the same
+-- ---- what the two cases of each answer say about the parse. A crate with answers of its own states the same for them
 
 module _ {A R : Type 0} (F : Format A) (s : List ℕ) (at : ℕ) (stop : Refusal → R) (go : A → ℕ → R) where
-  -- the reading took v, up to n
+  -- the format read v, up to n
   pub parse-took : (v : A) (n : ℕ) → read F s at ≡ took v n → F .parse s at stop go ≡ go v n
   parse-took v n q = F .same s at stop go ∙ ap (λ o. onResult o stop go) q
 
@@ -54,12 +54,12 @@ pub integer-refused-inv : (o : Result ℕ) (e : Refusal) → onResult o N.Refuse
 integer-refused-inv (took v m) e q = let z : _≡_ {A = ℕ} 0 1 = cc in absurd (omega arith)
 integer-refused-inv (refused d) e q = ap refused cc
 
--- ---- the leaves, where the code has asked, with the answer t, whether the bytes are there
+-- ---- leaves: t is the answer of the code's test whether the bytes are there
 
 pub room-there : (k n at : ℕ) (t : Bool) → t ≡ leb k (n - at) → t ≡ true → k ≤ n - at
 room-there k n at t p h = leb-true k (n - at) (found p h)
 
--- so a place behind them is a number of 64 bits, and inside, where there are some
+-- the offset just past them fits in 64 bits, and is inside s or at its end if there is at least one byte
 pub room-fits : (k n at : ℕ) (t : Bool) → t ≡ leb k (n - at) → t ≡ true → n < 2 ^ 64 → at < 2 ^ 64 → at + k < 2 ^ 64
 room-fits k n at t p h i j = omega (arith, room-there k n at t p h)
 
@@ -86,14 +86,14 @@ module _ {R : Type 0} (k : ℕ) (s : List ℕ) (at : ℕ) (z : R) (stop : Refusa
 
 pub ruleset leaf = (blob-there, blob-cut, integer-there, integer-cut)
 
--- the same, where it is known and not asked
+-- the same, if it is known without a test
 pub blob-has : {R : Type 0} (k : ℕ) (s : List ℕ) (at : ℕ) (z : R) (stop : Refusal → R) (go : List ℕ → ℕ → R) → k ≤ length s - at
     → z ≡ go (take k (drop at s)) (at + k) → z ≡ blob k .parse s at stop go
 blob-has k s at z stop go h = blob-there k s at z stop true go (sym (le-leb k (length s - at) h)) refl
 
--- ---- a call's answer: what it ensures, what the match found, and the reading goes on from there
+-- ---- a call's answer: what it ensures, what the match found, and how the parse continues
 
--- a leaf has one refusal
+-- a leaf has only one refusal
 pub blob-stops : (k : ℕ) (s : List ℕ) (at : ℕ) (e : Refusal) → read (blob k) s at ≡ refused e → e ≡ cutAt k s at
 unfolding blob blobParse
 blob-stops k s at e = cases (leb k (length s - at))
@@ -102,7 +102,7 @@ blob-stops k s at e = cases (leb k (length s - at))
     cases true q = took-refused (take k (drop at s)) (at + k) e q
     cases false q = cc
 
--- what is taken is the part
+-- the bytes read are those of s from `at` up to n
 pub blob-part : (k : ℕ) (s : List ℕ) (at : ℕ) (v : List ℕ) (n : ℕ) → read (blob k) s at ≡ took v n → v ≡ between at n s
 unfolding blob blobParse
 blob-part k s at v n = cases (leb k (length s - at))
@@ -127,8 +127,8 @@ module _ {A : Type 0} (F : Format A) (s : List ℕ) (at : ℕ) (x : End) where
   pub next-refused : (e : Refusal) → x ≡ ended F s at → x ≡ P.Refused e → read F s at ≡ refused e
   next-refused e p q = part-refused-inv (read F s at) e (sym (F .same s at P.Refused (λ v n. P.At n)) ∙ found p q)
 
--- Any format that a function ends as a Part: a crate states these two for a format of its own by name. (Stated for any F, they would fit every
--- reading, and `search` would try them everywhere)
+-- Any format whose reader returns an `End`: a crate states these two by name for each format of its own. (Stated for any F, they would fit every
+-- parse, and `search` would try them everywhere)
 module _ {A : Type 0} (F : Format A) where
   abbrev pub Ends : Type 1
   Ends = (R : Type 0) (s : List ℕ) (at : ℕ) (z : R) (stop : Refusal → R) (go : A → ℕ → R) (x : End) (n : ℕ) → x ≡ ended F s at → x ≡ P.At n
@@ -144,7 +144,7 @@ module _ {A : Type 0} (F : Format A) where
   pub stops : Stops
   stops R s at z stop go x e p q r = r ∙ sym (parse-refused F s at stop go e (next-refused F s at x e p q))
 
--- a list: of its elements none is in hand
+-- a list: the code keeps none of its elements
 module _ {A S R : Type 0} (E : S → Format A) (step : S → A → S) (st : S) (c : ℕ) (s : List ℕ) (at : ℕ) (z : R) (stop : Refusal → R) (go : List A → ℕ → R)
     (x : End) where
   pub on-list : (n : ℕ) → x ≡ ended (items E step st c) s at → x ≡ P.At n → ((l : List A) → z ≡ go l n) → z ≡ items E step st c .parse s at stop go
@@ -153,7 +153,7 @@ module _ {A S R : Type 0} (E : S → Format A) (step : S → A → S) (st : S) (
   pub on-list-refused : (e : Refusal) → x ≡ ended (items E step st c) s at → x ≡ P.Refused e → z ≡ stop e → z ≡ items E step st c .parse s at stop go
   on-list-refused = stops (items E step st c) R s at z stop go x
 
--- A list of elements of one width that was read: how many they are, and where they begin
+-- a list of elements of one width that was read: how many there are, and where they end
 module _ {A : Type 0} (F : Format A) (k : ℕ) (wide : (a : A) → F .Good a → length (F .write a) ≡ k) where
   pub wide-chain : (prev : List ℕ) (l : List A) → Chain (above F) (left (above F)) prev l → length (listWrite (above F) (left (above F)) prev l) ≡ k * length l
   unfolding listWrite guard
@@ -173,7 +173,7 @@ pub blob-wide : (k : ℕ) (b : List ℕ) → blob k .Good b → length (blob k .
 unfolding blob
 blob-wide k b h = h .0
 
--- a part: its bytes are those of s
+-- a byte string that was read is the bytes of s from `at` up to n
 part-took : (k : ℕ) (s : List ℕ) (at : ℕ) (x : End) (n : ℕ) → x ≡ ended (blob k) s at → x ≡ P.At n → read (blob k) s at ≡ took (between at n s) n
 part-took k s at x n p q = let (v, t) = next-took (blob k) s at x n p q in t ∙ ap (λ b. took b n) (blob-part k s at v n t)
 
@@ -185,16 +185,16 @@ module _ {R : Type 0} (k : ℕ) (s : List ℕ) (at : ℕ) (z : R) (stop : Refusa
     pub on-part : (n : ℕ) → x ≡ ended (blob k) s at → x ≡ P.At n → z ≡ go (between at n s) n → z ≡ blob k .parse s at stop go
     on-part n p q e = e ∙ sym (parse-took (blob k) s at stop go (between at n s) n (part-took k s at x n p q))
 
-    -- the same, for a need that asks where it stands
+    -- the same, for a need about where the bytes are
     pub on-part-there : (n : ℕ) → x ≡ ended (blob k) s at → x ≡ P.At n → Slice s → (Stands s at (blob k .write (between at n s)) n → z ≡ go (between at n s) n)
         → z ≡ blob k .parse s at stop go
     on-part-there n p q b e = on-part n p q (e (blob k .sound s at (between at n s) n (slice-bytes s b) (part-took k s at x n p q) .1))
 
-    -- its own refusal, handed up
+    -- the call's own refusal, returned
     pub on-part-refused : (e : Refusal) → x ≡ ended (blob k) s at → x ≡ P.Refused e → z ≡ stop e → z ≡ blob k .parse s at stop go
     on-part-refused = stops (blob k) R s at z stop go x
 
-    -- a refusal f that the code has made by a call
+    -- a refusal f that the code made by a call
     pub on-cut : (e : Refusal) → x ≡ ended (blob k) s at → x ≡ P.Refused e → (f : Refusal) → f ≡ cutAt k s at → z ≡ stop f → z ≡ blob k .parse s at stop go
     on-cut e p q f g r =
         let o = next-refused (blob k) s at x e p q in
@@ -204,12 +204,12 @@ module _ {R : Type 0} (k : ℕ) (s : List ℕ) (at : ℕ) (z : R) (stop : Refusa
     pub on-value : (v n : ℕ) → x ≡ valued (integer k) s at → x ≡ N.Value v n → z ≡ go v n → z ≡ integer k .parse s at stop go
     on-value v n p q e = e ∙ sym (parse-took (integer k) s at stop go v n (value-took k s at x v n p q))
 
-    -- the same, for a need that asks where the number stands
+    -- the same, for a need about where the integer is
     pub on-value-there : (v n : ℕ) → x ≡ valued (integer k) s at → x ≡ N.Value v n → Slice s → (Stands s at (integer k .write v) n → z ≡ go v n)
         → z ≡ integer k .parse s at stop go
     on-value-there v n p q b e = on-value v n p q (e (integer k .sound s at v n (slice-bytes s b) (value-took k s at x v n p q) .1))
 
-    -- its own refusal, handed up
+    -- the call's own refusal, returned
     pub on-integer-refused : (e : Refusal) → x ≡ valued (integer k) s at → x ≡ N.Refused e → z ≡ stop e → z ≡ integer k .parse s at stop go
     on-integer-refused e p q r =
         r ∙ sym (parse-refused (integer k) s at stop go e
@@ -221,13 +221,13 @@ module _ {R : Type 0} (k : ℕ) (s : List ℕ) (at : ℕ) (z : R) (stop : Refusa
         let o = integer-refused-inv (read (integer k) s at) e (sym (integer k .same s at N.Refused N.Value) ∙ found p q) in
         on-integer-refused e p q (r ∙ ap stop (g ∙ sym (integer-stops k s at e o)))
 
--- ---- how wide a number or a part is that was read, and where the reading goes on
+-- ---- the width of an integer or of bytes that were read, and where the parse continues
 
 module _ (k : ℕ) (s : List ℕ) (at : ℕ) (x : Integer) (v n : ℕ) (p : x ≡ valued (integer k) s at) (q : x ≡ N.Value v n) (b : Slice s) where
   value-read : integer k .Good v × Stands s at (integer k .write v) n
   value-read = integer k .sound s at v n (slice-bytes s b) (value-took k s at x v n p q)
 
-  -- it has as many bytes
+  -- the integer fits in k bytes
   pub value-small : v < 256 ^ k
   unfolding integer
   value-small = value-read .0
@@ -253,14 +253,14 @@ module _ (k : ℕ) (s : List ℕ) (at : ℕ) (x : End) (n : ℕ) (p : x ≡ ende
       let (v, t) = next-took (blob k) s at x n p q in
       ap length (sym (blob-part k s at v n t)) ∙ blob k .sound s at v n (slice-bytes s b) t .0 .0
 
--- ---- bytes handed over by value
+-- ---- bytes returned by value
 
 module _ (k : ℕ) (s : List ℕ) (at : ℕ) where
-  -- what is there is handed over
+  -- if the bytes are all there, they are returned
   pub whole-part : (v : List ℕ) (n : ℕ) → read (blob k) s at ≡ took v n → wholeAt k s at ≡ v
   whole-part v n = parse-took (blob k) s at (λ e. replicate k 0) (λ b n. b) v n
 
-  -- what was handed over, y, is the part
+  -- the returned bytes y are those of s from `at` up to n
   pub whole-next : (y : List ℕ) (x : End) (n : ℕ) → y ≡ wholeAt k s at → x ≡ ended (blob k) s at → x ≡ P.At n → y ≡ between at n s
   whole-next y x n w p q = w ∙ whole-part (between at n s) n (part-took k s at x n p q)
 
@@ -272,7 +272,7 @@ module _ (k : ℕ) (s : List ℕ) (at : ℕ) where
       cases true h = length-take-le k (drop at s) (rw length-drop (leb-true k (length s - at) h))
       cases false h = length-replicate k 0
 
--- ---- a test: what the code found by a comparison, or by a call that answers with a bool
+-- ---- a test: what the code found by a comparison, or by a call that returns a bool
 
 module _ {R : Type 0} where
   pub if-lt : (a b : ℕ) (z x y : R) → a < b → z ≡ x → z ≡ pick (ltb a b) x y
@@ -293,14 +293,14 @@ module _ {R : Type 0} where
   pub if-ne : (a b : ℕ) (z x y : R) → (a ≡ b → ⊥) → z ≡ y → z ≡ pick (eqb a b) x y
   if-ne a b z x y h e = rw (ne-eqb a b h) e
 
-  -- an amount that may not be 0
+  -- an amount must not be 0
   pub if-zero : (n : ℕ) (z x y : R) → n ≡ 0 → z ≡ y → z ≡ pick (ltb 0 n) x y
   if-zero n z x y h e = if-not-lt 0 n z x y (omega arith) e
 
   pub if-some : (n : ℕ) (z x y : R) → (n ≡ 0 → ⊥) → z ≡ x → z ≡ pick (ltb 0 n) x y
   if-some n z x y h e = if-lt 0 n z x y (omega arith) e
 
-  -- the code compares elements where they stand; the format, their writings
+  -- the code compares ranges of s; the format compares what it writes for its elements
   module _ (p q at n : ℕ) (s w : List ℕ) (t : Bool) (z x y : R) (h : Stands s at w n) where
     pub if-above : t ≡ below (between p q s) (between at n s) → t ≡ true → z ≡ x → z ≡ pick (below (between p q s) w) x y
     if-above i j e = rw (stands-part s at w n h, found i j) e
@@ -316,7 +316,7 @@ module _ {R : Type 0} where
 
 pub ruleset tests = (if-lt, if-not-lt, if-le, if-not-le, if-eq, if-ne, if-zero, if-some)
 
--- ---- a refusal f that the code has made by a call, where the definition has d
+-- ---- a refusal f that the code made by a call, where the definition has d
 
 pub part-made : (f d : Refusal) → f ≡ d → P.Refused f ≡ P.Refused d
 part-made f d e = ap P.Refused e
@@ -327,7 +327,7 @@ integer-made f d e = ap N.Refused e
 -- a let-else chain up to a refusal
 pub ruleset reading = (on-value, on-short, on-part, on-cut, on-part-refused, on-list, on-list-refused, tests, part-made)
 
--- ---- a loop: the code counts down, the format goes by `suc`. The invariant is that the rest of the reading is the whole reading, y
+-- ---- a loop: the code counts down, the format goes by `suc`. The invariant: parsing what is left gives y, the answer of the whole parse
 
 module _ {A S R : Type 0} (E : S → Format A) (step : S → A → S) (s : List ℕ) (at : ℕ) (stop : Refusal → R) (go : List A → ℕ → R) where
   pub list-on : (st : S) (n : ℕ) (z y : R) → items E step st n .parse s at stop go ≡ y → 0 < n
@@ -342,14 +342,14 @@ module _ {A S R : Type 0} (E : S → Format A) (step : S → A → S) (s : List 
   list-end st (suc n) z y i h e = absurd (not-suc-le-zero h)
 
 module _ {A R : Type 0} (E : List ℕ → Format A) (step : List ℕ → A → List ℕ) (s : List ℕ) (n at : ℕ) (stop : Refusal → R) (go : List A → ℕ → R) where
-  -- nothing stands before the first
+  -- before the first element the state is empty
   pub list-start : (a : ℕ) → items E step (between a a s) n .parse s at stop go ≡ items E step [] n .parse s at stop go
   list-start a = let e : a - a ≡ 0 = omega arith in rw e
 
-  -- the state that is left is the bytes of the element
+  -- the state after an element is the element's bytes
   pub list-again : (p q : ℕ) (w : List ℕ) → Stands s p w q → items E step (between p q s) n .parse s at stop go ≡ items E step w n .parse s at stop go
   list-again p q w h = rw (stands-part s p w q h)
 
--- a turn: of an element only its end is in hand, and what stands before it
+-- one turn of a loop: the code knows an element only by its offsets
 pub ruleset turn =
     (list-on, on-value-there, on-short, on-part-there, on-cut, if-above, if-not-above, if-below, if-not-below, stands-append, list-again, part-made)

@@ -21,7 +21,7 @@ use Rattle.wire.specs.Orders.{OneOf}
 use Rattle.wire.specs.Whole.{whole}
 use Rattle.wire.proofs.Orders.{listed-good}
 
--- a rule of reading is that of a field cut short, or another
+-- a reading rule is the one for a field cut short, or another
 pub cut-or-other : (x : Rule) → Ruled x → (x ≡ ruleOf cutShort) ⊎ (x ≡ ruleOf cutShort → ⊥)
 cut-or-other x (r, e) = rw e (each r)
   where
@@ -38,15 +38,15 @@ cut-or-other x (r, e) = rw e (each r)
     each emptyList = inr (λ q. let z = ap ruleNumber q in omega arith)
     each wrongCount = inr (λ q. let z = ap ruleNumber q in omega arith)
 
--- the rule of every refusal is P
+-- P holds of the rule of every refusal
 abbrev pub RefusesBy : {A : Type 0} → Format A → (Rule → Type 0) → Type 0
 RefusesBy F P = (s : List ℕ) (at : ℕ) (e : Refusal) → read F s at ≡ refused e → P (e .rule)
 
--- a number is in a list where a test finds it
+-- a number is in a list if the test finds it
 pub one-of : (l : List ℕ) (n : ℕ) → listed (λ (k : ℕ). k) l n ≡ true → OneOf n l
 one-of l n = listed-good (λ (k : ℕ). k) (λ (k : ℕ). k) (λ k. refl) l n .0
 
--- all of l are in m
+-- every number of l is in m
 abbrev pub contains : List ℕ → List ℕ → Bool
 contains m [] = true
 contains m (n ∷ l) = pick (listed (λ (k : ℕ). k) m n) (contains m l) false
@@ -63,12 +63,12 @@ contained m (k ∷ l) e n h = turn (listed (λ (i : ℕ). i) m k) refl e (λ q. 
 abbrev pub NumberIn : List ℕ → Rule → Type 0
 NumberIn l r = OneOf (ruleNumber r) l
 
--- a format that refuses by the numbers of a list refuses by those of a longer one
+-- a format that refuses by the numbers of a list refuses by those of any list that contains it
 pub refuses-more : {A : Type 0} (F : Format A) (l m : List ℕ) → contains m l ≡ true → RefusesBy F (NumberIn l) → RefusesBy F (NumberIn m)
 refuses-more F l m h f s at e q = contained m l h (ruleNumber (e .rule)) (f s at e q)
 
 module _ (P : Rule → Type 0) where
-  -- ---- readings
+  -- ---- results of a parse
 
   refused-by : {A : Type 0} (d e : Refusal) → P (d .rule) → _≡_ {A = Result A} (refused d) (refused e) → P (e .rule)
   refused-by {A} d e h q = subst P (sym (refused-rule {A = A} d e q)) h
@@ -82,7 +82,7 @@ module _ (P : Rule → Type 0) where
       → ((a : A) (m : ℕ) → k a m ≡ refused e → P (e .rule)) → F .parse s at refused k ≡ refused e → P (e .rule)
   parse-refuses F s at k e h g q = result-refuses (read F s at) k e (h s at) g (sym (F .same s at refused k) ∙ q)
 
-  -- a test, else a refusal
+  -- a test that refuses if it fails
   pub pick-refuses : {A : Type 0} (t : Bool) (d : Refusal) (o : Result A) (e : Refusal) → P (d .rule) → (o ≡ refused e → P (e .rule))
       → pick t o (refused d) ≡ refused e → P (e .rule)
   pick-refuses true d o e h g q = g q
@@ -111,7 +111,7 @@ module _ (P : Rule → Type 0) where
     unfolding guard guardAt
     guard-refuses s at e = parse-refuses F s at _ e f (λ a m. pick-refuses (ok a) (by x at) _ e h (λ q. took-refused a m e q))
 
-  -- «as» and named: F is read, and `to` makes of its value what is handed on. Said of the reading, which is all that their formats have of this
+  -- «as» and `named`: F is parsed, and `to` maps its value. Stated for the parse, the only field of their formats that matters here
   pub mapped-refuses : {A B : Type 0} (F : Format A) (to : A → B) → RefusesBy F P → (s : List ℕ) (at : ℕ) (e : Refusal)
       → F .parse s at refused (λ a m. took (to a) m) ≡ refused e → P (e .rule)
   mapped-refuses F to f s at e = parse-refuses F s at _ e f (λ a m q. took-refused (to a) m e q)
@@ -128,7 +128,7 @@ module _ (P : Rule → Type 0) where
       pick-refuses (listed code ks n) (by x at) (took (decode n) m) e h (λ q. took-refused (decode n) m e q)
       (sym (find-is code decode back ks n (λ k. took k m) (refused (by x at))) ∙ q)
 
-  -- ---- numbers
+  -- ---- integers
 
   pub integer-refuses : (w : ℕ) → P (ruleOf cutShort) → RefusesBy (integer w) P
   unfolding integer

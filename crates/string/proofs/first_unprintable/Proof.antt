@@ -1,4 +1,4 @@
--- `string::first_unprintable` meets its contract. The invariant: what is left of the search, from index i on, is the whole.
+-- `string::first_unprintable` meets its contract. The invariant: the search from index i on gives the answer of the whole.
 -- Assumes nothing.
 use borrow.Author.Needs.{needs}
 use Prim.Native.Nat.{_-_}

@@ -15,7 +15,7 @@ fewer k n at h = sym (lt-leb k (n - at) (omega arith))
 enough : (k n at : ℕ) → k ≤ n → at ≤ n - k → true ≡ leb k (n - at)
 enough k n at h l = sym (le-leb k (n - at) (omega arith))
 
--- past the end only none are there
+-- past the end, only 0 bytes are there
 none-past : (k n at : ℕ) → k ≤ n → n - k < at → eqb k 0 ≡ leb k (n - at)
 none-past k n at h l = cases (eqb k 0) refl
   where

@@ -1,4 +1,4 @@
--- `wire::order_of` meets its contract. The invariant: what is left of the comparison, from index i on, is the whole. Assumes nothing.
+-- `wire::order_of` meets its contract. The invariant: the comparison from index i on gives the answer of the whole. Assumes nothing.
 use Prim.Native.Nat.{_-_}
 use mathlib.Core.Path.{_≡_}
 use lib.ListN.{length}

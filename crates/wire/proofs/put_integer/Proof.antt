@@ -1,4 +1,4 @@
--- `wire::put_integer` meets its contract. The invariant: the bytes from i on are written, and v is what is left of the number. Assumes nothing.
+-- `wire::put_integer` meets its contract. The invariant: the bytes from i on are written, and v is what is left of the integer. Assumes nothing.
 use Prim.Native.Nat.{_-_, _/_, _%_, _^_, _≤_}
 use mathlib.Core.Path.{_≡_, refl}
 use mathlib.Core.List.{_++_}

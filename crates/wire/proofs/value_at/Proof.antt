@@ -1,4 +1,4 @@
--- `wire::value_at` meets its contract. The invariant: i bytes are read, and v is the number that they make. Assumes nothing.
+-- `wire::value_at` meets its contract. The invariant: i bytes are read, and v is the integer that they encode. Assumes nothing.
 use Prim.Native.Nat.{_+_, _-_, _≤_}
 use mathlib.Core.Path.{_≡_, refl}
 use native.Mathlib.Omega.{arith}
