@@ -181,12 +181,12 @@ key-good k = (λ h. record { id-good = h .0; index-width = h .1 }, λ g. (g .id-
 pub key-width : (k : List ℕ × ℕ) → GoodKey (k .0) (k .1) → length (keyBytes (k .0) (k .1)) ≡ 36
 key-width k g = omega (arith, length-append (k .0) (digits 4 (k .1)), length-digits 4 (k .1), g .id-good .0)
 
--- keys are in order by the id, and by the index where the ids are equal
+-- keys are in order by the id, and by the index if the ids are equal
 pub key-order : (a b : List ℕ) (i j : ℕ) → GoodKey a i → GoodKey b j
     → (below (keyBytes a i) (keyBytes b j) ≡ true) ↔ ((below a b ≡ true) ⊎ ((a ≡ b) × (i < j)))
 key-order a b i j g h = rw (key-below a b i j (omega arith) (g .index-width) (h .index-width)) (keyBelow-order a b i j)
 
--- an input is read in view of the bytes of the one before
+-- an input is read given the bytes of the one before
 pub input-good : (prev : List ℕ) (i : Input) → input prev .Good i ↔ (GoodInput i × (below (take 36 prev) (inputKey i) ≡ true))
 unfolding inputAfter key blob integer guard spend
 input-good prev i = (
@@ -205,7 +205,7 @@ input-good prev i = (
   ),
 )
 
--- what an input begins with
+-- the bytes of an input start with its key
 pub input-front : (prev : List ℕ) (i : Input) → (t : List ℕ) × (input prev .write i ≡ inputKey i ++ t)
 unfolding inputAfter key blob integer guard spend
 input-front prev i = (spend .write (i .asset, (tt, (i .amount, i .indices))), refl)
@@ -297,7 +297,7 @@ outputs-under : (k : Fx) → fxOutputs k ≡ outputsUnder k
 outputs-under secpFx = refl
 outputs-under nftFx = refl
 
--- an initial state is read in view of the bytes of the one before
+-- an initial state is read given the bytes of the one before
 pub initialState-good : (prev : List ℕ) (v : InitialState)
     → initialState prev .Good v ↔ (GoodInitialState v × (below (take 4 prev) (digits 4 (fxCode (v .fx))) ≡ true))
 unfolding initialStateAfter fxId integer stateOutputs guard
@@ -329,7 +329,7 @@ initialState-good prev v = (
     list : countPrefixed (integer 4) (notBelow (output types)) .Good (v .outputs) ↔ ((length (v .outputs) < 256 ^ 4) × Sorted (v .outputs))
     list = counted-good (notBelow (output types)) Sorted chain (integer 4) (v .outputs)
 
--- what an initial state begins with
+-- the bytes of an initial state start with its FxID
 pub initialState-front : (prev : List ℕ) (v : InitialState) → (t : List ℕ) × (initialState prev .write v ≡ digits 4 (fxCode (v .fx)) ++ t)
 unfolding initialStateAfter fxId integer stateOutputs guard
 initialState-front prev v = (countPrefixed (integer 4) (notBelow (output (fxOutputs (v .fx)))) .write (v .outputs), refl)

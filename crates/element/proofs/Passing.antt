@@ -43,7 +43,7 @@ use Rattle.element.proofs.Reading.{key-wide}
 
 -- ---- widths
 
--- a count of 32 bits times a small width is a number of 64
+-- a count of 32 bits times a small width fits in 64 bits
 pub product-fits : (w c : ℕ) → w ≤ 64 → c < 256 ^ 4 → w * c < 2 ^ 64
 product-fits w c h i = omega (arith, mul-le-mul h (le-of-lt i))
 
@@ -58,12 +58,12 @@ fx-wide : Wide fxId 4
 unfolding fxId
 fx-wide k g = length-integer 4 (fxCode k)
 
--- fields behind one another
+-- two fields of one width each, one after the other
 then-wide : {A B : Type 0} (F : Format A) (G : Format B) (j k : ℕ) → Wide F j → Wide G k → Wide (andThen F (λ a. G)) (j + k)
 unfolding andThen
 then-wide F G j k f h v g = omega (arith, length-append (F .write (v .0)) (G .write (v .1)), f (v .0) (g .0), h (v .1) (g .1))
 
--- ---- the same bytes in other fields
+-- ---- the same bytes as other fields
 
 covered : {A B : Type 0} (F : Format A) (G : Format B) (f : A → B) → Covers F G f → (s : List ℕ) (at : ℕ) → Slice s → (z : End)
     → Passes G s at z → Passes F s at z
@@ -74,7 +74,7 @@ then-covers : {A B C : Type 0} (F : Format A) (H : Format B) (f : A → B) (G : 
 unfolding andThen
 then-covers F H f G c v g = let (h, w) = c (v .0) (g .0) in ((h, g .1), ap (λ (x : List ℕ). x ++ G .write (v .1)) w)
 
--- behind a field of one width
+-- a first field of one width may be read as that many bytes
 front-covers : {A C : Type 0} (F : Format A) (k : ℕ) (G : Format C) → Wide F k
     → Covers (andThen F (λ a. G)) (andThen (blob k) (λ b. G)) (λ v. (F .write (v .0), v .1))
 front-covers F k G wide = then-covers F (blob k) (F .write) G (wide-covers F k wide)
@@ -92,7 +92,7 @@ module _ (w : ℕ) (s : List ℕ) (at : ℕ) where
   pub list-told : (z : Integer) → Leads (byCount w) s at (told (λ v. v .0)) z → Tells (byCount w) (λ v. v .0) s at z
   list-told = tells (byCount w) s at (λ v. v .0)
 
-  -- what a call of `list_past` has passed
+  -- after a call of `list_past`, whose answer is x
   module _ {B R : Type 0} (k : ℕ × List ℕ → ℕ → Result B) (go : B → ℕ → R) (z : R) (x : Integer) where
     pub list-next : (c m : ℕ) → x ≡ N.Value c m → Tells (byCount w) (λ v. v .0) s at x → ((v : ℕ × List ℕ) → c ≡ v .0 → Yields (k v m) go z)
         → Yields (byCount w .parse s at refused k) go z
@@ -123,12 +123,12 @@ owners-covers o g = (
 pub owners-passed : (s : List ℕ) (at : ℕ) → Slice s → (z : End) → Leads ownersPassed s at next z → Passes owners s at z
 owners-passed s at b z h = covered owners ownersPassed _ owners-covers s at b z (passes ownersPassed s at z h)
 
--- what a call of `owners_past` has passed
+-- after a call of `owners_past`, whose answer is z
 pub owners-whole : {B : Type 0} (s : List ℕ) (at : ℕ) (k : Owners → ℕ → Result B) (go : B → ℕ → End) (z : End) → Passes owners s at z
     → ((v : Owners) (n : ℕ) → z ≡ P.At n → Yields (k v n) go z) → Yields (owners .parse s at refused k) go z
 owners-whole s at k go z p = parse-whole owners s at k go z z p
 
--- behind a field of w bytes
+-- owners after a field of w bytes
 abbrev behindPassed : ℕ → Format (List ℕ × Owners)
 behindPassed w = andThen (blob w) (λ field. owners)
 
@@ -147,7 +147,7 @@ payloadPassed = andThen (blob 4) (λ group. andThen payload (λ p. owners))
 pub payload-passed : (s : List ℕ) (at : ℕ) (z : End) → Leads payloadPassed s at next z → Passes payloadPassed s at z
 payload-passed s at z = passes payloadPassed s at z
 
--- the body, where the code has compared the type
+-- the body, after the code has compared the type
 module _ (s : List ℕ) (at : ℕ) (b : Slice s) (z : End) («type_id» : ℕ) where
   body-transfer : «type_id» ≡ 7 → Passes (behindPassed 8) s at z → Passes (outputBody (outputType «type_id»)) s at z
   body-transfer h p = rw h (covered transferBody (behindPassed 8) _ transfer-covers s at b z p)
@@ -162,7 +162,7 @@ module _ (s : List ℕ) (at : ℕ) (b : Slice s) (z : End) («type_id» : ℕ) w
       (covered (andThen (integer 4) (λ group. andThen payload (λ p. owners))) payloadPassed _
       (front-covers (integer 4) 4 (andThen payload (λ p. owners)) (integer-wide 4)) s at b z p)
 
--- an output behind its type
+-- an output after its type
 abbrev typeThen : List ℕ → OutputType → ℕ → Result Output
 typeThen s k m = outputBody k .parse s m refused (λ o n. took (k, o) n)
 
@@ -194,7 +194,7 @@ module _ (s : List ℕ) (at : ℕ) (b : Slice s) (z : End) (x : Integer) (p : x 
       passes (output (fxOutputs fx)) s at z
       (tag-short outputCode outputType outputType-code 4 (fxOutputs fx) unknownType s at (typeThen s) next z x p e q)
 
--- what a call of `output_past` has passed, where type 7 is wanted
+-- after a call of `output_past`, for the output types of FxID 0
 pub output-whole : {B : Type 0} (s : List ℕ) (at : ℕ) (k : Output → ℕ → Result B) (go : B → ℕ → End) (z : End)
     → ((fx : Fx) → Passes (output (fxOutputs fx)) s at z) → ((v : Output) (n : ℕ) → z ≡ P.At n → Yields (k v n) go z)
     → Yields (output (fxOutputs secpFx) .parse s at refused k) go z
@@ -207,7 +207,7 @@ transferable-covers : (prev : List ℕ) → Covers (notBelow transferableOutput 
 unfolding guard transferableOutput
 transferable-covers prev o g = ((g .0 .0, ((g .0 .1 .0 .0, more (eqb (outputCode (o .output .0)) 6) (g .0 .1 .0 .1)), g .0 .1 .1)), refl)
   where
-    -- one more type is allowed
+    -- a type that is allowed stays allowed if one more type is
     more : (t : Bool) {u : Bool} → u ≡ true → pick t true u ≡ true
     more true h = refl
     more false h = h
@@ -228,7 +228,7 @@ before-indices-wide =
     (then-wide (blob 32) (andThen (integer 4) (λ type. integer 8)) 32 12 (blob-wide 32)
     (then-wide (integer 4) (integer 8) 4 8 (integer-wide 4) (integer-wide 8)))
 
--- all that stands before the indices, with their count
+-- everything before the indices, with their count
 unfoldable pub inputFront : Format (List ℕ × ℕ)
 unfolding andThen
 inputFront = andThen (blob 80) (λ front. integer 4)
@@ -269,7 +269,7 @@ input-told s at b z h prev =
 pub indices-fit : (c : ℕ) → c < 256 ^ 4 → 4 * c < 2 ^ 64
 indices-fit c = product-fits 4 c (omega arith)
 
--- the front was found to be there by one test, x; y is the count
+-- x is the answer of the one test for the whole front; y is that of reading the count
 pub front-fits : (s : List ℕ) (at : ℕ) (x : End) (m : ℕ) → x ≡ ended (blob 84) s at → x ≡ P.At m → m < 2 ^ 64 → at + 80 < 2 ^ 64
 front-fits s at x m p q h = omega (arith, part-ends 84 s at x m p q)
 
@@ -329,7 +329,7 @@ module _ (s : List ℕ) (at : ℕ) (b : Slice s) (z : Integer) where
       tells operation s at (λ v. length (v .terms .0)) z
       (leads-covered operation operationPassed _ operation-covers s at b (told (λ v. length (v .1 .1 .1 .0 .0))) z h)
 
--- the type
+-- the type of an operation
 module _ {B : Type 0} (s : List ℕ) (at : ℕ) (k : OperationType → ℕ → Result B) (go : B → ℕ → Integer) (z : Integer) (x : Integer)
     (p : x ≡ valued (integer 4) s at) where
   pub type-next : (c m : ℕ) → x ≡ N.Value c m → Yields (k (operationType c) m) go z
@@ -340,7 +340,7 @@ module _ {B : Type 0} (s : List ℕ) (at : ℕ) (k : OperationType → ℕ → R
       → Yields (tag operationCode operationType operationType-code (integer 4) (mintNft ∷ transferNft ∷ []) unknownType .parse s at refused k) go z
   type-short = tag-short operationCode operationType operationType-code 4 (mintNft ∷ transferNft ∷ []) unknownType s at k go z x p
 
--- what calls of `terms_past`, `recipients_past` and `action_past` have passed
+-- after calls of `terms_past`, `recipients_past` and `action_past`
 module _ {B R : Type 0} (s : List ℕ) (at : ℕ) (go : B → ℕ → R) (z : R) where
   module _ (k : Terms → ℕ → Result B) (x : Integer) where
     pub terms-next : (c m : ℕ) → x ≡ N.Value c m → Tells terms (λ v. length (v .0)) s at x → ((v : Terms) → c ≡ length (v .0) → Yields (k v m) go z)
@@ -363,7 +363,7 @@ pub action-whole : {B : Type 0} (s : List ℕ) (at : ℕ) (k : Action → ℕ �
     → Yields (action .parse s at refused k) go z
 action-whole s at k go z p = told-whole action s at k go z (λ v. length (v .1 .0 .0)) z p
 
--- behind the terms: what the type has
+-- after the terms: the owners that the type has
 module _ (s : List ℕ) (at : ℕ) (b : Slice s) (z : End) («type_id» : ℕ) where
   pub transfer-passed : («type_id» ≡ 12 → ⊥) → Passes owners s at z → Passes (operationOwners (operationType «type_id»)) s at z
   transfer-passed h p = rw (ne-eqb «type_id» 12 h) p
@@ -399,7 +399,7 @@ state-covers prev v g = ((g .0 .0, g .1), refl)
 pub state-passed : (s : List ℕ) (at : ℕ) → Slice s → (z : End) → Leads statePassed s at next z → (prev : List ℕ) → Passes (initialState prev) s at z
 state-passed s at b z h prev = covered (initialState prev) statePassed _ (state-covers prev) s at b z (passes statePassed s at z h)
 
--- the FxID, passed as a part
+-- the FxID, skipped as 4 bytes
 module _ {B R : Type 0} (s : List ℕ) (at : ℕ) (k : Fx → ℕ → Result B) (go : B → ℕ → R) (z : R) (b : Slice s) (x : End) (p : x ≡ ended (blob 4) s at) where
   pub fx-next : (m : ℕ) → x ≡ P.At m → ((v : Fx) → Yields (k v m) go z) → Yields (fxId .parse s at refused k) go z
   fx-next = parse-next fxId s at k go z x (passes-wide fxId 4 fx-wide s at b x p)
@@ -407,13 +407,13 @@ module _ {B R : Type 0} (s : List ℕ) (at : ℕ) (k : Fx → ℕ → Result B) 
   pub fx-refused : (e : Refusal) → x ≡ P.Refused e → Yields (fxId .parse s at refused k) go z
   fx-refused = parse-refused fxId s at k go z x (passes-wide fxId 4 fx-wide s at b x p)
 
--- what a call of `outputs_past` has passed
+-- after a call of `outputs_past`, whose answer is z
 pub outputs-whole : {B : Type 0} (fx : Fx) (c : ℕ) (s : List ℕ) (at : ℕ) (k : List Output → ℕ → Result B) (go : B → ℕ → End) (z : End)
     → ((fx : Fx) → Passes (nondecreasing (output (fxOutputs fx)) c) s at z) → ((v : List Output) (n : ℕ) → z ≡ P.At n → Yields (k v n) go z)
     → Yields (nondecreasing (output (fxOutputs fx)) c .parse s at refused k) go z
 outputs-whole fx c s at k go z p = parse-whole (nondecreasing (output (fxOutputs fx)) c) s at k go z z (p fx)
 
--- ---- what was told
+-- ---- the integer that is returned
 
 pub value-made : (c d n : ℕ) → c ≡ d → N.Value c n ≡ N.Value d n
 value-made c d n e = rw e
@@ -432,12 +432,12 @@ module _ (s : List ℕ) (at : ℕ) (x : End) where
       leads (notBelow (output (fxOutputs fx)) prev) s at x
       (covered (notBelow (output (fxOutputs fx)) prev) (output (fxOutputs fx)) (λ v. v) (λ v g. (g .0, refl)) s at b x (p fx))
 
--- the outputs of an initial state: the code that passes them does not ask for the FxID, so that each law is for any
+-- the outputs of an initial state: the code that skips them does not know the FxID, so each law is for any FxID
 abbrev Outputs : Fx → List ℕ → Format Output
 Outputs fx = notBelow (output (fxOutputs fx))
 
 module _ (s : List ℕ) where
-  -- where what is left is passed the whole list is: c outputs from start, of which n are left, from `at` on
+  -- what skips the n outputs that are left, from `at` on, skips all c outputs from `start`
   unfoldable pub OutputsOnward : ℕ → ℕ → ℕ → ℕ → Type 0
   OutputsOnward n at c start = (fx : Fx) → Onward (Outputs fx) (left (Outputs fx)) s n at c start
 

@@ -41,7 +41,7 @@ use Rattle.element.specs.Operations.{terms, Operation, operation, Fx, se
 use Rattle.element.specs.Operations.{initialStateAfter, initialState}
 use Rattle.element.specs.Answer.{Terms, inOrder}
 
--- ---- answers: what an answer with a case for what is wholly read and one for a refusal says of the reading
+-- ---- answers: what an answer with one case for a value and one for a refusal says about the parse
 
 pub took-of : {A T : Type 0} (o : Result A) (stop : Refusal → T) (whole : A → ℕ → T) (y : T) → onResult o stop whole ≡ y → ((e : Refusal) → stop e ≡ y → ⊥)
     → (v : A) × (m : ℕ) × (o ≡ took v m) × (whole v m ≡ y)
@@ -62,11 +62,11 @@ module _ {A T : Type 0} (F : Format A) (s : List ℕ) (at : ℕ) (stop : Refusal
   pub answer-refused : ((v : A) (m : ℕ) → whole v m ≡ y → ⊥) → (e : Refusal) × (read F s at ≡ refused e) × (stop e ≡ y)
   answer-refused = refused-of (read F s at) stop whole y (sym (F .same s at stop whole) ∙ found p q)
 
--- The reading of F goes on, stop and go, from the answer x of a reader of F, whose two cases are `no` and `whole`: the laws `on-..` and
--- `on-..-refused` below are these two, each for a format by name. That the cases are told apart, and what each shows, is by `cc` there
+-- How the parse of F, with the continuations stop and go, continues from the answer x of a reader of F, whose two cases are `no` and `whole`. The laws
+-- `on-..` and `on-..-refused` below are these two, each for a format by name; there, `cc` shows that the cases differ and what each says
 module _ {A T R : Type 0} (F : Format A) (no : Refusal → T) (whole : A → ℕ → T) (s : List ℕ) (at : ℕ) (z : R) (stop : Refusal → R) (go : A → ℕ → R)
     (x : T) (p : x ≡ F .parse s at no whole) where
-  -- x is y, which is no refusal, and shows that the reading ended at n
+  -- x is y, which is not a refusal and says that the value ends at n
   pub on-whole : (y : T) (n : ℕ) → x ≡ y → ((e : Refusal) → no e ≡ y → _≡_ {A = ℕ} 0 1) → ((v : A) (m : ℕ) → whole v m ≡ y → m ≡ n)
       → ((v : A) → whole v n ≡ y → read F s at ≡ took v n → z ≡ go v n) → z ≡ F .parse s at stop go
   on-whole y n q never ends e =
@@ -75,14 +75,14 @@ module _ {A T R : Type 0} (F : Format A) (no : Refusal → T) (whole : A → ℕ
       let u : read F s at ≡ took v n = t ∙ ap (took v) em in
       e v (ap (whole v) (sym em) ∙ i) u ∙ sym (W.parse-took F s at stop go v n u)
 
-  -- its refusal is handed up
+  -- the reader's refusal is returned
   pub on-refused : (e : Refusal) → x ≡ no e → ((v : A) (m : ℕ) → whole v m ≡ no e → _≡_ {A = ℕ} 0 1) → ((d : Refusal) → no d ≡ no e → d ≡ e) → z ≡ stop e
       → z ≡ F .parse s at stop go
   on-refused e q never same r =
       let (d, t, i) = answer-refused F s at no whole x p (no e) q (λ v m j. let k : _≡_ {A = ℕ} 0 1 = never v m j in omega arith) in
       r ∙ ap stop (sym (same d i)) ∙ sym (W.parse-refused F s at stop go d t)
 
--- ---- order: code keeps the element before, and whether there is any; the format, its bytes, [] before the first
+-- ---- order: the code keeps the element before, and whether there is one; the format keeps its bytes, [] before the first
 
 pub follows-any : (t : Bool) (x y : Bool) → t ≡ true → y ≡ x → y ≡ pick t x true
 follows-any t x y h e = rw h e
@@ -92,19 +92,19 @@ follows-none t x h = rw h
 
 pub ruleset follows = (follows-any, follows-none)
 
--- the first is above none
+-- with [] before the first element, the format's test has the answer of the code's test, t
 first-below : (any : Bool) (p a : List ℕ) (t : Bool) → t ≡ pick any (below p a) true → 0 < length a → below (pick any p []) a ≡ t
 first-below true p a t e h = sym e
 first-below false p a t e h = empty-below a h ∙ sym e
 
--- bytes handed over whole are what stands there
+-- bytes returned by value are the bytes w at `at`
 whole-is : (k : ℕ) (s : List ℕ) (at n : ℕ) (a w : List ℕ) (x : End) → Stands s at w n → a ≡ wholeAt k s at → x ≡ ended (blob k) s at → x ≡ P.At n → a ≡ w
 whole-is k s at n a w x h ha p q = W.whole-next k s at a x n ha p q ∙ sym (stands-part s at w n h)
 
 pub id-length : (k : ℕ) (s : List ℕ) (at : ℕ) (a : List ℕ) → a ≡ wholeAt k s at → length a ≡ k
 id-length k s at a h = ap length h ∙ W.whole-length k s at
 
--- numbers, as indices are
+-- integers, such as indices
 module _ {R : Type 0} (any : Bool) (prev v : ℕ) (t : Bool) (z X Y : R) (e : t ≡ pick any (ltb prev v) true) (small : prev < 256 ^ 4) where
   integer-test : v < 256 ^ 4 → below (pick any (digits 4 prev) []) (digits 4 v) ≡ t
   integer-test h = first-below any (digits 4 prev) (digits 4 v) t (rw (below-digits 4 prev v small h) e) (omega (arith, length-digits 4 v))
@@ -115,7 +115,7 @@ module _ {R : Type 0} (any : Bool) (prev v : ℕ) (t : Bool) (z X Y : R) (e : t 
   pub if-integer-not : t ≡ false → v < 256 ^ 4 → z ≡ Y → z ≡ pick (below (pick any (digits 4 prev) []) (digits 4 v)) X Y
   if-integer-not h i j = rw (integer-test i, h) j
 
--- keys, an identifier and an index: w is the writing of the identifier
+-- keys, an identifier and an index: w is what the format writes for the identifier
 module _ (s : List ℕ) (at n : ℕ) (id w : List ℕ) (x : End) (h : Stands s at w n) (ha : id ≡ wholeAt 32 s at) (p : x ≡ ended (blob 32) s at)
     (q : x ≡ P.At n) where
   module _ {R : Type 0} (any : Bool) (prev : List ℕ) (last index : ℕ) (t : Bool) (z X Y : R) (e : t ≡ pick any (keyBelow prev last id index) true)
@@ -138,16 +138,16 @@ module _ (s : List ℕ) (at n : ℕ) (id w : List ℕ) (x : End) (h : Stands s a
       → items E step (id ++ u) m .parse s k stop go ≡ items E step (w ++ u) m .parse s k stop go
   key-again E step u m k stop go = rw (whole-is 32 s at n id w x h ha p q)
 
--- ---- lists: what is left of one, by what code keeps of the element before
+-- ---- lists: what is left of one, given what the code keeps of the element before
 
--- of no order: it does not hang on the element before
+-- without an order, the parse does not depend on the element before
 pub unordered-again : {A : Type 0} (F : Format A) (s : List ℕ) (n at : ℕ) (stop : Refusal → End) (go : List A → ℕ → End) (p q : List ℕ)
     → items (λ prev. F) (left (λ prev. F)) p n .parse s at stop go ≡ items (λ prev. F) (left (λ prev. F)) q n .parse s at stop go
 unfolding items listParse
 unordered-again F s zero at stop go p q = refl
 unordered-again F s (suc n) at stop go p q = refl
 
--- of elements that look at the first k bytes of the one before: code keeps just these
+-- elements that depend only on the first k bytes of the one before: the code keeps only these
 module _ {A : Type 0} (G : List ℕ → Format A) (k : ℕ) (viewed : A → List ℕ) (front : (b : List ℕ) (a : A) → G b .Good a
     → take k (G b .write a) ≡ viewed a) where
   items-viewed : {R : Type 0} (s : List ℕ) → Bytes s → (n : ℕ) (prev : List ℕ) (at : ℕ) (stop : Refusal → R) (go : List A → ℕ → R)
@@ -160,18 +160,18 @@ module _ {A : Type 0} (G : List ℕ → Format A) (k : ℕ) (viewed : A → List
       (sym (front (take k prev) a (G (take k prev) .sound s at a m bs q .0)))
       ∙ items-viewed s bs n (G (take k prev) .write a) m stop (λ l j. go (a ∷ l) j))
 
--- ---- addresses: one that stands at a place, and n more behind it in view of it. It is shut, so that `search` reads s, at and n off it
+-- ---- addresses: the one at `at`, and n more after it, each above the one before. Opaque, so that `search` reads s, at and n off it
 
 unfoldable pub addressThen : ℕ → List ℕ → ℕ → End
 addressThen n s at = blob 20 .parse s at P.Refused (λ a q. ended (seriesFrom (above (blob 20)) a n) s q)
 
--- what a turn gives by its test, t, of the address at `at` against the one before: y is the whole reading
+-- one turn: t is the answer of comparing the address at `at` with the one before; y is the answer of the whole parse
 pub record AddressTurn (s : List ℕ) (n at : ℕ) (y : End) (t : Bool) : Type 0 where
   pub again : t ≡ true → addressThen (n - 1) s at ≡ y
   pub out-of-order : t ≡ false → (f : Refusal) → f ≡ by outOfOrder at → P.Refused f ≡ y
 
 module _ (s : List ℕ) (b : Slice s) where
-  -- none stands before the first
+  -- a list that is not empty is its first address and c - 1 more
   pub address-first : (c at : ℕ) → (c ≡ 0 → ⊥) → addressThen (c - 1) s at ≡ ended (increasing (blob 20) c) s at
   unfolding addressThen guard blob
   address-first c at h =
@@ -188,7 +188,7 @@ module _ (s : List ℕ) (b : Slice s) where
       (ended (increasing (blob 20) c) s at) refl (omega arith) refl
 
   module _ (n prev : ℕ) (y : End) (w : addressThen n s prev ≡ y) (at : ℕ) (x : End) (p : x ≡ ended (blob 20) s prev) (q : x ≡ P.At at) (h : 0 < n) where
-    -- the next one, in view of that at prev
+    -- the next address, compared with the one at prev
     address-next : blob 20 .parse s at P.Refused
         (λ a m. pick (below (wholeAt 20 s prev) a) (ended (seriesFrom (above (blob 20)) a (n - 1)) s m) (P.Refused (by outOfOrder at))) ≡ y
     unfolding addressThen guard blob
@@ -213,7 +213,7 @@ module _ (s : List ℕ) (b : Slice s) where
         out-of-order = λ g f h. ap P.Refused h ∙ rw g at compared;
       }
 
-  -- the address before is not there, or was the last
+  -- the address before is cut short, or is the last
   pub address-gone : (n prev : ℕ) (x : End) (e f : Refusal) → x ≡ ended (blob 20) s prev → x ≡ P.Refused e → f ≡ cutAt 20 s prev → (y : End)
       → addressThen n s prev ≡ y → P.Refused f ≡ y
   unfolding addressThen
@@ -230,7 +230,7 @@ module _ (s : List ℕ) (b : Slice s) where
 
 -- ---- owners
 
--- what code answers on the threshold's rule, t
+-- t is the code's answer to the threshold's rule
 module _ {R : Type 0} (threshold addresses : ℕ) (t : Bool) (z x y : R) (e : t ≡ thresholdFits threshold addresses) where
   pub if-fits : not t ≡ false → z ≡ x → z ≡ pick (thresholdFits threshold addresses) x y
   if-fits h i = rw (found e (not-false t h)) i
@@ -254,7 +254,7 @@ module _ {R : Type 0} (s : List ℕ) (at : ℕ) (z : R) (stop : Refusal → R) (
   pub on-amount-refused : (e : Refusal) → x ≡ ended amount s at → x ≡ P.Refused e → z ≡ stop e → z ≡ amount .parse s at stop go
   on-amount-refused = W.stops amount R s at z stop go x
 
--- what code answers for an element that is to be not below the one before is what the format of such an element does
+-- the code's answer for an element that must not be below the one before is that of the format of such an element
 ordered-is : {A : Type 0} (F : Format A) (s : List ℕ) (prev at : ℕ) → Slice s → inOrder s prev at (ended F s at) ≡ ended (notBelow F (between prev at s)) s at
 unfolding guard
 ordered-is {A = A} F s prev at b =
@@ -274,7 +274,7 @@ ordered-is {A = A} F s prev at b =
         (turned (below (between at n s) (between prev at s)) (P.Refused (by outOfOrder at)) (P.At n))
     cases (refused e) q = refl
 
--- of a list of elements none of which is below the one before: x is what was read of F, y what is left of that by the order
+-- an element that must not be below the one before: x is the answer of reading F, y is that answer after the order was checked
 module _ {A R : Type 0} (F : Format A) (s : List ℕ) (prev at : ℕ) (z : R) (stop : Refusal → R) (go : A → ℕ → R) (x y : End)
     (p : x ≡ ended F s at) (q : y ≡ inOrder s prev at x) (b : Slice s) where
   ordered-ended : y ≡ ended (notBelow F (between prev at s)) s at
@@ -289,7 +289,7 @@ module _ {A R : Type 0} (F : Format A) (s : List ℕ) (prev at : ℕ) (z : R) (s
   pub on-disordered : (e : Refusal) → y ≡ P.Refused e → z ≡ stop e → z ≡ notBelow F (between prev at s) .parse s at stop go
   on-disordered e h r = W.stops (notBelow F (between prev at s)) R s at z stop go y e ordered-ended h r
 
--- what was read, r, and what the code found of it
+-- r is the answer of reading the element, before the order is checked
 module _ (s : List ℕ) (prev at : ℕ) (r : End) (z : End) where
   pub not-read : (e : Refusal) → r ≡ P.Refused e → z ≡ P.Refused e → z ≡ inOrder s prev at r
   not-read e h k = k ∙ sym (ap (inOrder s prev at) h)
@@ -307,7 +307,7 @@ pub ruleset ordering = (W.list-on, W.list-again, on-ordered, on-disordered)
 
 -- ---- inputs
 
--- an input behind its key
+-- an input after its key
 module _ {R : Type 0} (s : List ℕ) (at : ℕ) (z : R) (stop : Refusal → R) (go : List ℕ × (Unit {0} × (ℕ × List ℕ)) → ℕ → R) (x : End) where
   pub on-spend : (n : ℕ) → x ≡ ended spend s at → x ≡ P.At n → ((v : List ℕ × (Unit {0} × (ℕ × List ℕ))) → z ≡ go v n) → z ≡ spend .parse s at stop go
   on-spend = W.ends spend R s at z stop go x
@@ -326,7 +326,7 @@ input-front : (b : List ℕ) (i : Input) → inputAfter b .Good i → take 36 (i
 unfolding inputAfter guard
 input-front b i g = take-at (inputKey i) (spend .write (i .asset, (tt, (i .amount, i .indices)))) 36 (key-wide (i .txid, i .index) (g .0 .0))
 
--- the inputs that are left, by the key of the one before
+-- the inputs that are left, given the key of the one before
 abbrev pub inputsAfter : List ℕ → ℕ → Format (List Input)
 inputsAfter before n = items inputAfter (λ b i. inputKey i) before n
 
@@ -342,7 +342,7 @@ module _ {R : Type 0} (s : List ℕ) (at : ℕ) (z : R) (stop : Refusal → R) (
   pub on-terms-refused : (e : Refusal) → x ≡ ended terms s at → x ≡ P.Refused e → z ≡ stop e → z ≡ terms .parse s at stop go
   on-terms-refused = W.stops terms R s at z stop go x
 
--- behind the terms: what the type has
+-- after the terms: the owners that the type has
 module _ («type_id» : ℕ) (s : List ℕ) (at : ℕ) (z : End) where
   pub if-mint : «type_id» ≡ 12 → z ≡ ended (operationOwners mintNft) s at → z ≡ ended (operationOwners (operationType «type_id»)) s at
   if-mint h e = rw h e
@@ -350,7 +350,7 @@ module _ («type_id» : ℕ) (s : List ℕ) (at : ℕ) (z : End) where
   pub if-transfer : («type_id» ≡ 12 → ⊥) → z ≡ ended owners s at → z ≡ ended (operationOwners (operationType «type_id»)) s at
   if-transfer h e = rw (ne-eqb «type_id» 12 h) e
 
--- the type of an operation, where the code has compared it with 12 and 13
+-- the type of an operation, which the code compares with 12 and 13
 abbrev operationTag : Format OperationType
 operationTag = tag operationCode operationType operationType-code (integer 4) (mintNft ∷ transferNft ∷ []) unknownType
 
@@ -393,7 +393,7 @@ module _ {R : Type 0} (s : List ℕ) (at : ℕ) (z : R) (stop : Refusal → R) (
 
 -- ---- initial states
 
--- which outputs an FxID allows, where the code has compared it with 0
+-- which outputs an FxID allows; the code compares it with 0
 module _ (fx c : ℕ) (s : List ℕ) (at : ℕ) (z : End) where
   pub on-secp : fx ≡ 0 → z ≡ ended (nondecreasing (output (fxOutputs secpFx)) c) s at → z ≡ ended (nondecreasing (output (fxOutputs (fxOf fx))) c) s at
   on-secp h e = rw h e
@@ -451,7 +451,7 @@ state-front : (b : List ℕ) (v : InitialState) → initialStateAfter b .Good v 
 unfolding initialStateAfter guard fxId
 state-front b v g = take-at (stateKey v) (stateOutputs (v .fx) .write (v .outputs)) 4 (length-integer 4 (fxCode (v .fx)))
 
--- the initial states that are left, by the FxID of the one before
+-- the initial states that are left, given the FxID of the one before
 abbrev pub statesAfter : List ℕ → ℕ → Format (List InitialState)
 statesAfter before n = items initialStateAfter (λ b v. stateKey v) before n
 
@@ -465,15 +465,15 @@ module _ {R : Type 0} (k : Fx) (s : List ℕ) (at : ℕ) (z : R) (stop : Refusal
   pub on-state-outputs-refused : (e : Refusal) → x ≡ ended (stateOutputs k) s at → x ≡ P.Refused e → z ≡ stop e → z ≡ stateOutputs k .parse s at stop go
   on-state-outputs-refused e p q r = W.stops (stateOutputs k) R s at z stop go x e p q r
 
--- ---- rulesets: a chain up to a refusal or to an answer that is handed up
+-- ---- rulesets: a chain that ends in a refusal or in an answer that is returned
 
 pub ruleset reading = (W.reading, S.on-string, S.on-string-refused, on-owners, on-owners-refused, on-amount, on-amount-refused)
 
--- an operation behind its pairs
+-- an operation after its pairs
 pub ruleset acting =
     (on-operation-type, on-operation-type-below, on-operation-type-above, on-operation-type-short, on-terms, on-terms-refused, W.part-made)
 
--- an element of a list that begins with its key, which is above that of the one before: a key that is cut, one that is above, one that is not
+-- an element that starts with a key: the key is cut short, is above that of the one before, or is not above it
 pub ruleset key-cut = (W.list-on, W.on-part-there, W.on-cut, W.on-value, W.on-short)
 
 pub ruleset key-above = (W.list-on, W.on-part-there, W.on-value, W.value-small, if-key-follows)

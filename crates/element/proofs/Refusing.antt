@@ -148,7 +148,7 @@ module _ (P : Rule → Type 0) (short : P (ruleOf cutShort)) where
         (λ ((txid, index), (asset, (type, (n, list)))). record { txid = txid; index = index; asset = asset; amount = n; indices = list })
         (then-refuses P (above key before) (λ k. spend) (above-refuses P key before key-refuses order) (λ k. spend-refuses type zero))
 
--- ---- the lists of these numbers
+-- ---- the numbers of these rules, as lists
 
 abbrev pub operationNumbers : List ℕ
 operationNumbers = 2 ∷ 4 ∷ 6 ∷ 7 ∷ 8 ∷ []
@@ -158,7 +158,7 @@ operation-numbers =
     let in-list = one-of operationNumbers in
     operation-refuses (NumberIn operationNumbers) (in-list 2 refl) (in-list 6 refl) (in-list 7 refl) (in-list 4 refl) (in-list 8 refl)
 
--- 5 too: its outputs have amounts
+-- 5 as well: the outputs of an initial state have amounts
 abbrev pub stateNumbers : List ℕ
 stateNumbers = 2 ∷ 4 ∷ 5 ∷ 6 ∷ 7 ∷ 8 ∷ []
 

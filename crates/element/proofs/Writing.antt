@@ -17,7 +17,7 @@ use Rattle.element.specs.Operations.{fxOutputs, fxId, stateOutputs, Init
 use Rattle.element.specs.PlainBytes.{u8, u32, joined, listBytes, stringBytes, textBytes, ownersBytes, outputBytes, transferableOutputBytes, inputBytes}
 use Rattle.element.specs.PlainBytes.{keyBytes, termsBytes, actionBytes, operationBytes, plainFxId, initialStateBytes}
 
--- ---- lists: what an element is read in view of does not change its bytes
+-- ---- lists: the bytes of an element do not depend on the element before
 
 pub joined-write : {A : Type 0} (E : List ℕ → Format A) (f : A → List ℕ) → ((prev : List ℕ) (a : A) → E prev .write a ≡ f a)
     → (prev : List ℕ) (l : List A) → listWrite E (left E) prev l ≡ joined f l

@@ -1,5 +1,4 @@
--- `element::inputs::indices_from` meets its contract. The invariant: the reading of what is left, from here, is the whole reading; what is kept of
--- the index before is its bytes.
+-- `element::inputs::indices_from` meets its contract. The invariant: parsing what is left, given the bytes of the index before, gives the answer of the list.
 -- Assumes nothing.
 use borrow.Author.Needs.{needs}
 use Prim.Native.Nat.{_^_, _<_}

@@ -1,4 +1,4 @@
--- `element::lengths::owners_list_past` meets its contract. The invariant: where what is left is passed from here, the whole list is.
+-- `element::lengths::owners_list_past` meets its contract. The invariant: what skips the owners that are left skips the whole list.
 -- Assumes nothing.
 use borrow.Author.Needs.{needs}
 use Rattle.wire.specs.Series.{left as written, unordered}

@@ -1,4 +1,4 @@
--- `element::operations::operations_from` meets its contract. The invariant: the reading of what is left, from here, is the whole reading.
+-- `element::operations::operations_from` meets its contract. The invariant: parsing what is left gives the answer of the list.
 -- Assumes nothing.
 use borrow.Author.Needs.{needs}
 use mathlib.Core.Path.{_≡_, refl}

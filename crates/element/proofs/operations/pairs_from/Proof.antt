@@ -1,5 +1,4 @@
--- `element::operations::pairs_from` meets its contract. The invariant: the reading of what is left, from here, is the whole reading; what is kept of
--- the pair before is its bytes.
+-- `element::operations::pairs_from` meets its contract. The invariant: parsing what is left, given the bytes of the pair before, gives the answer of the list.
 -- Assumes nothing.
 use borrow.Author.Needs.{needs}
 use Prim.Native.Nat.{_^_, _<_}

@@ -1,5 +1,4 @@
--- `element::operations::states_from` meets its contract. The invariant: the reading of what is left, from here, is the whole reading; what is kept of
--- the state before is the bytes of its FxID.
+-- `element::operations::states_from` meets its contract. The invariant: parsing what is left, given the FxID of the state before, gives the answer of the list.
 -- Assumes nothing.
 use borrow.Author.Needs.{needs}
 use Prim.Native.Nat.{_≤_}

@@ -1,5 +1,4 @@
--- `element::outputs::nft_from` meets its contract. The invariant: the reading of what is left, from here, is the whole reading; what is kept of the
--- output before is its bytes.
+-- `element::outputs::nft_from` meets its contract. The invariant: parsing what is left, given the bytes of the output before, gives the answer of the list.
 -- Assumes nothing.
 use borrow.Author.Needs.{needs}
 use mathlib.Core.Path.{_≡_}

@@ -1,5 +1,4 @@
--- `element::owners::addresses_from` meets its contract. The invariant: reading the address before, and what is left behind it in view of it, is the
--- whole reading.
+-- `element::owners::addresses_from` meets its contract. The invariant: parsing the address before, and what is left after it, gives the answer of the list.
 -- Assumes nothing.
 use borrow.Author.Needs.{needs}
 use native.Mathlib.Omega.{arith}
@@ -19,7 +18,7 @@ Inv-loop s start count left₀ prev₀ left prev =
 abbrev μ-loop : tie.MeasureT-loop
 μ-loop s start count left₀ prev₀ left prev = left
 
--- A turn, seen from where its two addresses are compared: where the second was found, where the first was, the loop's head, the start
+-- A turn, at the comparison of its two addresses; from there, the contexts at the second address, at the first, at the loop's head and at the start
 abbrev Compared : Type 0
 Compared = tie.After-address-below Inv-loop μ-loop
 
