@@ -12,7 +12,7 @@ use Rattle.transaction.proofs.Good.{reading-value, value-reading, trans
 use Rattle.transaction.proofs.Writing.{transaction-bytes}
 
 module _ (most : ℕ) where
-  -- the writing of a value is the bytes of the transaction that it is
+  -- if the format writes s for a value, s encodes the transaction that the value is read as
   encodes : (s : List ℕ) (v : Signed (avm most)) → Writing (avm most) s v → Encodes most s (reading most v)
   encodes s v w =
       record {

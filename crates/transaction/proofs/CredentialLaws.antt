@@ -19,10 +19,10 @@ use Rattle.transaction.specs.Slots.{signatureWidth, blank, slotAt, Outsi
 use Rattle.transaction.specs.Credentials.{CredentialType, secpCredential, nftCredential, credentialCode, Want, Piece, due, signature}
 use Rattle.transaction.specs.Credentials.{signatures, credential, each, layout, pieces, credentials, places, size, blanks, total}
 
--- ---- piece by piece, as code reads them: it keeps no signature, and goes on with the place
+-- ---- piece by piece, as the code reads them: it keeps no signature, only the offset
 
 module _ {R : Type 0} (s : List ℕ) (stop : Refusal → R) (go : ℕ → R) where
-  -- n signatures, then the others
+  -- n signatures, then the other pieces
   pub signatures-then : (n : ℕ) (ps : List Piece) (at : ℕ) → pieces (signatures n ps) .parse s at stop (λ l k. go k)
       ≡ pieces (signatures n []) .parse s at stop (λ l m. pieces ps .parse s m stop (λ l k. go k))
   unfolding pieces signatures
@@ -39,7 +39,7 @@ module _ {R : Type 0} (s : List ℕ) (stop : Refusal → R) (go : ℕ → R) whe
       (parse-alike (integer 4) s m stop _ _ (λ i j.
       ap (λ r. pick (eqb i (w .signatures)) r (stop (by wrongCount m))) (signatures-then (w .signatures) (each ws) j))))
 
--- ---- lengths and places
+-- ---- lengths and offsets
 
 pub length-pieces : (ps : List Piece) (l : List (List ℕ)) → pieces ps .Good l → length (pieces ps .write l) ≡ size ps
 unfolding pieces size integer
@@ -48,7 +48,7 @@ length-pieces (due x v ∷ ps) l h = omega (arith, length-append (digits 4 v) (p
 length-pieces (signature ∷ ps) [] h = absurd h
 length-pieces (signature ∷ ps) (b ∷ l) h = omega (arith, length-append b (pieces ps .write l), h .0 .0, length-pieces ps l (h .1))
 
--- as many places as signatures
+-- there are as many offsets as signatures
 pub length-places : (ps : List Piece) (l : List (List ℕ)) (p : ℕ) → pieces ps .Good l → length (places p ps) ≡ length l
 unfolding pieces places
 length-places [] l p h = ap length (sym h)
@@ -62,7 +62,7 @@ spaced-places [] lo p n h k = omega arith
 spaced-places (due x v ∷ ps) lo p n h k = spaced-places ps lo (p + 4) n (omega arith) (omega arith)
 spaced-places (signature ∷ ps) lo p n h k = (h, spaced-places ps (p + signatureWidth) (p + signatureWidth) n (omega arith) (omega arith))
 
--- two lists of equal fronts' lengths, place by place
+-- two concatenations whose first lists have equal lengths, index by index
 pub by-front : (a b c d : List ℕ) (n j : ℕ) → length a ≡ n → length b ≡ n → (j < n → getD a j 0 ≡ getD b j 0)
     → (n ≤ j → getD c (j - n) 0 ≡ getD d (j - n) 0) → getD (a ++ c) j 0 ≡ getD (b ++ d) j 0
 by-front a b c d n j ea eb f g = go (decLe n j)
@@ -74,7 +74,7 @@ by-front a b c d n j ea eb f g = go (decLe n j)
     go (no k) = List·getD-append a c 0 j (omega arith) ∙ f (omega arith) ∙ sym (List·getD-append b d 0 j (omega arith))
     go (yes k) = behind a c ea k ∙ g k ∙ sym (behind b d eb k)
 
--- two runs of the same pieces are the same outside the signatures
+-- the same pieces with other signatures have the same bytes outside the signatures
 pub pieces-outside : (ps : List Piece) (l m : List (List ℕ)) → pieces ps .Good l → pieces ps .Good m
     → (p j : ℕ) → Outside (places p ps) (p + j) → getD (pieces ps .write l) j 0 ≡ getD (pieces ps .write m) j 0
 unfolding pieces places integer
@@ -89,7 +89,7 @@ pieces-outside (signature ∷ ps) (x ∷ l) (y ∷ m) g h p j o =
     (λ k. elim (o .0) [ inl a ↦ absurd (omega arith) | inr a ↦ absurd (omega arith) ])
     (λ k. pieces-outside ps l m (g .1) (h .1) (p + signatureWidth) (j - signatureWidth) (subst (Outside (places (p + signatureWidth) ps)) (omega arith) (o .1)))
 
--- at the k-th place stands the k-th signature
+-- the signature at the k-th offset is the k-th
 pub slot-is : (ps : List Piece) (l : List (List ℕ)) → pieces ps .Good l → (pre : List ℕ) (p : ℕ) → length pre ≡ p
     → (k : ℕ) → k < length l → (z : List ℕ) → slotAt (pre ++ pieces ps .write l) (getD (places p ps) k 0) ≡ getD l k z
 unfolding pieces places slotAt integer
@@ -104,7 +104,7 @@ slot-is (signature ∷ ps) (x ∷ l) h pre p e (suc k) b z =
     ap (λ (s : List ℕ). slotAt s (getD (places (p + signatureWidth) ps) k 0)) (sym (append-assoc pre x (pieces ps .write l)))
     ∙ slot-is ps l (h .1) (pre ++ x) (p + signatureWidth) (omega (arith, length-append pre x, h .0 .0)) k (le-of-suc-le-suc b) z
 
--- what stands at the places is signatures for the pieces, in whatever bytes
+-- in any bytes that are long enough, what is at the offsets are signatures for the pieces
 pub slots-good : (ps : List Piece) (l : List (List ℕ)) → pieces ps .Good l → (e : List ℕ) → Bytes e → (p : ℕ) → p + size ps ≤ length e
     → pieces ps .Good (map (slotAt e) (places p ps))
 unfolding pieces places size
@@ -153,7 +153,7 @@ blanks-blank (due x v ∷ ps) k = blanks-blank ps k
 blanks-blank (signature ∷ ps) zero = refl
 blanks-blank (signature ∷ ps) (suc k) = blanks-blank ps k
 
--- the numbers that are due have 32 bits
+-- every integer among the pieces fits in 32 bits
 abbrev pub Fitting : List Piece → Type 0
 Fitting [] = Unit {0}
 Fitting (due x v ∷ ps) = (v < 256 ^ 4) × Fitting ps
@@ -181,12 +181,12 @@ fitting-each (w ∷ ws) k =
     let e : size (signatures (w .signatures) (each ws)) ≡ w .signatures * signatureWidth + size (each ws) = size-signatures (w .signatures) (each ws) in
     (credentialCode-fits (w .type), (omega arith, fitting-signatures (w .signatures) (each ws) (fitting-each ws (omega arith))))
 
--- counts have 32 bits wherever the list is not too long
+-- if the list is not too long, its counts fit in 32 bits
 pub fitting-layout : (ws : List Want) → size (layout ws) < 256 ^ 4 → Fitting (layout ws)
 unfolding layout size
 fitting-layout ws k = (omega (arith, size-each ws), fitting-each ws (omega arith))
 
--- as many bytes as any others
+-- blank signatures take as many bytes as any others
 length-blanks : (ps : List Piece) → length (pieces ps .write (blanks ps)) ≡ size ps
 unfolding pieces blanks size integer
 length-blanks [] = refl

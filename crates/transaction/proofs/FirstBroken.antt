@@ -34,11 +34,11 @@ length-beginning : (k : ℕ) (s : List ℕ) → length (take k s) ≤ length s
 length-beginning k s = simp length-take (omega arith)
 
 module _ {A : Type 0} (G : Format A) where
-  -- s is read as cut short, at some place
+  -- s is refused as cut short, at some place
   abbrev ReadCut : List ℕ → Type 0
   ReadCut s = (p : ℕ) × (read G s 0 ≡ refused (refusal (ruleOf cutShort) p))
 
-  -- a beginning is cut short, or read as the whole is
+  -- a prefix of s is cut short, or gives the result of the whole
   beginning : (s : List ℕ) (k : ℕ) → Bytes s → ReadCut (take k s) ⊎ (read G (take k s) 0 ≡ read G s 0)
   beginning s k b = judge (read G (take k s) 0) refl
     where
@@ -53,11 +53,11 @@ module _ {A : Type 0} (G : Format A) where
           (λ ne. inr (r ∙ whole-of (G .stable (take k s) (drop k s) 0 e (bytes-take k s b) ne r)))
           (cut-or-other (e .rule) (G .ruled (take k s) 0 e r))
 
-  -- what is cut short is cut short at every earlier byte
+  -- if s is cut short, so is every prefix of s
   cut-beginning : (s : List ℕ) (k : ℕ) → Bytes s → ReadCut s → ReadCut (take k s)
   cut-beginning s k b (p, r) = ⊎-elim (λ c. c) (λ z. (p, z ∙ r)) (beginning s k b)
 
-  -- of at most j bytes, the shortest beginning that is read as the whole is
+  -- the shortest prefix, of at most j bytes, that gives the result of the whole
   abbrev Shortest : List ℕ → ℕ → Type 0
   Shortest s j = (m : ℕ) × (m ≤ j) × ((k : ℕ) → k < m → ReadCut (take k s)) × (read G (take m s) 0 ≡ read G s 0)
 
@@ -76,7 +76,7 @@ module _ {A : Type 0} (G : Format A) where
   took-inside s v n b r = stands-inside s 0 (G .write v) n (G .sound s 0 v n b r .1) (omega arith)
 
 module _ {A : Type 0} (G : Format A) (most : ℕ) where
-  -- the answer of the check, and what it makes of a reading: the whole is to be read
+  -- the answer of the check, and what it makes of the result of a parse: all bytes must be read
   abbrev answer : List ℕ → Result A
   answer s = whole G most s refused took
 
@@ -98,7 +98,7 @@ module _ {A : Type 0} (G : Format A) (most : ℕ) where
   answer-long : (s : List ℕ) → most < length s → answer s ≡ refused (refusal tooLong 0)
   answer-long s h = rw (lt-leb (length s) most h)
 
-  -- why s is refused by e
+  -- why s is refused with e
   data Cause (s : List ℕ) (e : Refusal) : Type 0 where
     long : most < length s → refusal tooLong 0 ≡ e → Cause s e
     rule : length s ≤ most → read G s 0 ≡ refused e → Cause s e
@@ -125,21 +125,21 @@ module _ {A : Type 0} (G : Format A) (most : ℕ) where
           let z : _≡_ {A = Result A} (refused (refusal tooLong 0)) (refused e) = sym (answer-long s h) ∙ q in
           long h cc
 
-  -- what is taken is read up to its end
+  -- if the check accepts s, the format reads s up to its end
   taken-read : (s : List ℕ) → Bytes s → taken (answer s) ≡ true → (v : A) × (length s ≤ most) × (read G s 0 ≡ took v (length s))
   taken-read s b a =
       let (v, n, e) = taken-inv (answer s) a in
       let (g, w, m, h) = whole-sound G most s v n b e in
       (v, h, read-complete G s 0 v [] g (sym (ap (λ (t : List ℕ). t ++ []) w ∙ append-nil s)) ∙ ap (took v) (zero-add (length (G .write v)) ∙ ap length w))
 
-  -- refused by 2 at some place
+  -- s is refused with 2, at some place
   abbrev AnswerCut : List ℕ → Type 0
   AnswerCut s = (p : ℕ) × (answer s ≡ refused (refusal (ruleOf cutShort) p))
 
   beginning-cut : (s : List ℕ) (k : ℕ) → length s ≤ most → ReadCut G (take k s) → AnswerCut (take k s)
   beginning-cut s k h (p, r) = (p, answer-refused (take k s) (refusal (ruleOf cutShort) p) (omega (arith, length-beginning k s)) r)
 
-  -- ---- each sentence
+  -- ---- the fields of `FirstBroken`, one law for each
 
   long-exactly : (s : List ℕ) (p : ℕ) → (answer s ≡ refused (refusal tooLong p)) ↔ ((most < length s) × (p ≡ 0))
   long-exactly s p = (λ q. from (cause s (refusal tooLong p) q), λ (h, z). answer-long s h ∙ ap (λ (i : ℕ). refused (refusal tooLong i)) (sym z))
@@ -192,7 +192,7 @@ module _ {A : Type 0} (G : Format A) (most : ℕ) where
       (λ z. absurd (omega (arith, length-take-le k s (omega arith), took-inside G (take k s) v (length s) (bytes-take k s b) (z ∙ r))))
       (beginning G s k b)
 
-  -- what the first m bytes are refused by, all bytes that start with them are
+  -- if the first m bytes are refused with e, so is every byte string that starts with them
   settled : (s : List ℕ) (e : Refusal) (m : ℕ) → Bytes s → (e .rule ≡ ruleOf cutShort → ⊥) → read G (take m s) 0 ≡ refused e
       → (t : List ℕ) → length t ≤ most → take m t ≡ take m s → answer t ≡ refused e
   settled s e m b ne r t h q =
@@ -200,7 +200,7 @@ module _ {A : Type 0} (G : Format A) (most : ℕ) where
       (ap (λ (u : List ℕ). read G u 0) (sym (take-append-drop m t) ∙ ap (λ (u : List ℕ). u ++ drop m t) q)
       ∙ G .stable (take m s) (drop m t) 0 e (bytes-take m s b) ne r)
 
-  -- a refusal of a rule that the bytes break while they are read is that of the reading
+  -- a refusal by another rule than too many bytes or bytes after the end is that of the parse
   rule-read : (s : List ℕ) (e : Refusal) → (e .rule ≡ tooLong → ⊥) → (e .rule ≡ bytesAfterEnd → ⊥) → answer s ≡ refused e
       → (length s ≤ most) × (read G s 0 ≡ refused e)
   rule-read s e n₁ n₁₃ q = from (cause s e q)

@@ -68,9 +68,9 @@ value-reading most ((h, (outs, (ins, (memo, own)))), signatures) = go (h .type) 
     go K.Import own = refl
     go K.Export own = refl
 
--- ---- the credentials: as many signatures as are wanted, of 65 bytes each, and each number of the list has 32 bits
+-- ---- the credentials: as many signatures as are wanted, of 65 bytes each, and every integer of the list fits in 32 bits
 
--- n signatures in front of pieces that want m
+-- n signatures before pieces that hold m
 signatures-good : (ps : List Piece) (m : ℕ) (W : Type 0) → ((l : List (List ℕ)) → pieces ps .Good l ↔ ((length l ≡ m) × All (Sized 65) l × W))
     → (n : ℕ) (l : List (List ℕ)) → pieces (signatures n ps) .Good l ↔ ((length l ≡ n + m) × All (Sized 65) l × W)
 unfolding pieces signatures signatureWidth
@@ -112,7 +112,7 @@ credentials-good ws l = (
 
 -- ---- lists
 
--- a list of at least so many elements
+-- a list with a least number of elements
 list-good : {A : Type 0} (least : ℕ) (E : List ℕ → Format A) (P : List A → Type 0) → ((l : List A) → Chain E (left E) [] l ↔ P l)
     → (l : List A) → atLeast least E .Good l ↔ ((least ≤ length l) × (length l < 256 ^ 4) × P l)
 unfolding atLeast integer
@@ -195,7 +195,7 @@ states-good l =
         (λ v g. length-digits 4 (code v)) (λ a b ga gb. digits-order 4 (code a) (code b) (fxCode-fits (a .fx)) (fxCode-fits (b .fx))) l)
         (Iff·and Iff·rfl (adjacent-map code (λ m n. m < n) l))
 
--- ---- what a type has of its own
+-- ---- the fields that each type has of its own
 
 pub own-good : (most : ℕ) (k : TransactionType) (w : Value (ownPlan k)) → form most (ownPlan k) .Good w ↔ GoodOwn (ownOf k w)
 unfolding ownOf form blob
@@ -250,14 +250,14 @@ own-wanted K.Operation (list, w) = append-nil _ ∙ asked-one operationWant list
 own-wanted K.Import (chain, (list, w)) = append-nil _ ∙ asked-one inputWant list
 own-wanted K.Export (chain, (list, w)) = append-nil _ ∙ asked-none list
 
--- one for each input, then for each operation or imported input
+-- one for each input, then one for each operation or imported input
 pub wants-credentials : (most : ℕ) (v : Signed (avm most)) → wants (avm most) (v .0) ≡ credentialsOf (reading most v)
 unfolding wants reading
 wants-credentials most ((h, (outs, (ins, (memo, own)))), signatures) =
     ap₂ (λ (a b : List Want). a ++ b) (asked-none outs)
     (ap₂ (λ (a b : List Want). a ++ b) (asked-one inputWant ins) (own-wanted (h .type) own))
 
--- their counts are those of indices, which have 32 bits
+-- their counts are counts of indices, which fit in 32 bits
 all-append : {A : Type 0} (P : A → Type 0) (a b : List A) → All P a → All P b → All P (a ++ b)
 all-append P [] b h k = k
 all-append P (x ∷ a) b h k = (h .0, all-append P a b (h .1) k)
@@ -292,7 +292,7 @@ type-listed K.Operation = inr (inr (inl refl))
 type-listed K.Import = inr (inr (inr (inl refl)))
 type-listed K.Export = inr (inr (inr (inr (inl refl))))
 
--- codec and type take nothing away: every type is one of the five
+-- codec and type add no condition: every type is one of the five
 pub head-good : (most : ℕ) (h : Head TransactionType) → head (avm most) .Good h ↔ ((h .network < 256 ^ 4) × Sized 32 (h .chain))
 unfolding head integer blob
 head-good most h = (

@@ -55,7 +55,7 @@ pub ruleset heading = (W.on-value, W.on-short, W.if-eq, W.if-ne, on-type, on-typ
 
 -- ---- lists
 
--- so many elements, read as a list of that length
+-- c elements, read as a list of length c
 pub on-sized : {A R : Type 0} (E : List ℕ → Format A) (step : List ℕ → A → List ℕ) (st : List ℕ) (c : ℕ) (s : List ℕ) (at : ℕ) (z : R) (stop : Refusal → R)
     (go : List A → ℕ → R) (x : End) (n : ℕ)
     → x ≡ ended (items E step st c) s at → x ≡ P.At n → Slice s → ((l : List A) → c ≡ length l → z ≡ go l n) → z ≡ items E step st c .parse s at stop go
@@ -63,13 +63,13 @@ on-sized E step st c s at z stop go x n p q b e =
     let (l, t) = W.next-took (items E step st c) s at x n p q in
     e l (sym (items-sized E step st c l (items E step st c .sound s at l n (slice-bytes s b) t .0))) ∙ sym (W.parse-took (items E step st c) s at stop go l n t)
 
--- no elements
+-- no element
 pub on-none : {A R : Type 0} (E : List ℕ → Format A) (step : List ℕ → A → List ℕ) (st : List ℕ) (c : ℕ) (s : List ℕ) (at : ℕ) (z : R) (stop : Refusal → R)
     (go : List A → ℕ → R) → c ≡ 0 → z ≡ go [] at → z ≡ items E step st c .parse s at stop go
 unfolding items listParse
 on-none E step st c s at z stop go h e = rw h e
 
--- of any number
+-- a list that may have any length
 pub on-any : {R : Type 0} (c : ℕ) (z a b : R) → z ≡ a → z ≡ pick (leb 0 c) a b
 on-any c z a b e = rw (le-leb 0 c (omega arith)) e
 
@@ -79,12 +79,12 @@ list-made c d n e = rw e
 pub ruleset listing =
     (W.on-value, W.on-short, W.if-le, W.if-not-le, on-none, on-any, on-sized, W.on-list-refused, W.ends, W.stops, list-made, W.integer-made, W.part-made)
 
--- ---- fields, and how far their writing goes
+-- ---- a value that was read ends after as many bytes as the format writes for it
 
 pub written-next : {A : Type 0} (F : Format A) (s : List ℕ) (at : ℕ) (v : A) (n : ℕ) → Slice s → read F s at ≡ took v n → n ≡ at + length (F .write v)
 written-next F s at v n b t = F .sound s at v n (slice-bytes s b) t .1 .ends
 
--- ---- what a reader tells of the value: a number
+-- ---- a reader that returns a number computed from the value
 
 module _ {A R : Type 0} (F : Format A) (f : A → ℕ) (s : List ℕ) (at : ℕ) (z : R) (stop : Refusal → R) (go : A → ℕ → R) (x : Integer)
     (p : x ≡ F .parse s at N.Refused (λ v n. N.Value (f v) n)) where

@@ -93,7 +93,7 @@ module _ (P : Rule → Type 0) (short : P (ruleOf cutShort)) where
           then-refuses P (head F) (λ v. form (F .memoMost) (F .plan (v .type))) (head-refuses F codec type)
           (λ v. form-refuses (F .memoMost) (F .plan (v .type)))
 
--- every rule but that of the credentials' counts
+-- the number of every reading rule except that of the credentials' counts
 abbrev pub unsignedNumbers : List ℕ
 unsignedNumbers = 2 ∷ 3 ∷ 4 ∷ 5 ∷ 6 ∷ 7 ∷ 8 ∷ 9 ∷ 10 ∷ 11 ∷ []
 
@@ -103,7 +103,7 @@ unsigned-numbers F =
     unsigned-refuses (NumberIn unsignedNumbers) (in-list 2 refl) (in-list 4 refl) (in-list 5 refl) (in-list 6 refl) (in-list 7 refl) (in-list 8 refl)
     (in-list 9 refl) (in-list 10 refl) (in-list 11 refl) F (in-list 3 refl)
 
--- ---- the check: every rule, too many bytes, and bytes behind the end
+-- ---- the check: every reading rule, too many bytes, and bytes after the end
 
 abbrev pub checkNumbers : List ℕ
 checkNumbers = 1 ∷ 2 ∷ 3 ∷ 4 ∷ 5 ∷ 6 ∷ 7 ∷ 8 ∷ 9 ∷ 10 ∷ 11 ∷ 12 ∷ 13 ∷ []

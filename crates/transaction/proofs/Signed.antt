@@ -43,7 +43,7 @@ module _ {U : Type 0} (body : Format U) (wants : U → List Want) where
   pub accepted-of : (d : List ℕ) (u : U) (l : List (List ℕ)) → Parts body wants d u l → accepted body wants d ≡ true
   accepted-of d u l p = ap taken (check-of d u l p)
 
-  -- ---- what is read of it
+  -- ---- what is read from it
 
   module _ (d : List ℕ) (u : U) (l : List (List ℕ)) (p : Parts body wants d u l) where
     pub read-body : read body d 0 ≡ took u (length (body .write u))
@@ -84,20 +84,20 @@ module _ {U : Type 0} (body : Format U) (wants : U → List Want) where
         subst⁻¹ (λ (ps : List ℕ). Spaced 0 ps (length d)) slots-eq
         (spaced-places (layout (wants u)) 0 (length (body .write u)) (length d) (omega arith) (omega (arith, length-eq)))
 
-  -- the parts of a transaction are its only ones
+  -- a transaction has only one unsigned part and one list of signatures
   pub parts-inj : (d : List ℕ) (u v : U) (l m : List (List ℕ)) → Parts body wants d u l → Parts body wants d v m → _≡_ {A = U × List (List ℕ)} (u, l) (v, m)
   unfolding signed assemble
   parts-inj d u v l m p q =
       write-inj (signed body wants) (u, l) (v, m) (p .unsigned-good, p .signatures-good) (q .unsigned-good, q .signatures-good) (sym (p .same) ∙ q .same)
 
-  -- of two transactions that are the same before the credential count, the second is of the first's unsigned part
+  -- of two transactions with the same bytes before the credential count, the second has the unsigned part of the first
   pub same-unsigned : (d e : List ℕ) (u v : U) (l m : List (List ℕ)) → Parts body wants d u l → Parts body wants e v m
       → take (credentialsAt body wants d) d ≡ take (credentialsAt body wants e) e → Parts body wants e u m
   same-unsigned d e u v l m p q h =
       subst (λ (w : U). Parts body wants e w m)
       (write-inj body v u (q .unsigned-good) (p .unsigned-good) (sym (unsigned-eq e v m q) ∙ sym h ∙ unsigned-eq d u l p)) q
 
-  -- the blank transaction of any value that the format has, where it is not too long
+  -- the transaction with blank signatures, for any value of the format, if it is not too long
   pub blank-parts : (u : U) → body .Good u → length (body .write u) + size (layout (wants u)) ≤ mostBytes
       → Parts body wants (assemble body wants u (blanks (layout (wants u)))) u (blanks (layout (wants u)))
   unfolding assemble credentials

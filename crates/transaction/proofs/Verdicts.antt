@@ -34,7 +34,7 @@ module _ (most : ℕ) where
   pub refused-check : (s : List ℕ) (e : Refusal) → C.Refused e ≡ checked most s → check (avm most) s ≡ refused e
   refused-check s e = refused-inv (λ v. layout most (v .0)) (check (avm most) s) e
 
-  -- the place is inside the bytes or at their end, and rule 1, of bytes too many, is placed at 0
+  -- the place is inside the bytes or at their end; for too many bytes it is 0
   pub checked-place : (s : List ℕ) (e : Refusal) → Bytes s → C.Refused e ≡ checked most s → e .place ≤ Any.mostBytes
   unfolding Any.check
   checked-place s e bs q = fits (leb (length s) Any.mostBytes) refl (refused-check s e q)
@@ -52,7 +52,7 @@ module _ (most : ℕ) where
       → (v : Signed (avm most)) × (check (avm most) s ≡ took v n) × (w ≡ layout most (v .0))
   checked-accepted s w n = accepted-inv (λ v. layout most (v .0)) (check (avm most) s) w n
 
-  -- ---- where the credentials' count stands
+  -- ---- the offset of the credentials' count
 
   pub layout-credentials : (u : Unsigned (avm most)) → layout most u .«credentials_at» ≡ length (unsigned (avm most) .write u)
   unfolding unsigned

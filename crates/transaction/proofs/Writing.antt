@@ -61,7 +61,7 @@ credentials-bytes : (ws : List Want) (l : List (List ℕ)) → credentials ws .w
 unfolding credentials pieces integer
 credentials-bytes ws l = simp (each-bytes ws l)
 
--- ---- what a type has of its own
+-- ---- the fields that each type has of its own
 
 plain-type-id : (o : Own) → typeId (ownType o) ≡ plainTypeId o
 plain-type-id plain = refl
