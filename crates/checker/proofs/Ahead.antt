@@ -39,14 +39,14 @@ use Rattle.checker.specs.declared.Wanted.the-variants as X
 use Rattle.checker.specs.Wanted.{WantsFrom, WantsIn, BegunAs, Wants, ListBegins, Begins, BegunLive, ElementWants, NextWants}
 use Rattle.checker.proofs.Planning.{none-wanted, none-asked}
 
--- ---- what is told of one that asks, or does not
+-- ---- the credential that an element or a field asks for
 
 pub one-want : (c : Option CredentialType) (t n : ℕ) → t ≡ credentialAsked c → (t ≡ 0 → ⊥)
     → (w : Want) × (wantOf c n ≡ w ∷ []) × (t ≡ credentialCode (w .type)) × (n ≡ w .signatures)
 one-want none t n i z = absurd (z i)
 one-want (some c) t n i z = (record { type = c; signatures = n }, refl, i, refl)
 
--- ---- the element at hand
+-- ---- the current element
 
 module _ (s : List ℕ) (from : Wanting) (x : Integer) (h : AskingTells (from .asks) s (from .at) x) where
   told : (most «type_id» : ℕ) (ws : List Want) (w : Wants most s «type_id» from ws) → 0 < from .left → ElementTells (w .list) s (from .at) x
@@ -58,7 +58,7 @@ module _ (s : List ℕ) (from : Wanting) (x : Integer) (h : AskingTells (from .a
       first-of (w .list) c (w .prev) s (from .at) (w .elements) (w .next)
       (subst (λ (n : ℕ). read (seriesFrom (elementsOf (w .list) .element) (w .prev) n) s (from .at) ≡ took (w .elements) (w .next)) i (w .stands))
 
-  -- an element that was read is read
+  -- an element that was read is not refused
   pub element-unread : (e : Refusal) → 0 < from .left → x ≡ N.Refused e → ElementWants s from X.Nothing
   element-unread e o q «type_id» most ws w =
       let f = firstly most «type_id» (from .left - 1) ws w (omega arith) in
@@ -101,9 +101,9 @@ module _ (s : List ℕ) (from : Wanting) (x : Integer) (h : AskingTells (from .a
             };
       }
 
--- ---- behind a list
+-- ---- after a list
 
--- no element is left: the segments that come next stand there
+-- no element is left: the next segments start here
 list-done : (most : ℕ) (s : List ℕ) (asks : ℕ) (p : Plan) (at : ℕ) (ws : List Want) → WantsIn most s asks 0 p at ws → WantsFrom most s p at ws
 unfolding items listParse asked
 list-done most s asks p at ws w =
@@ -113,7 +113,7 @@ list-done most s asks p at ws w =
     subst₂ (λ (j : ℕ) (us : List Want). WantsFrom most s p j us) here
     (sym (w .wants ∙ ap (λ (v : List (elementsOf l .Element)). asked (elementAsks l) v ++ w .later) (sym none))) (w .behind)
 
--- and back: whatever the list was
+-- the converse, for any list
 pub list-over : (most : ℕ) (s : List ℕ) (asks : ℕ) (p : Plan) (at : ℕ) (ws : List Want) → WantsFrom most s p at ws → WantsIn most s asks 0 p at ws
 unfolding items listParse asked
 list-over most s asks p at ws w =
@@ -130,7 +130,7 @@ list-over most s asks p at ws w =
       wants = refl;
     }
 
--- a part that was read, and the rest of the plan behind it
+-- a segment that was read, and the rest of the plan after it
 pub record Front {A : Type 0} (most : ℕ) (G : Format A) (p : Plan) (s : List ℕ) (at : ℕ) (v : A × Value p) (n : ℕ) : Type 0 where
   pub between : A
   pub others : Value p
@@ -149,7 +149,7 @@ front-of most G p s at v n e =
     record { between = a; others = u; next = i; all = cc; first = ea; rest = eu ∙ ap (took u) j }
 
 module _ (most : ℕ) (s : List ℕ) (at : ℕ) (ws : List Want) where
-  -- a field that was read, and what is behind it
+  -- a field that was read, and what comes after it
   module _ (f : FieldName) (y : ℕ) (g : FieldPast f s at y) where
     field-passed : (p : Plan) → WantsFrom most s (field f p) at ws
         → (v : Content f) × (us : List Want) × (read (contentOf most f) s at ≡ took v y) × (ws ≡ wantOf (fieldCredential f) (fieldSignatures f v) ++ us)
@@ -170,7 +170,7 @@ module _ (most : ℕ) (s : List ℕ) (at : ℕ) (ws : List Want) where
           },
         )
 
-  -- a list that was read: its count stands there, and then its elements
+  -- the count of a list that was read is not refused
   list-read : (l : ListName) (least : ℕ) (p : Plan) (y : Integer) (e : Refusal) → y ≡ valued (integer 4) s at → WantsFrom most s (many l least p) at ws
       → y ≡ N.Refused e → ⊥
   unfolding form atLeast
@@ -181,7 +181,7 @@ module _ (most : ℕ) (s : List ℕ) (at : ℕ) (ws : List Want) where
       (r .between) (r .next) (r .first) in
       took-refused d k e (sym ed ∙ W.integer-refused-inv (read (integer 4) s at) e (sym (integer 4 .same s at N.Refused N.Value) ∙ found h q))
 
-  -- its elements, and what is behind them
+  -- the elements of a list that was read, and what comes after them
   record Entered (l : ListName) (c : ℕ) (p : Plan) (m : ℕ) : Type 0 where
     elements : List (elementsOf l .Element)
     next : ℕ
@@ -252,7 +252,7 @@ module _ (s : List ℕ) (at : ℕ) (l : ListName) (y : Integer) (g : y ≡ value
 
 pub ruleset listing = (list-uncounted, list-asking, list-unread, list-passed)
 
--- ---- into the segment that comes next
+-- ---- into the next segment
 
 module _ (s : List ℕ) (p : Plan) (at : ℕ) (x : Due) (h : x ≡ dueOf p) where
   abbrev Answers : Begun → Plan → Type 0
@@ -307,7 +307,7 @@ module _ (s : List ℕ) (p : Plan) (at : ℕ) (x : Due) (h : x ≡ dueOf p) wher
 
 pub ruleset beginning = (begun-nothing, begun-end, begun-list, begun-field, begun-asking, live-list, live-into, live-asks)
 
--- ---- the next one: what is ahead of the start is ahead of here
+-- ---- the next credential: what is wanted from the start on is what is wanted from the current state on
 
 abbrev pub Onward : ℕ → List ℕ → Wanting → ℕ → ℕ → ℕ → ℕ → Type 0
 Onward «type_id» s from phase asks at left =

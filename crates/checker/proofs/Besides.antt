@@ -37,7 +37,7 @@ use Rattle.checker.specs.Wanted.{Wants, First, Nexts, NextWants, Beside,
 use Rattle.checker.proofs.Planning.{none-asked}
 use Rattle.checker.proofs.Ahead.{front-of, list-over}
 
--- ---- the loop: what is left, n from `at` on, beside what c has ahead
+-- ---- the loop: n credentials are left, from `at` on, beside what is wanted from c on
 
 module _ (s : List ℕ) («type_id» : ℕ) (c : Wanting) (n at : ℕ) (x : Wanted) (h : NextWants «type_id» s c x) where
   beside-end : (r : End) → 0 < n → x ≡ X.Nothing → Beside «type_id» s c n at r
@@ -73,7 +73,7 @@ unfolding each pieces
 beside-done s «type_id» c n at h most [] w l = refl
 beside-done s «type_id» c n at h most (d ∷ ws) w l = absurd (omega arith)
 
--- where what is left is read, so is the whole: count from start on, beside what `from` has ahead
+-- an answer for the credentials that are left is one for all: `count` from `start` on, beside what is wanted from `from` on
 module _ (s : List ℕ) («type_id» : ℕ) (from : Wanting) (count start : ℕ) where
   unfoldable pub BesideOnward : Wanting → ℕ → ℕ → Type 0
   BesideOnward c n at = (r : End) → Beside «type_id» s c n at r → Beside «type_id» s from count start r
@@ -105,7 +105,7 @@ pub ruleset onward = (onward-start, onward-done, onward-end, onward-refused, onw
 
 -- ---- all credentials
 
--- the outputs ask for nothing, and are passed
+-- the outputs ask for no credential and are skipped
 body : (most : ℕ) (s : List ℕ) → Slice s → (d : Head TransactionType) (v : Value (plan (d .type))) (a k : ℕ) → a ≡ length (head (avm most) .write d)
     → read (form most (plan (d .type))) s a ≡ took v k
     → Wants most s (layout most (d, v) .«type_id») (firstWanting (layout most (d, v))) (wants (avm most) (d, v))
@@ -139,7 +139,7 @@ first-wants most s u n b e =
     subst (λ (u : Unsigned (avm most)). Wants most s (layout most u .«type_id») (firstWanting (layout most u)) (wants (avm most) u)) same
     (body most s b d v a k (omega (arith, written-next (head (avm most)) s 0 d a b ed)) ev)
 
--- the credentials' count stands where the unsigned part ends
+-- the credentials' count starts where the unsigned part ends
 pub credentials-stand : (most : ℕ) (s : List ℕ) (u : Unsigned (avm most)) (at : ℕ) (w : Layout) → Slice s → read (unsigned (avm most)) s 0 ≡ took u at
     → w ≡ layout most u → at ≡ w .«credentials_at»
 credentials-stand most s u at w b e h =
@@ -178,7 +178,7 @@ module _ (most : ℕ) (w : Layout) (s : List ℕ) (at : ℕ) (u : Unsigned (avm 
       subst (λ (v : Layout). Wants most s (v .«type_id») (firstWanting v) Wanting-here) (sym h) (first-wants most s u at b e) in
       W.on-value 4 s at _ Q.Refused _ x c i p q (W.if-eq c (length Wanting-here) _ _ _ counts (d most Wanting-here here (sym counts)))
 
--- whatever was read before
+-- for any unsigned part that was read with this layout
 module _ (w : Layout) (s : List ℕ) (b : Slice s) (x : Integer) (p : x ≡ valued (integer 4) s (w .«credentials_at»)) where
   pub counted-short : (d f : Refusal) → x ≡ N.Refused d → f ≡ cutAt 4 s (w .«credentials_at») → CredentialsAt w s (Q.Refused f)
   counted-short d f q g = on-place w s b x p _ (λ most u e h. count-short most w s _ u e h x p d f q g)

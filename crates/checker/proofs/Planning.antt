@@ -36,7 +36,7 @@ use Rattle.checker.specs.declared.Passed.{Passed}
 use Rattle.checker.specs.declared.Passed.the-variants as P
 use Rattle.checker.specs.Segments.{passedAt, planAt}
 
--- ---- how many credentials are asked for: one by each, or none
+-- ---- how many credentials are asked for: one for each value, or none
 
 pub none-wanted : (c : Option CredentialType) (t n : ℕ) → t ≡ credentialAsked c → t ≡ 0 → wantOf c n ≡ []
 none-wanted none t n i z = refl
@@ -119,7 +119,7 @@ pub ruleset passing =
 
 -- ---- the loop
 
--- a segment F, of which each value asks for something, and what is behind it
+-- a segment F, each value of which asks for credentials, and what comes after it
 module _ {A : Type 0} (F : Format A) (asks : A → List Want) (s : List ℕ) (at : ℕ) (x : Passed)
     (h : x ≡ F .parse s at P.Refused (λ v n. P.Past (length (asks v)) n)) where
   abbrev past : A → ℕ → Passed
@@ -169,7 +169,7 @@ module _ (most «type_id» inputs w : ℕ) (s : List ℕ) (at : ℕ) (x : Passed
       parse-alike (form most p) s n U.Refused _ _
       (λ u m. ap (λ k. U.Whole (layoutOf «type_id» inputs k m)) (omega (arith, length-append (asked (elementAsks l) v) (wanted p u)))))
 
--- something was passed: so something was due, and in a phase up to the last
+-- if something was skipped, something was due, in a phase up to the last
 past-live : (most : ℕ) (s : List ℕ) (at : ℕ) (x : Passed) (c n : ℕ) → x ≡ P.Past c n → (p : Plan) → x ≡ passedAt most p s at → Live p
 past-live most s at x c n q shut h = let z : _≡_ {A = ℕ} 0 1 = cc in absurd (omega arith)
 past-live most s at x c n q end h = tt
@@ -212,7 +212,7 @@ module _ (most «type_id» phase : ℕ) (s : List ℕ) (at : ℕ) (x : Passed) (
   past-next : due (phase + 1) (planOf «type_id») ≡ tail (due phase (planOf «type_id»))
   past-next = live-next «type_id» phase live
 
--- what is left of the plan gives y
+-- parsing what is left of the plan gives y
 module _ (most «type_id» inputs phase w : ℕ) (s : List ℕ) (at : ℕ) (x : Passed) (y : UnsignedRead)
     (i : planAt most «type_id» inputs w (due phase (planOf «type_id»)) s at ≡ y) (h : x ≡ passedAt most (due phase (planOf «type_id»)) s at) where
   pub turn-end : x ≡ P.Nothing → U.Whole (layoutOf «type_id» inputs w at) ≡ y

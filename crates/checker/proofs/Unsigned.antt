@@ -41,7 +41,7 @@ module _ {R : Type 0} (most : ℕ) (s : List ℕ) (z : R) (stop : Refusal → R)
   unfolding head
   on-head-refused = on-told-refused (head (avm most)) (λ h. typeId (h .type)) s 0 z stop go x p
 
--- a type's number is small
+-- the id of a type fits in 32 bits
 pub head-small : (s : List ℕ) (x : Integer) (k n : ℕ) → x ≡ headAt s 0 → x ≡ N.Value k n → k < 2 ^ 32
 unfolding head
 head-small s x k n p q =
@@ -57,7 +57,7 @@ head-small s x k n p q =
     code-small K.Import = omega arith
     code-small K.Export = omega arith
 
--- what goes on with a value that was read
+-- continuations that agree on every value that is read give the same answer
 parse-read : {A R : Type 0} (F : Format A) (s : List ℕ) (at : ℕ) (stop : Refusal → R) (go on : A → ℕ → R)
     → ((v : A) (n : ℕ) → read F s at ≡ took v n → go v n ≡ on v n) → F .parse s at stop go ≡ F .parse s at stop on
 parse-read F s at stop go on h = F .same s at stop go ∙ cases (read F s at) refl ∙ sym (F .same s at stop on)
@@ -66,7 +66,7 @@ parse-read F s at stop go on h = F .same s at stop go ∙ cases (read F s at) re
     cases (took v n) e = h v n e
     cases (refused e) q = refl
 
--- behind a head that was read
+-- after a head that was read
 module _ (most : ℕ) (s : List ℕ) (k : ℕ) (h : Head TransactionType) (n : ℕ) (hk : k ≡ typeId (h .type)) (hn : read (head (avm most)) s 0 ≡ took h n)
     (y : End) (r : y ≡ ended (listOf L.Output 0) s n) where
   abbrev Body : UnsignedRead

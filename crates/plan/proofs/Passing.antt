@@ -85,7 +85,7 @@ module _ (s : List ℕ) (at : ℕ) (l : ListName) (y : Integer) where
 
 pub ruleset element-passing = (input-past, imported-past, operation-past, output-past, exported-past, state-past)
 
--- the type of the credential that an element asks for tells what the element is
+-- the type of the credential that an element asks for determines the format of the element
 module _ (s : List ℕ) (at c : ℕ) (y : Integer) where
   pub asking-operation : c ≡ 14 → Tells operation (λ v. length (v .terms .0)) s at y → AskingTells c s at y
   asking-operation q h L.Output i z = absurd (z i)
@@ -123,7 +123,7 @@ first-of l c prev s at v n e =
     let i : k ≡ n = cc in
     record { element = a; others = u; next = m; all = cc; first = ea; rest = eu ∙ ap (took u) i }
 
--- ---- so many elements: what is left, from here, gives the whole
+-- ---- c elements: what skips those that are left skips all of them
 
 module _ (l : ListName) (s : List ℕ) (at : ℕ) (x : Integer) (h : ElementTells l s at x) where
   pub elements-unread : (c : ℕ) (r : End) (e : Refusal) → 0 < c → x ≡ N.Refused e → ElementsPast l c s at r

@@ -21,7 +21,7 @@ use Rattle.plan.specs.declared.Due.{Due}
 use Rattle.plan.specs.declared.Due.the-variants as D
 use Rattle.plan.specs.Due.{tail, behind, due, lastPhase, Live, dueOf}
 
--- ---- rows: by the code's tests of how many parts are begun
+-- ---- rows: by the code's tests of how many segments are begun
 
 module _ (p : Plan) (begun : ℕ) where
   pub past : (n : ℕ) → behind n p ≡ shut → n ≤ begun → D.Nothing ≡ dueOf (behind begun p)
@@ -44,7 +44,7 @@ module _ (p : Plan) (begun : ℕ) where
 
 pub ruleset row = (part-first, part-here, past)
 
--- ---- types: by the code's tests of their numbers, in the order of `typeOf` and of `types`
+-- ---- types: by the code's tests of the type id, in the order of `typeOf` and of `types`
 
 module _ (z : Due) (begun «type_id» i : ℕ) (a b : TransactionType) where
   pub type-here : «type_id» ≡ i → z ≡ dueOf (behind begun (ownPlan a)) → z ≡ dueOf (behind begun (ownPlan (pick (eqb «type_id» i) a b)))
@@ -86,7 +86,7 @@ module _ (z : Due) («type_id» phase : ℕ) where
 
 pub ruleset by-phase = (phase-first, phase-here, in-own)
 
--- what is asked of it
+-- a function of what is due, by the case that the match found
 module _ (x y : Due) (p : x ≡ y) {R : Type 0} (f : Due → R) where
   pub on-due : (z : R) (d : Due) → x ≡ d → z ≡ f d → z ≡ f y
   on-due z d q h = h ∙ sym (ap f (found p q))
@@ -94,7 +94,7 @@ module _ (x y : Due) (p : x ≡ y) {R : Type 0} (f : Due → R) where
 pub same-names : (a b c d : ℕ) → a ≡ c → b ≡ d → eqb a b ≡ eqb c d
 same-names a b c d h k = rw (h, k)
 
--- no plan has a later phase
+-- no plan has a phase after the last
 plan-over : (k : TransactionType) → behind lastPhase (plan k) ≡ shut
 plan-over K.Base = refl
 plan-over K.CreateAsset = refl
@@ -139,7 +139,7 @@ live-phase «type_id» phase h = phase-small «type_id» phase isMore refl (more
 pub live-next : («type_id» phase : ℕ) → Live (due phase (planOf «type_id»)) → due (phase + 1) (planOf «type_id») ≡ tail (due phase (planOf «type_id»))
 live-next «type_id» phase h = rw add-one (due-next phase (planOf «type_id») (due phase (planOf «type_id»)) h refl)
 
--- ---- what is due tells the plan
+-- ---- what is due determines the first segment of the plan
 
 module _ (x : Due) (T : Plan → Type 0) where
   pub if-nothing : (p : Plan) → x ≡ dueOf p → x ≡ D.Nothing → T shut → T p

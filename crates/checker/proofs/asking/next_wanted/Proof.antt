@@ -1,4 +1,4 @@
--- `checker::asking::next_wanted` meets its contract. The invariant: what is wanted ahead of the start is ahead of here. Assumes nothing.
+-- `checker::asking::next_wanted` meets its contract. The invariant: what is wanted from the start on is wanted from the current state on. Assumes nothing.
 use borrow.Author.Needs.{needs}
 use Prim.Native.Nat.{_+_, _-_}
 use native.Mathlib.Omega.{arith}

@@ -1,4 +1,4 @@
--- `checker::body::plan_at` meets its contract. The invariant: what is left of the plan, from here, gives the whole. Assumes nothing.
+-- `checker::body::plan_at` meets its contract. The invariant: parsing what is left of the plan gives the answer of the whole. Assumes nothing.
 use borrow.Author.Needs.{needs}
 use Prim.Native.Nat.{_+_, _-_, _*_, _≤_}
 use mathlib.Core.Path.{_≡_, refl}

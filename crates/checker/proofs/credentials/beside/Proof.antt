@@ -1,4 +1,4 @@
--- `checker::credentials::beside` meets its contract. The invariant: what is left, from here, gives the whole. Assumes nothing.
+-- `checker::credentials::beside` meets its contract. The invariant: an answer for the credentials that are left is one for all. Assumes nothing.
 use borrow.Author.Needs.{needs}
 use Rattle.checker.proofs.Besides.{BesideOnward, onward}
 use Rattle.checker.proofs.credentials.beside.Statement.{statement}

@@ -1,4 +1,4 @@
--- `checker::credentials::first_cut` meets its contract. The invariant: the first that is cut of what is left, from here, is the first of all.
+-- `checker::credentials::first_cut` meets its contract. The invariant: the first signature cut short of those left is the first of all.
 -- Assumes nothing.
 use borrow.Author.Needs.{needs}
 use mathlib.Core.Path.{_≡_, refl}

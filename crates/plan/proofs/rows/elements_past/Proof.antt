@@ -1,4 +1,4 @@
--- `plan::rows::elements_past` meets its contract. The invariant: what is left, from here, gives the whole. Assumes nothing.
+-- `plan::rows::elements_past` meets its contract. The invariant: what skips the elements that are left skips all of them. Assumes nothing.
 use borrow.Author.Needs.{needs}
 use Rattle.wire.specs.declared.End.{End}
 use Rattle.wire.specs.declared.End.the-variants as P
