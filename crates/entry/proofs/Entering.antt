@@ -31,7 +31,7 @@ use Rattle.entry.specs.declared.EntryAnswer.the-variants as A
 use Rattle.entry.specs.declared.Typed.{Typed}
 use Rattle.entry.proofs.Standing.{Standing, entries-stand}
 
--- the row of a standing entry is read as the entry
+-- if the fields at the row of an entry are the entry, the row is read as the entry
 row-stands : (s : List ℕ) (k : ℕ) (e : EntryAt) → Standing s e → rowEntry s k (located e) ≡ foundEntry k e
 row-stands s k e h =
     ap (λ (t : Typed). onTyped t s k (located e)) (h .typed)

@@ -58,7 +58,7 @@ operation-asset s at v m h =
     let same : record { asset = x; outputs = pairs; terms = w .1 .0; owners = (w .0, w .1 .1) } ≡ v = cc in
     W.whole-part 32 s at x i ex ∙ ap (λ (o : Operation). o .asset) same
 
--- an input of this key
+-- an input with this key
 abbrev spent : List ℕ → ℕ → List ℕ × (Unit {0} × (ℕ × List ℕ)) → Input
 spent id index w = record { txid = id; index = index; asset = w .0; amount = w .1 .1 .0; indices = w .1 .1 .1 }
 
@@ -70,7 +70,7 @@ spend-asset s at w m h =
     let same : (x, y) ≡ w = cc in
     W.whole-part 32 s at x i ex ∙ ap (λ (u : List ℕ × (Unit {0} × (ℕ × List ℕ))). u .0) same
 
--- ---- what stands at the row of an entry is the entry
+-- ---- the fields at the row of an entry are the entry
 
 pub record Standing (s : List ℕ) (e : EntryAt) : Type 0 where
   pub typed : typedAt (entryKind (e .fields)) s (e .start) ≡ T.Entry (e .fields)

@@ -40,7 +40,7 @@ use Rattle.entry_fields.specs.declared.RecipientsFound.{RecipientsFound}
 use Rattle.entry_fields.specs.declared.RecipientsFound.the-variants as R
 use Rattle.entry_fields.specs.declared.OperationFound.the-variants as Y
 
--- what follows the pairs, from `at` up to `end`
+-- the fields of what follows the pairs, from `at` up to `end`
 abbrev actionFields : ℕ → ℕ → ℕ → ℕ → Action → OperationFields
 actionFields place count at end (k, (v, o)) =
     let next = at + 4 + length (terms .write v) in
@@ -55,7 +55,7 @@ action-placed : (place count at i o end : ℕ) (k : OperationType) (v : Terms) (
 action-placed place count at i o end k v w e f = rw (f, e)
 
 module _ (s : List ℕ) (b : Slice s) where
-  -- a number of k bytes ends k behind its start
+  -- an integer of k bytes ends k bytes after its start
   pub integer-ends : (k at v n : ℕ) → read (integer k) s at ≡ took v n → n ≡ at + k
   integer-ends k at v n h = written-next (integer k) s at v n b h ∙ ap (λ j. at + j) (length-integer k v)
 
@@ -84,7 +84,7 @@ module _ (s : List ℕ) (b : Slice s) where
 
   -- ---- outputs
 
-  -- with owners behind what was made of the rest
+  -- an output whose last field is its owners: `make` adds them to the other fields
   output-made : (at : ℕ) (v : Owners) (m : ℕ) (make : OwnersFields → OutputFields) → read owners s at ≡ took v m
       → outputOf (ownersFound s at) make ≡ O.Fields (make (ownersFields m v))
   output-made at v m make h = ap (λ (x : OwnersFound). outputOf x make) (owners-found at v m h)
@@ -130,7 +130,7 @@ module _ (s : List ℕ) (b : Slice s) where
       ∙ ap (λ (t : ℕ). bodyFound t s i) (sym (listed-code outputCode outputType outputType-code types n has))
       ∙ body-found (outputType n) at i (integer-ends 4 at n i en) w k ew)
 
-  -- ---- inputs, whose key was read
+  -- ---- inputs whose key was read
 
   pub input-found : (at : ℕ) (id : List ℕ) (i index k : ℕ) (w : List ℕ × (Unit {0} × (ℕ × List ℕ))) (m : ℕ) → read (blob 32) s at ≡ took id i
       → read (integer 4) s i ≡ took index k → read spend s k ≡ took w m
@@ -161,7 +161,7 @@ module _ (s : List ℕ) (b : Slice s) where
 
   -- ---- operations
 
-  -- so many elements of one width, passed whole: where they end
+  -- c elements of one width, skipped as bytes: where they end
   span : {R : Type 0} {A : Type 0} (F : Format A) (k : ℕ) (wide : (a : A) → F .Good a → length (F .write a) ≡ k) (c at : ℕ) (l : List A) (n : ℕ)
       (stop : Refusal → R) (go : List ℕ → ℕ → R)
       → read (increasing F c) s at ≡ took l n → (d : R) → ((p : List ℕ) → go p n ≡ d) → blob (k * c) .parse s at stop go ≡ d

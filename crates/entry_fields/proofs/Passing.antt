@@ -28,7 +28,7 @@ use Rattle.entry_fields.specs.declared.RecipientsFound.the-variants as R
 use Rattle.entry_fields.specs.declared.OperationFound.{OperationFound}
 use Rattle.entry_fields.specs.declared.OperationFound.the-variants as Y
 
--- owners, in an output or as who receives a transfer
+-- owners, of an output or as the recipients of a transfer
 module _ (x y : OwnersFound) (p : x ≡ y) where
   module _ (make : OwnersFields → OutputFields) where
     pub output-of : (z : OutputFields) (o : OwnersFields) → x ≡ W.Fields o → z ≡ make o → O.Fields z ≡ outputOf y make
@@ -57,7 +57,7 @@ module _ (x y : RecipientsFound) (p : x ≡ y) (make : Recipients → OperationF
   pub no-recipients : x ≡ R.Missing → Y.Missing ≡ onRecipients y make
   no-recipients q = sym (ap (λ r. onRecipients r make) (found p q))
 
--- a count of 32 bits, of elements of k bytes: their bytes are a number of 64 bits
+-- the length of counted elements of k bytes fits in 64 bits, for a count of 32 bits
 pub span-fits : (k : ℕ) (s : List ℕ) (at : ℕ) (x : Integer) (v n : ℕ) → x ≡ valued (integer 4) s at → x ≡ N.Value v n → Slice s → k ≤ 65 → k * v < 2 ^ 64
 span-fits k s at x v n p q b h = le-lt (mul-le-mul-right v h) (omega (arith, value-small 4 s at x v n p q b))
   where

@@ -27,7 +27,7 @@ use Rattle.transaction.specs.Codec.{Writing}
 use Rattle.transaction.specs.declared.ListName.{ListName}
 use Rattle.transaction.specs.declared.ListName.the-variants as L
 
--- ---- every element has bytes
+-- ---- every element is non-empty
 
 output-some : (types : List OutputType) (o : Output) → 1 ≤ length (output types .write o)
 unfolding outputBytes

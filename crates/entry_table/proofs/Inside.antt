@@ -69,7 +69,7 @@ state-inside prev at v =
     (omega (arith, length-append k (m ++ l), length-append m l, length-integer 4 (fxCode (v .fx)), length-integer 4 n))
     (list-inside E stateOutputEntry (λ prev at a. (omega arith, omega arith, tt)) [] (at + 8) (v .outputs))
 
--- a field, or a list, and what is behind it
+-- a field or a list, and what comes after it
 behind : (at : ℕ) (a c : List ℕ) (xs : List EntryAt) → Inside (at + length a + length c) xs → Inside (at + length (a ++ c)) xs
 behind at a c xs h = inside-more (at + length a + length c) (at + length (a ++ c)) xs (omega (arith, length-append a c)) h
 

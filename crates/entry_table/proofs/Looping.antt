@@ -22,7 +22,7 @@ use Rattle.entry_table.specs.declared.Nth.the-variants as N
 
 -- ---- any loop
 
--- of the entries es, `rest` are ahead of c, and Q tells of both
+-- of the entries es, `rest` are ahead of c, and Q holds of both
 unfoldable pub Along : ℕ → List ℕ → Cursor → (List EntryAt → List EntryAt → Type 0) → Type 0
 Along «type_id» s c Q = (most : ℕ) (es : List EntryAt) → Ahead s most «type_id» start es → (rest : List EntryAt) × Ahead s most «type_id» c rest × Q es rest
 
@@ -60,7 +60,7 @@ module _ («type_id» : ℕ) (s : List ℕ) (c : Cursor) (Q : List EntryAt → L
           let f = subst (Advances s most «type_id» rest) q (p most rest b) in
           (f .entry, f .others, f .row, subst (Q es) (f .all) k)
 
--- each turn has less before it
+-- each turn leaves less ahead of the cursor
 module _ (c : Cursor) (r : Advance) (h : Shorter c r) (d : Cursor) where
   pub moved-less : r ≡ T.Moved d → ahead d < ahead c
   moved-less q = subst (Below (ahead c)) q h
@@ -68,7 +68,7 @@ module _ (c : Cursor) (r : Advance) (h : Shorter c r) (d : Cursor) where
   pub found-less : (row : Row) → r ≡ T.Found row d → ahead d < ahead c
   found-less row q = subst (Below (ahead c)) q h
 
--- ---- rows counted
+-- ---- counting rows
 
 unfoldable pub Counted : ℕ → List ℕ → Cursor → ℕ → Type 0
 unfolding Along
@@ -102,7 +102,7 @@ module _ («type_id» : ℕ) (s : List ℕ) (c : Cursor) (n : ℕ) (h : Counted 
 
 pub ruleset counting = (count-start, count-moved, count-found, count-done, count-over)
 
--- ---- the one that is looked for
+-- ---- finding entry n
 
 unfoldable pub Looked : ℕ → ℕ → List ℕ → Cursor → ℕ → Type 0
 unfolding Along
@@ -136,7 +136,7 @@ module _ (n «type_id» : ℕ) (s : List ℕ) (c : Cursor) (left : ℕ) (h : Loo
 
 pub ruleset finding = (find-start, find-moved, find-done, find-next, find-here)
 
--- ---- rows put
+-- ---- storing rows
 
 unfoldable pub Put : ℕ → ℕ → List ℕ → List ℕ → Cursor → ℕ → List ℕ → Type 0
 unfolding Along

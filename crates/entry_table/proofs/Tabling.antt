@@ -37,7 +37,7 @@ flat : List EntryAt → List ℕ
 flat [] = []
 flat (e ∷ es) = numbers (located e) ++ flat es
 
--- what is put row by row is put at once
+-- storing the rows one by one stores them all
 put-all : (i : ℕ) (es : List EntryAt) (t : List ℕ) → 3 * (i + length es) ≤ length t
     → putRows i es t ≡ take (3 * i) t ++ (flat es ++ drop (3 * (i + length es)) t)
 unfolding putRows flat putRow
@@ -64,7 +64,7 @@ put-all i (x ∷ es) t h =
     regroup : (a b c d : List ℕ) → (a ++ b) ++ (c ++ d) ≡ a ++ ((b ++ c) ++ d)
     regroup a b c d = simp append-assoc
 
--- numbers that 32 bits hold are themselves
+-- offsets and lengths that fit in 32 bits are stored unchanged
 flat-rows : (hi : ℕ) (es : List EntryAt) → hi < 4294967296 → Inside hi es → flat es ≡ rows es
 unfolding flat rows
 flat-rows hi [] h i = refl
@@ -86,7 +86,7 @@ module _ (most : ℕ) (s t : List ℕ) (x : Checked) (p : x ≡ checked most s) 
       sym (ap (λ o. onResult o (λ e. filled (T.Refused e) t) (λ v end. listed end (entries (avm most) v) t)) (refused-check most s e (found q p)))
 
   module _ (w : Layout) (k : ℕ) (q : x ≡ C.Accepted w k) (b : Slice s) where
-    -- the entries, ahead of the first cursor, and that they are small
+    -- the entries ahead of the first cursor, which are stored unchanged
     record Meets : Type 0 where
       es : List EntryAt
       ahead : Ahead s most (w .«type_id») start es

@@ -26,7 +26,7 @@ use Rattle.transaction.proofs.Reading.{written-next}
 use Rattle.entry_walk.specs.Walk.{start, PlanAhead, Ahead}
 use Rattle.entry_walk.proofs.Walking.{integer-next}
 
--- the outputs' count stands at 42
+-- the head has 42 bytes, so the outputs' count starts at 42
 head-long : (most : ℕ) (h : Head TransactionType) → head (avm most) .Good h → length (head (avm most) .write h) ≡ 42
 unfolding head constant tag blob
 head-long most h g =
@@ -41,7 +41,7 @@ head-long most h g =
       length-integer 4 (h .network),
     )
 
--- a counted list that was read: its count, and its elements behind it
+-- a list that was read: its count, and its elements after it
 counted-inv : {A : Type 0} (least : ℕ) (E : List ℕ → Format A) (s : List ℕ) (at : ℕ) (v : List A) (m : ℕ) → read (atLeast least E) s at ≡ took v m
     → (c f : ℕ) × (read (integer 4) s at ≡ took c f) × (read (seriesFrom E [] c) s f ≡ took v m)
 unfolding atLeast
@@ -50,7 +50,7 @@ counted-inv least E s at v m e =
     let (_, e₂) = pick-inv (leb least c) (by emptyList at) (seriesFrom E [] c .parse s f refused took) v m e₁ in
     (c, f, ec, e₂)
 
--- a plan with the credentials behind it
+-- a plan that is followed by the credentials
 abbrev Ends : Plan → Type 0
 Ends shut = ⊥
 Ends end = Unit {0}

@@ -47,7 +47,7 @@ use Rattle.entry_walk.specs.declared.Advance.the-variants as T
 -- ---- elements that are left of a list
 
 module _ {A : Type 0} (E : List ℕ → Format A) (entry : ℕ → ℕ → A → List EntryAt) (Later : ℕ → List EntryAt → Type 0) (s : List ℕ) where
-  -- none: what is behind the list
+  -- no element is left: what comes after the list
   pub rest-done : (c at : ℕ) (es : List EntryAt) → c ≤ 0 → Rest s E entry Later c at es → Later at es
   unfolding items listParse entriesFrom
   rest-done zero at es z r =
@@ -61,7 +61,7 @@ module _ {A : Type 0} (E : List ℕ → Format A) (entry : ℕ → ℕ → A →
   unfolding items listParse entriesFrom
   rest-none at es h = record { prev = []; values = []; next = at; later = es; stands = refl; behind = h; entries = refl }
 
-  -- the first, and the others
+  -- the first element, and the others
   pub record One (c at : ℕ) (es : List EntryAt) : Type 0 where
     pub prev : List ℕ
     pub value : A
@@ -106,7 +106,7 @@ module _ {A : Type 0} (E : List ℕ → Format A) (entry : ℕ → ℕ → A →
             ∙ append-assoc (entry at m v) (entriesFrom E entry w m l) (r .later);
       }
 
--- ---- answers, beside what was read
+-- ---- an answer agrees with what was read
 
 module _ (s : List ℕ) (at : ℕ) (x : Integer) (p : x ≡ valued (integer 4) s at) where
   integer-same : (c n d m : ℕ) → x ≡ N.Value c n → read (integer 4) s at ≡ took d m → (c ≡ d) × (n ≡ m)
@@ -171,7 +171,7 @@ module _ (s : List ℕ) (most : ℕ) (later : Plan) (c : Cursor) (es : List Entr
   of-list l n q =
       if-list x (λ (p : Plan). StateAhead s most l (c .inner) (c .left) later (c .at) es → AheadIn s most p later c es) p h l n q (λ p a. a)
 
--- with no output of an initial state left
+-- no output of an initial state is left
 module _ (s : List ℕ) (most : ℕ) (l : ListName) (c : ℕ) (later : Plan) (at : ℕ) (es : List EntryAt) where
   outside : ListAhead s most l c later at es → StateAhead s most l 0 c later at es
   outside h = (secpFx, rest-none (notBelow (output (fxOutputs secpFx))) stateOutputEntry (ListAhead s most l c later) s at es h)
@@ -302,14 +302,14 @@ pub element-state : (l : ListName) (s : List ℕ) (c : Cursor) (r : Advance) (k 
 element-state l s c r k i z h = subst (λ (l : ListName). ElementAdvance l s c r) (sym (state-name l (sym i ∙ z))) h
 
 module _ (s : List ℕ) (c : Cursor) (b : Slice s) (more : 0 < c .left) where
-  -- the element at hand
+  -- the current element
   abbrev Hand : ListName → ℕ → Plan → List EntryAt → Type 0
   Hand l most p es = One (elementsOf l .element) (elementsOf l .entries) (PlanAhead s most p) s (c .left - 1) (c .at) es
 
   hand : (l : ListName) (most : ℕ) (p : Plan) (es : List EntryAt) → ListAhead s most l (c .left) p (c .at) es → Hand l most p es
   hand l most p es = one-of (elementsOf l .element) (elementsOf l .entries) (PlanAhead s most p) s b (c .left) (c .at) es more
 
-  -- ahead of a cursor at a list of that name, behind the element
+  -- what is ahead of a cursor in a list of that name, after the element
   module _ («type_id» least most : ℕ) (l : ListName) (q : dueOf (due (c .phase) (planOf «type_id»)) ≡ D.List l least) (n i : ℕ) (es : List EntryAt) where
     behind-it : StateAhead s most l i (c .left - 1) (due (c .phase + 1) (planOf «type_id»)) n es
         → Ahead s most «type_id» record { phase = c .phase; at = n; left = c .left - 1; inner = i } es
@@ -447,7 +447,7 @@ module _ (s : List ℕ) (b : Slice s) where
       let (g, st) = blob signatureWidth .sound s at x m (slice-bytes s b) ex in
       omega (arith, g .0, ap length (st .there), length-append x (drop m s), length-drop at s, length-drop m s)
 
-  -- n signatures that were read are so many bytes, and then the others
+  -- n signatures that were read have 65 * n bytes, and the other pieces follow
   signatures-inv : (n : ℕ) (ps : List Piece) (at : ℕ) (l : List (List ℕ)) (e : ℕ) → read (pieces (signatures n ps)) s at ≡ took l e
       → (l′ : List (List ℕ)) × (read (pieces ps) s (at + signatureWidth * n) ≡ took l′ e) × (signatureWidth * n ≤ length s - at)
   unfolding pieces signatures cons «as» andThen
@@ -494,7 +494,7 @@ module _ (s : List ℕ) (b : Slice s) where
         stands = ap (λ (j : ℕ). read (pieces (each ws)) s j) (sym next) ∙ r ∙ ap (took l′) there;
       }
 
-  -- it is passed by its bytes
+  -- that credential is skipped by its length
   leading-ends : (w : Want) (ws : List Want) (at m : ℕ) → Leading w ws at m → ended credentialBytes s at ≡ P.At (at + (8 + w .signatures * signatureWidth))
   unfolding andThen
   leading-ends w ws at m f =
@@ -548,7 +548,7 @@ module _ (s : List ℕ) (c : Cursor) (b : Slice s) (more : 0 < c .left) (y : End
 
 pub ruleset crediting = (output-refused, output-found, credential-refused, credential-found)
 
--- ---- a step
+-- ---- one advance
 
 module _ («type_id» : ℕ) (s : List ℕ) (c : Cursor) (r : Advance) (x : Due) (p : x ≡ dueOf (due (c .phase) (planOf «type_id»))) where
   abbrev at-hand : Plan
@@ -600,7 +600,7 @@ advance-done «type_id» s c x p q z most es a =
 
 pub ruleset stepping = (advance-nothing, advance-field, advance-credential, advance-output, advance-element, advance-list-later, advance-done)
 
--- ---- steps end
+-- ---- every advance leaves less ahead of the cursor
 
 pub below-more : (m n : ℕ) (r : Advance) → Below m r → m ≤ n → Below n r
 below-more m n (T.Found r c) h l = omega arith

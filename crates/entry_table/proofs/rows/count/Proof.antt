@@ -1,4 +1,4 @@
--- `entry_table::rows::count` meets its contract. The invariant: the rows counted and those that are ahead are all. Assumes nothing.
+-- `entry_table::rows::count` meets its contract. The invariant: the rows counted and the entries ahead are all entries. Assumes nothing.
 use borrow.Author.Needs.{needs}
 use Prim.Native.Nat.{_≤_}
 use native.Mathlib.Omega.{arith}

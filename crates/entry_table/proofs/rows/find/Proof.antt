@@ -1,4 +1,4 @@
--- `entry_table::rows::find` meets its contract. The invariant: the one that is looked for is the one of that number ahead. Assumes nothing.
+-- `entry_table::rows::find` meets its contract. The invariant: entry `left` of those ahead is entry n of all. Assumes nothing.
 use borrow.Author.Needs.{needs}
 use Rattle.entry_walk.specs.Walk.{ahead}
 use Rattle.entry_table.proofs.Looping.{Looked, finding, moved-less, found-less}

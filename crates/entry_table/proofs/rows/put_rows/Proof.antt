@@ -1,4 +1,4 @@
--- `entry_table::rows::put_rows` meets its contract. The invariant: what is ahead, put from row i on, gives the whole table. Assumes nothing.
+-- `entry_table::rows::put_rows` meets its contract. The invariant: storing the entries ahead from row i on gives the whole table. Assumes nothing.
 use borrow.Author.Needs.{needs}
 use Prim.Native.Nat.{_≤_}
 use mathlib.Core.Path.{_≡_, refl}
