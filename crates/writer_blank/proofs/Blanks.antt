@@ -25,7 +25,7 @@ use Rattle.writer_blank.specs.Closing.{blankCredential, credentialWidth,
 
 -- ---- zeros
 
--- one zero more
+-- one more byte is set to zero
 pub zero-more : (s : List ℕ) (i : ℕ) → i < length s → set (replicate i 0 ++ drop i s) i 0 ≡ replicate (i + 1) 0 ++ drop (i + 1) s
 zero-more s i h =
     ap (λ (r : List ℕ). set (replicate i 0 ++ r) i 0) (drop-cons s i 0 h)
@@ -42,7 +42,7 @@ zeros-all s i h k =
 -- ---- the buffer
 
 module _ (s : List ℕ) (at : ℕ) where
-  -- a part that was lent and came back as ys
+  -- a range was lent and is now ys: that is a store of ys
   part-back : (ys zs : List ℕ) (n : ℕ) → ys ≡ zs → length zs ≡ n → putMid at n s ys ≡ overwrite s at zs
   unfolding overwrite
   part-back ys zs n e l = ap₂ (λ (x : List ℕ) (k : ℕ). take at s ++ (x ++ drop k (drop at s))) e (sym l)
@@ -55,7 +55,7 @@ module _ (s : List ℕ) (at : ℕ) where
   zeros-back ys n h e =
       part-back ys (replicate n 0) (at + n - at) (e ∙ ap (λ (k : ℕ). replicate k 0) (part-length n h)) (length-replicate n 0 ∙ omega arith)
 
--- a credential, its fields one behind the other
+-- a blank credential is stored field by field
 pub blank-back : (s a b c : List ℕ) (at t n : ℕ) → t < 256 ^ 4 → n < 256 ^ 4 → at + credentialWidth n ≤ length s → a ≡ withInteger s at t
     → b ≡ withInteger a (at + 4) n → c ≡ overwrite b (at + 8) (replicate (signatureWidth * n) 0) → c ≡ overwrite s at (blankCredential t n)
 unfolding blankCredential
@@ -72,7 +72,7 @@ blank-back s a b c at t n ft fn h ha hb ec =
     ∙ overwrite-more s at (x ++ y) z (at + 8) (omega (arith, length-append x y, length-digits 4 t, length-digits 4 n)) (omega arith)
     ∙ ap (overwrite s at) (append-assoc x y z)
 
--- ---- their bytes
+-- ---- the bytes of blank credentials
 
 pub length-blank : (t n : ℕ) → length (blankCredential t n) ≡ credentialWidth n
 unfolding blankCredential
@@ -106,7 +106,7 @@ pub none-blank : blankBytes [] ≡ []
 unfolding blankBytes pieces each
 none-blank = refl
 
--- one, and the others behind it
+-- the bytes of the first, and then of the others
 pub one-more : (w : Want) (ws : List Want) → blankBytes (w ∷ ws) ≡ blankCredential (credentialCode (w .type)) (w .signatures) ++ blankBytes ws
 unfolding blankBytes pieces each blanks blankCredential integer
 one-more w ws =
@@ -117,7 +117,7 @@ one-more w ws =
     ∙ ap (λ (l : List ℕ). t ++ l) (sym (append-assoc n z (blankBytes ws)))
     ∙ sym (append-assoc t (n ++ z) (blankBytes ws))
 
--- each has a type and a count
+-- each has at least a type and a count, 8 bytes
 pub blank-long : (ws : List Want) → 8 * length ws ≤ length (blankBytes ws)
 blank-long [] = omega arith
 blank-long (w ∷ ws) =
@@ -130,7 +130,7 @@ blank-long (w ∷ ws) =
       length-blank t (w .signatures),
     )
 
--- their count, and these
+-- the closing bytes are their count and then the credentials
 pub count-first : (ws : List Want) → closingBytes ws ≡ digits 4 (length ws) ++ blankBytes ws
 unfolding blankBytes credentials layout pieces blanks integer
 count-first ws = refl
@@ -168,7 +168,7 @@ module _ (z : End) (at a limit : ℕ) (e : z ≡ fitted at a limit) where
   unfolding fitted
   fitted-refused r f = refused-cases (leb (at + a) limit) refl r f e
 
-  -- and more behind
+  -- if a bytes fit, then b more fit after them exactly if a + b fit
   pub fitted-on : (m b : ℕ) → z ≡ P.At m → fitted m b limit ≡ fitted at (a + b) limit
   unfolding fitted
   fitted-on m b f = let (i, k) = fitted-next m f in let j : m + b ≡ at + (a + b) = omega arith in rw j

@@ -62,7 +62,7 @@ most-full k s = cases (ltb (length s) mostBytes)
 
 module _ (l : Layout) (s : List ℕ) (at m : ℕ) (em : m ≡ mostIn (length s)) (z : End)
     (e : OfAll l (take at s) (λ ws. z ≡ fitted at (length (closingBytes ws)) m)) where
-  -- what the answer comes to
+  -- the answer and the buffer are those of closing with the credentials wanted
   abbrev Out : End → List ℕ → Type 0
   Out r b = OfAll l (take at s) (λ ws. (r, b) ≡ closed s at ws)
 
@@ -101,7 +101,7 @@ module _ (most : ℕ) (s : List ℕ) (at : ℕ) where
   abbrev F : Family
   F = avm most
 
-  -- what a verdict comes to
+  -- the answer and the buffer that follow from a verdict
   abbrev Ruled : Verdict → End × List ℕ
   Ruled v = written v s at (closing F at s)
 
@@ -110,7 +110,7 @@ module _ (most : ℕ) (s : List ℕ) (at : ℕ) where
   close-short h = rw (lt-leb at (length s) h)
 
   module _ (h : at ≤ length s) (x : UnsignedRead) (p : x ≡ unsignedAt most (take at s)) where
-    -- once the unsigned part is judged
+    -- the verdict on the unsigned part decides
     ruled : (v : Verdict) → judged (unsigned F) (given (take at s)) (roomFor (at + length (closing F at s)) s) ≡ v → Ruled v ≡ Ruled (closable F at s)
     unfolding closable
     ruled v e = ap Ruled (sym (rw (le-leb at (length s) h) e))
@@ -133,7 +133,7 @@ module _ (most : ℕ) (s : List ℕ) (at : ℕ) where
           let place : n ≡ l .«credentials_at» = credentials-stand most (take at s) u n l front t i in
           rw (ne-eqb n (length (take at s)) (λ g. f (sym place ∙ g ∙ length-take-le at s h))))))
 
-      -- what was read, and what it wants
+      -- what was read, and the credentials that it wants
       record Known : Type 0 where
         u : Unsigned F
         stands : read (unsigned F) (take at s) 0 ≡ took u (l .«credentials_at»)

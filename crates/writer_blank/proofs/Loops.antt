@@ -22,7 +22,7 @@ use Rattle.writer_blank.specs.Closing.{blankCredential, credentialWidth,
 use Rattle.writer_blank.proofs.Blanks.{length-blank, type-small, none-blank, one-more, blank-long, count-first, closing-long}
 use Rattle.writer_blank.proofs.Blanks.{fitted-room, fitted-full, fitted-on, fitted-off}
 
--- ---- what is wanted: nothing, or one and the others
+-- ---- no credential is wanted, or one and then the others
 
 of-first : (most : ℕ) (s : List ℕ) («type_id» t k : ℕ) (d : Wanting) (ws : List Want) (f : First most s t k (Wants most s «type_id» d) ws)
     → blankBytes ws ≡ blankCredential t k ++ blankBytes (f .others)
@@ -51,7 +51,7 @@ module _ (s : List ℕ) («type_id» : ℕ) (c : Wanting) (n : ℕ) (x : Wanted)
         let f = first most ws w in
         subst P (sym (of-first most s «type_id» t k d ws f)) (g most (f .others) (f .behind) (omega (arith, ap length (f .all))))
 
-    -- ---- the place behind them: what is left, from here, gives the whole
+    -- ---- the end of the blank credentials: the end of those that are left, measured from here, is the end of all
 
     module _ (at limit : ℕ) (z : End) (g : z ≡ fitted at (credentialWidth k) limit) where
       more : (ws : List Want) → credentialWidth k + length (blankBytes ws) ≡ length (blankCredential t k ++ blankBytes ws)
@@ -68,7 +68,7 @@ module _ (s : List ℕ) («type_id» : ℕ) (c : Wanting) (n : ℕ) (x : Wanted)
           of-next (λ (ys : List ℕ). r ≡ fitted at (length ys) limit) (λ most ws w l.
           b most ws w l ∙ fitted-on z at (credentialWidth k) limit g m (length (blankBytes ws)) i ∙ ap (λ (j : ℕ). fitted at j limit) (more ws))
 
-    -- ---- room for the first, and for the others
+    -- ---- room for the first credential, and for the others
 
     module _ (end at size : ℕ) (R : Room «type_id» s c n end at size) where
       here : First (R .ahead .most) s t k (Wants (R .ahead .most) s «type_id» d) (R .ahead .all)
@@ -112,7 +112,7 @@ end-none «type_id» s c n at limit h k =
     of-none «type_id» s c n (λ ws. P.At at ≡ fitted at (length (blankBytes ws)) limit) h
     (fitted-room at (length (blankBytes [])) limit at (omega (arith, ap length none-blank)) k)
 
--- ---- their writing, from the buffer b into s: what is left to write, from here, makes the whole, and what asks stays
+-- ---- writing them from the buffer b into s: writing those that are left completes the writing of all, and the bytes that want them do not change
 
 pub record Writing (b : List ℕ) (end «type_id» : ℕ) (from : Wanting) (count start : ℕ) (s : List ℕ) (c : Wanting) (owed at : ℕ) : Type 0 where
   pub whole : (r : List ℕ) → OfAhead «type_id» (take end b) c owed (λ ws. r ≡ overwrite s at (blankBytes ws))
@@ -167,10 +167,10 @@ module _ {b : List ℕ} {end «type_id» : ℕ} {from : Wanting} {count start : 
                   (room-next (take end b) «type_id» c owed x there t k d q end at (length b) (w .room));
             }
 
--- ---- all of them, behind their count
+-- ---- all blank credentials, after their count
 
 module _ (l : Layout) (s : List ℕ) (at : ℕ) (c : Wanting) (first : c ≡ firstWanting l) where
-  -- the place behind them
+  -- the offset just past all of them
   pub closing-on : (limit : ℕ) (y : End) → OfAhead (l .«type_id») s c (l .«credentials_count») (λ ws. y ≡ fitted (at + 4) (length (blankBytes ws)) limit)
       → OfAll l s (λ ws. y ≡ fitted at (length (closingBytes ws)) limit)
   unfolding fitted
@@ -182,7 +182,7 @@ pub closing-full : (l : Layout) (s : List ℕ) (at limit : ℕ) → limit < at +
     → OfAll l s (λ ws. P.Refused f ≡ fitted at (length (closingBytes ws)) limit)
 closing-full l s at limit h f g most ws w e = ap P.Refused g ∙ fitted-full at (length (closingBytes ws)) limit (omega (arith, closing-long ws))
 
--- their writing
+-- writing the count and the credentials
 module _ (l : Layout) (s : List ℕ) (at : ℕ) (R : RoomForAll l (take at s) at (length s)) where
   count-small : l .«credentials_count» < 256 ^ 4
   count-small = omega (arith, R .short, R .ahead .counts, blank-long (R .ahead .all))

@@ -16,7 +16,7 @@ use Rattle.writer_rules.proofs.Inputs.{Words, length-integers}
 use Rattle.writer_buffer.specs.Stores.{roomIn, overwrite, withInteger}
 use Rattle.writer_buffer.proofs.Stores.{length-overwrite, too-many, same-room, overwrite-more, overwrite-none, integer-put}
 
--- ---- what the loop keeps
+-- ---- the loop's invariant: writing the integers that are left gives y
 
 module _ (l : List ℕ) (i at : ℕ) (b y : List ℕ) (h : overwrite b at (integersBytes (drop i l)) ≡ y) where
   pub integers-end : length l ≤ i → b ≡ y
@@ -35,7 +35,7 @@ module _ (l : List ℕ) (i at : ℕ) (b y : List ℕ) (h : overwrite b at (integ
       ap (λ (z : List ℕ). overwrite z (at + 4) r) (e ∙ integer-put b at n f (omega (arith, w i)))
       ∙ overwrite-more b at D r (at + 4) (omega arith) (omega arith) ∙ ap (overwrite b at) (sym front) ∙ h
 
--- ---- two byte strings and numbers, one behind the other
+-- ---- two byte strings and integers, one after the other
 
 module _ (first second l : List ℕ) where
   abbrev pub all : List ℕ

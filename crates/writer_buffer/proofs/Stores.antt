@@ -34,7 +34,7 @@ pub room-fine : (n : ℕ) (s : List ℕ) → n ≤ length s → n ≤ mostBytes 
 unfolding roomFor
 room-fine n s h k = rw (le-leb n (length s) h, le-leb n mostBytes k)
 
--- there is room, or it is 14
+-- P holds of the verdict if it holds of `Allowed`, where there is room, and of refusal 14
 pub by-room : (n : ℕ) (s : List ℕ) (P : Verdict → Type 0) → (roomFor n s ≡ J.Allowed → P J.Allowed) → P (refusedBy noRoom) → P (roomFor n s)
 unfolding roomFor
 by-room n s P f r = go (leb n (length s)) (leb n mostBytes) f
@@ -83,7 +83,7 @@ module _ (s ys : List ℕ) (at : ℕ) where
         length-drop at s,
       )
 
--- a store in the middle
+-- a store in the middle replaces the bytes there
 pub overwrite-middle : (p c d r : List ℕ) (at : ℕ) → length p ≡ at → length c ≡ length d → overwrite (p ++ (c ++ r)) at d ≡ p ++ (d ++ r)
 unfolding overwrite
 overwrite-middle p c d r at h l = rw (take-at p (c ++ r) at h, drop-at p (c ++ r) at h, drop-at c r (length d) l)
@@ -93,7 +93,7 @@ module _ (s : List ℕ) (at : ℕ) where
   unfolding overwrite
   overwrite-none = take-append-drop at s
 
-  -- a store behind another
+  -- two stores, the second just past the first, are one store
   pub overwrite-more : (x y : List ℕ) (m : ℕ) → m ≡ at + length x → at ≤ length s → overwrite (overwrite s at x) m y ≡ overwrite s at (x ++ y)
   unfolding overwrite
   overwrite-more x y m e h =
@@ -109,15 +109,15 @@ module _ (s : List ℕ) (at : ℕ) where
       ∙ append-assoc (take at s) x (y ++ drop (length (x ++ y)) (drop at s))
       ∙ ap (λ (t : List ℕ). take at s ++ t) (sym (append-assoc x y (drop (length (x ++ y)) (drop at s))))
 
-  -- what stands in front of a store stays
+  -- the bytes before a store do not change
   pub front-stays : (x : List ℕ) (n : ℕ) → n ≤ at → at ≤ length s → take n (overwrite s at x) ≡ take n s
   unfolding overwrite
   front-stays x n h k =
       take-append-le n (take at s) (x ++ drop (length x) (drop at s)) (omega (arith, length-take-le at s k)) ∙ take-take n at s h
 
--- ---- parts of the buffer that were lent
+-- ---- ranges of the buffer that were lent
 
--- m bytes y in place of the m from at on, where y is what a copy of b leaves there
+-- the bytes from at up to e were lent and are now y, a copy of b: that is a store of b
 pub lent-bytes : (s y b : List ℕ) (at e : ℕ) → y ≡ take (length (take (e - at) (drop at s))) b ++ drop (length b) (take (e - at) (drop at s))
     → e ≡ at + length b → e ≤ length s
     → take at s ++ (y ++ drop (e - at) (drop at s)) ≡ overwrite s at b
@@ -130,7 +130,7 @@ lent-bytes s y b at e h there f =
     ∙ drop-length (take (length b) (drop at s))) ∙ append-nil b) in
     rw (whole, n)
 
--- and where y is a number
+-- the same where y is an integer of four bytes
 pub lent-integer : (s y : List ℕ) (at e v : ℕ) → y ≡ digits (length (take (e - at) (drop at s))) (v % 256 ^ length (take (e - at) (drop at s))) → e ≡ at + 4
     → e ≤ length s
     → take at s ++ (y ++ drop (e - at) (drop at s)) ≡ overwrite s at (digits 4 (v % 256 ^ 4))
@@ -141,7 +141,7 @@ lent-integer s y at e v h there f =
     let whole : y ≡ digits 4 (v % 256 ^ 4) = h ∙ rw (n, m) in
     rw (whole, n, length-digits 4 (v % 256 ^ 4))
 
--- ---- a number in the buffer
+-- ---- an integer in the buffer
 
 module _ (s : List ℕ) (at n : ℕ) where
   pub not-there : length s < at + 4 → s ≡ withInteger s at n
@@ -152,7 +152,7 @@ module _ (s : List ℕ) (at n : ℕ) where
   unfolding withInteger
   integer-there h t e = rw (le-leb (at + 4) (length s) h) e
 
-  -- where it fits, and its width holds it
+  -- if it fits into the buffer and into four bytes, it is stored
   pub integer-put : at + 4 ≤ length s → n < 256 ^ 4 → withInteger s at n ≡ overwrite s at (digits 4 n)
   unfolding withInteger
   integer-put h f = rw (le-leb (at + 4) (length s) h, mod-eq-of-lt f)
@@ -165,7 +165,7 @@ module _ (s : List ℕ) (at n : ℕ) where
       go true e = length-overwrite s (digits 4 (n % 256 ^ 4)) at (omega (arith, leb-true (at + 4) (length s) e, length-digits 4 (n % 256 ^ 4)))
       go false e = refl
 
--- ---- stores made whole or not at all
+-- ---- stores made completely or not at all
 
 module _ (m : ℕ) (s : List ℕ) (x : Verdict) (p : x ≡ roomIn m (length s)) where
   pub room-made : x ≡ J.Allowed → m ≤ length s
@@ -181,7 +181,7 @@ module _ (m : ℕ) (s : List ℕ) (x : Verdict) (p : x ≡ roomIn m (length s)) 
     unfolding stored roomFor
     all-done q i h u k = rw (sym p ∙ q) (ap₂ (λ (a : ℕ) (b : List ℕ). (P.At a, b)) h k)
 
--- what its answer tells
+-- what follows from the answer of a store
 module _ (n : ℕ) (s t : List ℕ) (x : End) (u : List ℕ) where
   pub told-refused : (v : Verdict) → (x, u) ≡ stored v n s t → (e : Refusal) → x ≡ P.Refused e → (v ≡ J.Refuse e) × (u ≡ s)
   unfolding stored

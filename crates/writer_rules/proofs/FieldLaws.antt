@@ -26,7 +26,7 @@ use Rattle.writer_rules.specs.Given.{headBytes, given}
 use Rattle.writer_rules.specs.Texts.{typeRules, textRules, denominationRules}
 use Rattle.writer_rules.proofs.Judging.{integer-back, blob-back}
 
--- ---- read back at a place
+-- ---- a field read back at an offset
 
 module _ {X : Type 0} (s : List ℕ) (p : ℕ) (stop : Refusal → X) where
   integer-at : (w n : ℕ) (t : List ℕ) (go : ℕ → ℕ → X) → drop p s ≡ digits (suc w) n ++ t → integer (suc w) .parse s p stop go ≡ go n (p + suc w)
@@ -38,7 +38,7 @@ module _ {X : Type 0} (s : List ℕ) (p : ℕ) (stop : Refusal → X) where
   bytes-at n b go l e = blob-back n b l X s p [] stop go (e ∙ sym (append-nil b)) ∙ ap (λ (k : ℕ). go b (p + k)) l
 
 module _ {X : Type 0} (w n : ℕ) (b : List ℕ) (stop : Refusal → X) where
-  -- a number in front, and all bytes behind it
+  -- an integer at the front is read, and then all bytes after it
   integer-front : (go : ℕ → ℕ → X) → integer (suc w) .parse (digits (suc w) n ++ b) 0 stop go ≡ go n (0 + suc w)
   integer-front go = integer-at (digits (suc w) n ++ b) 0 stop w n b go refl
 
@@ -48,7 +48,7 @@ module _ {X : Type 0} (w n : ℕ) (b : List ℕ) (stop : Refusal → X) where
       let there : 0 + suc w + length b ≡ length (digits (suc w) n ++ b) = omega (arith, length-append (digits (suc w) n) b) in
       bytes-at (digits (suc w) n ++ b) (0 + suc w) stop (length b) b go refl (drop-at (digits (suc w) n) b (0 + suc w) (omega arith)) ∙ ap (go b) there
 
--- nothing is left over behind all bytes
+-- at the end of the bytes nothing is left over
 all-read : (ys : List ℕ) → pick (eqb (length ys) (length ys)) J.Allowed (refusedBy bytesAfterEnd) ≡ J.Allowed
 all-read ys = rw (eq-eqb (length ys) (length ys) refl)
 
@@ -77,7 +77,7 @@ text-judged most b =
     (bytes-behind 1 (length b) b _ _
     ∙ ap (λ (x : Verdict). pick (eqb (unprintable b) (length b)) x (refusedBy (ruleOf notPrintable))) (all-read (digits 2 (length b) ++ b)))
 
--- ---- numbers and identifiers
+-- ---- integers and identifiers
 
 pub denomination-write : (n : ℕ) → denomination .write n ≡ digits 1 n ++ []
 unfolding denomination guard integer
@@ -94,7 +94,7 @@ pub id-judged : (c : List ℕ) → length c ≡ 32 → judged (blob 32) (given c
 unfolding judged
 id-judged c e = bytes-at c 0 _ 32 c _ e refl ∙ rw (eq-eqb (0 + 32) (length c) (omega arith))
 
--- ---- a text's tests, where the code knows its first unprintable character
+-- ---- a text's tests, given the offset of its first unprintable character
 
 module _ (most : ℕ) (b : List ℕ) (x : ℕ) (p : x ≡ unprintable b) (some : 1 ≤ length b) (few : length b ≤ most) where
   pub text-fine : x ≡ length b → J.Allowed ≡ textRules most b
@@ -141,7 +141,7 @@ module _ (most «type_id» network : ℕ) (chain : List ℕ) (long : length chai
       ∙ rw (eq-eqb (0 + 2 + 4 + 4 + 32) (length headed) (sym whole)))
       ∙ find-is typeId typeOf typeOf-id types «type_id» (λ k. J.Allowed) (refusedBy (ruleOf unknownType))
 
--- ---- codec, type and network as one number of ten bytes
+-- ---- codec, type and network as one integer of ten bytes
 
 value-append : (s t : List ℕ) → value (s ++ t) ≡ value s * 256 ^ length t + value t
 unfolding value

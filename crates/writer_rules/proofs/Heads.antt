@@ -7,7 +7,7 @@ use lib.ListN.{length, take, drop, length-append, length-drop, drop-of-length-le
 use lib.Seq.{length-take-le, take-at, take-all}
 use Rattle.wire.specs.Bytes.{digits, length-digits}
 
--- a store of ys, as the y that the callee leaves of the lent part
+-- the callee leaves y in the range lent to it: if y is ys, then ys is stored there
 put-behind : (s y ys r : List ℕ) (at n : ℕ) → at ≤ length s → y ≡ ys → length ys ≡ n → take (at + n) (take at s ++ (y ++ r)) ≡ take at s ++ ys
 put-behind s y ys r at n h e l =
     rw (e, ← append-assoc) (take-at (take at s ++ ys) r (at + n) (omega (arith, length-append (take at s) ys, length-take-le at s h)))
@@ -34,7 +34,7 @@ all-put h f n l e = sym (take-all n h (omega arith)) ∙ e
 pub first-bytes : (h b : List ℕ) (n : ℕ) → take (0 + length b) h ≡ b → length b ≡ n → take n h ≡ b
 first-bytes h b n e l = let k : 0 + length b ≡ n = omega arith in ap (λ i. take i h) (sym k) ∙ e
 
--- h is g with one field more, and what of g stands before that is f
+-- h is g with one field more, and f is the bytes of g before that field
 module _ (h g f : List ℕ) (n m : ℕ) where
   pub then-bytes : (b : List ℕ) → take (m + length b) h ≡ take m g ++ b → m + length b ≡ n → take m g ≡ f → take n h ≡ f ++ b
   then-bytes b e l p = ap (λ k. take k h) (sym l) ∙ e ∙ ap (λ z. z ++ b) p

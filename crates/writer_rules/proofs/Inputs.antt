@@ -30,9 +30,9 @@ use Rattle.writer_rules.proofs.Judging.{blob-back, integer-back, rest-a
 use mir.Val.{Fits}
 use mir.Syntax.{w32}
 
--- ---- numbers of 4 bytes
+-- ---- integers of 4 bytes
 
--- what the rule for a slice of them gives
+-- each integer of the slice fits 4 bytes: what the rule for a slice of them gives
 abbrev pub Words : List ℕ → Type 0
 Words l = (j : ℕ) → Fits w32 (getD l j 0)
 
@@ -43,7 +43,7 @@ words-narrow : (l : List ℕ) → Words l → All Narrow l
 words-narrow [] h = tt
 words-narrow (n ∷ l) h = (omega (arith, h 0), words-narrow l (λ j. h (suc j)))
 
--- they are in order as their bytes are
+-- integers of 4 bytes are in the same order as their bytes
 above-rising : (m : ℕ) (l : List ℕ) → Narrow m → All Narrow l → eachAbove (integer 4) (digits 4 m) l ≡ rising (m ∷ l)
 unfolding eachAbove rising integer
 above-rising m [] h k = refl
@@ -65,7 +65,7 @@ one-rises [] h = refl
 one-rises (m ∷ []) h = refl
 one-rises (m ∷ (n ∷ l)) h = absurd (omega arith)
 
--- what is left from the number before i on is in order, or not, as the whole is: y
+-- y tells whether the integers from index i - 1 on are in order
 module _ (l : List ℕ) (i : ℕ) (y : Bool) (some : 1 ≤ i) (w : rising (drop (i - 1) l) ≡ y) where
   next-two : i < length l → drop (i - 1) l ≡ getD l (i - 1) 0 ∷ (getD l i 0 ∷ drop (suc i) l)
   next-two h =
@@ -93,18 +93,18 @@ module _ (txid : List ℕ) (index : ℕ) (asset : List ℕ) (amount : ℕ) (indi
   abbrev pub written : List ℕ
   written = input [] .write (inputOf txid index asset amount indices)
 
-  -- an input is its head and its indices
+  -- an input's bytes are its head and its indices
   pub written-input : written ≡ inputHead txid index asset amount (length indices) ++ integersBytes indices
   unfolding inputAfter key spend constant Outputs.amount Inputs.indices guard items integer blob inputHead
   written-input = simp append-assoc (rw (integers-written [] indices))
 
-  -- a head that was built stands before the indices
+  -- the input's bytes are the head that the code has built and the indices
   pub input-bytes : (head : List ℕ) → head ≡ inputHead txid index asset amount (length indices % 256 ^ 4) → length indices < 256 ^ 4
       → inputGiven txid index asset amount indices .bytes ≡ head ++ integersBytes indices
   input-bytes head e h = written-input ∙ ap (λ r. r ++ integersBytes indices) (sym (e ∙ ap (inputHead txid index asset amount) (mod-eq-of-lt h)))
 
   module _ (prev : List ℕ) where
-    -- the rules, in the order of judging
+    -- the rules, in the order in which they are judged
     abbrev rules : List ℕ → Bool → Verdict
     rules id ordered =
         pick (below (take 36 prev) id)
@@ -131,7 +131,7 @@ module _ (txid : List ℕ) (index : ℕ) (asset : List ℕ) (amount : ℕ) (indi
         let (p, e) = list-back (integer 4) Narrow (λ v h. integer-back 3 v) [] indices written _ [] _ _ narrow (r₆ .there ∙ sym (append-nil w)) in
         e ∙ test-alike (eachAbove (integer 4) [] indices) _ _ _ (ap (λ b. pick b J.Allowed (refusedBy bytesAfterEnd)) (eq-eqb _ _ (r₆ .ends)))))
 
-    -- the verdict z, by the tests of the code
+    -- a verdict z reached by the code's tests is the verdict of the format
     pub as-input : (z : Verdict) → length txid ≡ 32 → length asset ≡ 32 → Words indices → z ≡ rules (txid ++ digits 4 index) (rising indices)
         → z ≡ judged (input prev) (inputGiven txid index asset amount indices) J.Allowed
     unfolding judged key blob integer
@@ -139,7 +139,7 @@ module _ (txid : List ℕ) (index : ℕ) (asset : List ℕ) (amount : ℕ) (indi
         let narrow = words-narrow indices words in
         e ∙ ap (rules (txid ++ digits 4 index)) (sym (all-rising indices narrow)) ∙ sym (input-parse h k narrow)
 
--- what the calls answered, t
+-- the verdict z, by what a call answered, t
 module _ (t : Bool) (z x y : Verdict) where
   pub if-rise : (l : List ℕ) → t ≡ rising l → not t ≡ false → z ≡ x → z ≡ pick (rising l) x y
   if-rise l i j e = rw (found i (not-false t j)) e
@@ -147,7 +147,7 @@ module _ (t : Bool) (z x y : Verdict) where
   pub if-fall : (l : List ℕ) → t ≡ rising l → not t ≡ true → z ≡ y → z ≡ pick (rising l) x y
   if-fall l i j e = rw (found i (not-true t j)) e
 
-  -- the key stands first in the head
+  -- the key is the first 36 bytes of the head
   module _ (prev txid : List ℕ) (index : ℕ) (asset : List ℕ) (amount count : ℕ) (head p k : List ℕ) (h : length txid ≡ 32)
       (e : head ≡ inputHead txid index asset amount count)
       (f : p ≡ between 0 36 prev) (g : k ≡ between 0 36 head) (i : t ≡ below p k) where

@@ -19,7 +19,7 @@ use Rattle.wire.specs.Series.{listParse, listWrite, items, left, above}
 use Rattle.wire.specs.Orders.{All}
 use Rattle.writer_rules.specs.Elements.{eachAbove}
 
--- ---- F reads a back wherever it is written
+-- ---- F reads a back at any offset at which it is written
 
 abbrev pub Back : {A : Type 0} → Format A → A → Type 1
 Back {A} F a = (R : Type 0) (s : List ℕ) (at : ℕ) (t : List ℕ) (stop : Refusal → R) (go : A → ℕ → R) → drop at s ≡ F .write a ++ t
@@ -31,7 +31,7 @@ blob-back n b h R s at t stop go e =
     let fits : n ≤ length s - at = omega (arith, simp (length-drop, length-append) at (ap length e)) in
     rw (le-leb n (length s - at) fits, e, take-at b t n h, h)
 
--- a number too large for its width is read back all the same: its first digit is no byte
+-- an integer too large for its width is read back as well: its first digit is no byte
 value-back : (w v : ℕ) → value (digits (suc w) v) ≡ v
 unfolding digits value
 value-back w v = rw (length-digits w (v % 256 ^ w), value-digits w (v % 256 ^ w) (mod-lt v (pow-positive w))) (div-add-mod' v (256 ^ w))
@@ -44,7 +44,7 @@ integer-back w v R s at t stop go e =
 
 -- ---- one field after the other
 
--- t is what is left of s
+-- t is what s has from offset at on
 pub record Rest (s : List ℕ) (at : ℕ) (t : List ℕ) : Type 0 where
   pub there : drop at s ≡ t
   pub ends : at + length t ≡ length s
@@ -65,15 +65,15 @@ module _ {A R : Type 0} (F : Format A) (a : A) (back : Back F a) (s : List ℕ) 
 pub test-alike : {R : Type 0} (b : Bool) (x y z : R) → x ≡ y → pick b x z ≡ pick b y z
 test-alike b x y z e = ap (λ r. pick b r z) e
 
--- ---- a list whose elements strictly increase: it goes on where each is above the one before, and is refused as out of order at some place else
+-- ---- a list whose elements strictly increase: it is read if each is above the one before, and else refused as out of order at some place
 
--- a test, and those behind it
+-- one test, and then the tests after it
 tested : {R : Type 0} (b c : Bool) (at : ℕ) (x y z : R) (stop : Refusal → R) → z ≡ pick b x (stop (by outOfOrder at))
     → (p : ℕ) × (x ≡ pick c y (stop (by outOfOrder p))) → (p : ℕ) × (z ≡ pick (pick b c false) y (stop (by outOfOrder p)))
 tested true c at x y z stop e (p, q) = (p, e ∙ q)
 tested false c at x y z stop e (p, q) = (at, e)
 
--- its bytes
+-- the list's bytes
 abbrev pub listBytes : {A : Type 0} → Format A → List ℕ → List A → List ℕ
 listBytes F prev l = items (above F) (left (above F)) prev (length l) .write l
 

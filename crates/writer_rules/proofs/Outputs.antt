@@ -32,9 +32,9 @@ use Rattle.writer_rules.specs.Given.{addressesOf, outputOf, outputGiven}
 use Rattle.writer_rules.specs.Elements.{outputFront, outputHead, eachAbove}
 use Rattle.writer_rules.proofs.Judging.{blob-back, integer-back, rest-all, rest-as, field-back, test-alike, listBytes, list-back}
 
--- ---- addresses, one behind the other
+-- ---- addresses, one after the other
 
--- the whole addresses of a slice
+-- the addresses of a slice that are complete
 abbrev listOf : List ℕ → List (List ℕ)
 listOf s = addressesOf (length s / 20) s
 
@@ -48,7 +48,7 @@ unfolding addressesOf
 addresses-sized zero s h = tt
 addresses-sized (suc n) s h = (length-take-le 20 s (omega arith), addresses-sized n (drop 20 s) (rw length-drop (omega arith)))
 
--- they are written as they stand
+-- the addresses are written as they are in the slice
 addresses-written : (n : ℕ) (prev s : List ℕ) → 20 * n ≤ length s → s ≡ listBytes (blob 20) prev (addressesOf n s) ++ drop (20 * n) s
 unfolding addressesOf items listWrite guard blob
 addresses-written zero prev s h = refl
@@ -58,7 +58,7 @@ addresses-written (suc n) prev s h =
     sym (take-append-drop 20 s) ∙ ap (λ r. take 20 s ++ r) (addresses-written n (take 20 s) (drop 20 s) (rw length-drop (omega arith)))
     ∙ sym (append-assoc (take 20 s) w (drop (20 * n) (drop 20 s))) ∙ ap (λ r. take 20 s ++ w ++ r) (drop-drop (20 * n) 20 s ∙ ap (λ k. drop k s) (sym m))
 
--- what the reading of a slice of addresses, x, was found to be says whether they are in order
+-- x is the answer of reading a slice of addresses: it tells whether they are in order
 module _ (s : List ℕ) (x : End) (e : x ≡ ended (increasing (blob 20) (length s / 20)) s 0) where
   addresses-read : (p : ℕ) × (m : ℕ) × (x ≡ pick (eachAbove (blob 20) [] (listOf s)) (P.At m) (P.Refused (by outOfOrder p)))
   addresses-read =
@@ -99,14 +99,14 @@ module _ (asset : List ℕ) (amount locktime threshold : ℕ) (addresses : List 
       let e : addresses ≡ w = addresses-written (length addresses / 20) [] addresses (omega arith) ∙ ap (λ r. w ++ r) none ∙ append-nil w in
       rw (length-addressesOf (length addresses / 20) addresses, ← e) (simp append-assoc)
 
-  -- a head that was built stands before the addresses
+  -- the output's bytes are the head that the code has built and the addresses
   pub output-bytes : (head : List ℕ) → head ≡ outputHead asset amount locktime threshold (length addresses / 20 % 256 ^ 4) → length addresses % 20 ≡ 0
       → length addresses / 20 < 256 ^ 4 → head ++ addresses ≡ outputGiven asset amount locktime threshold addresses .bytes
   output-bytes head e h k =
       ap (λ r. r ++ addresses) (e ∙ ap (outputHead asset amount locktime threshold) (mod-eq-of-lt k)) ∙ built-written h
 
   module _ (prev : List ℕ) where
-    -- the rules behind the one on the slice's length, in the order of judging
+    -- the rules after the one on the slice's length, in the order in which they are judged
     abbrev rules : ℕ → List ℕ → Verdict
     rules count ys =
         pick (ltb 0 amount)
@@ -150,13 +150,13 @@ module _ (asset : List ℕ) (amount locktime threshold : ℕ) (addresses : List 
         whole true e = rw (length-addressesOf (length addresses / 20) addresses, built-written (eqb-true (length addresses % 20) 0 e))
         whole false e = refl
 
-    -- the verdict z, by the tests of the code
+    -- a verdict z reached by the code's tests is the verdict of the format
     pub as-output : (z : Verdict) → length asset ≡ 32
         → z ≡ pick (eqb (length addresses % 20) 0) (rules (length addresses / 20) built) (refusedBy (ruleOf cutShort))
         → z ≡ judged (notBelow transferableOutput prev) (outputGiven asset amount locktime threshold addresses) J.Allowed
     as-output z h e = e ∙ sym (output-judged h)
 
--- what the calls answered, t
+-- the verdict z, by what a call answered, t
 module _ (t : Bool) (z x y : Verdict) where
   pub if-rise : (l : List (List ℕ)) → t ≡ eachAbove (blob 20) [] l → not t ≡ false → z ≡ x → z ≡ pick (eachAbove (blob 20) [] l) x y
   if-rise l i j e = rw (found i (not-false t j)) e

@@ -16,11 +16,11 @@ use Rattle.wire.specs.Order.{order, keyBelow}
 use Rattle.wire.proofs.Bytes.{Slice, slice-bytes, orElse, order-key}
 use Rattle.writer_rules.specs.Elements.{outputFront, outputHead}
 
--- a is below b, or t where neither is below the other
+-- whether a is below b, and t if neither is below the other
 abbrev decided : List ℕ → List ℕ → Bool → Bool
 decided a b t = pick (below a b) true (pick (below b a) false t)
 
--- the first piece decides, or else the second
+-- the first piece decides; if it is equal, the second does
 below-pieces : (a c p : List ℕ) → below (a ++ c) p ≡ decided a (take (length a) p) (below c (drop (length a) p))
 unfolding below
 below-pieces [] c p = refl
@@ -35,7 +35,7 @@ below-pieces (x ∷ a) c (y ∷ p) = cases (ltb x y) (ltb y x) (below-pieces a c
     cases false true e = refl
     cases false false e = e
 
--- where the second piece is below nothing, the first decides alone
+-- if the second piece is below nothing, the first decides alone
 first-decides : (a c p : List ℕ) → below c (drop (length a) p) ≡ false → below a (take (length a) p) ≡ below (a ++ c) p
 first-decides a c p e =
     cases (below a (take (length a) p)) (below (take (length a) p) a) ∙ ap (decided a (take (length a) p)) (sym e) ∙ sym (below-pieces a c p)
@@ -45,7 +45,7 @@ first-decides a c p e =
     cases false true = refl
     cases false false = refl
 
--- the order x of a and b was found to be o
+-- the order of a and b, as the call answered it, decides
 order-then : (a b : List ℕ) (x o : Order) → x ≡ order a b → x ≡ o → (t : Bool) → orElse o t ≡ decided a b t
 unfolding keyBelow
 order-then a b x o p q true = order-key a b x o p q (orElse o true) 0 1 refl
@@ -73,7 +73,7 @@ unfolding below
 digit-below x c [] b h = refl
 digit-below x c (y ∷ p) b h = rw (le-ltb x y (omega arith), lt-ltb y x (omega arith))
 
--- the first digit of a number too large for its width is above every byte
+-- the first digit of an integer too large for its width is above every byte
 large-below : (n : ℕ) (c p : List ℕ) → Bytes p → 256 ^ 4 ≤ n → below (digits 4 n ++ c) p ≡ false
 unfolding digits
 large-below n c p b h = digit-below (n / 256 ^ 3) (digits 3 (n % 256 ^ 3) ++ c) p b (le-div-iff-mul-le (zero-lt-suc _) .1 (omega arith))
@@ -87,7 +87,7 @@ module _ (prev asset : List ℕ) (amount locktime threshold count : ℕ) (addres
       → y ≡ below (outputHead asset amount locktime threshold count ++ addresses) prev
   output-few h e i = i ∙ ap (λ r. below (r ++ addresses) prev) (e ∙ ap (outputHead asset amount locktime threshold) (mod-eq-of-lt (omega arith)))
 
-  -- of more addresses than four bytes count, the bytes in front of the count decide
+  -- if there are more addresses than four bytes can count, the bytes before the count decide
   pub output-many : Slice prev → length asset ≡ 32 → (f p : List ℕ) → 4294967295 < count → head ≡ outputHead asset amount locktime threshold (count % 256 ^ 4)
       → f ≡ between 0 56 head → p ≡ between 0 56 prev → y ≡ below f p → y ≡ below (outputHead asset amount locktime threshold count ++ addresses) prev
   unfolding outputHead

@@ -30,10 +30,10 @@ pub both-true : (a b : Bool) → (a && b) ≡ true → (a ≡ true) × (b ≡ tr
 both-true true b e = (refl, e)
 both-true false b e = let z : _≡_ {A = ℕ} 0 1 = cc in absurd (omega arith)
 
--- ---- what is judged
+-- ---- the verdict on bytes that are given
 
 module _ {A : Type 0} (F : Format A) (g : Given) (v : Verdict) where
-  -- what a result comes to
+  -- the verdict that follows from a result
   abbrev pub verdictOf : Result A → Verdict
   verdictOf o = onResult o (λ e. refusedBy (e .rule)) (λ a m. pick (eqb m (length (g .bytes))) v (refusedBy bytesAfterEnd))
 
@@ -57,14 +57,14 @@ module _ {A : Type 0} (F : Format A) (g : Given) (v : Verdict) where
   pub judged-then : judged F g v ≡ J.Allowed → v ≡ J.Allowed
   judged-then e = took-fine e .2
 
-  -- what is judged fine is the writing of a good value
+  -- bytes that are allowed are those of a good value
   pub judged-inv : judged F g v ≡ J.Allowed → Bytes (g .bytes) → (a : A) × F .Good a × (F .write a ≡ g .bytes)
   judged-inv e bs =
       let (a, r, _) = took-fine e in
       let (good, st) = F .sound (g .bytes) 0 a (length (g .bytes)) bs r in
       (a, good, sym (st .there ∙ ap (λ x. F .write a ++ x) (drop-length (g .bytes)) ∙ append-nil (F .write a)))
 
--- and the writing of a good value is judged fine
+-- the bytes of a good value keep every rule of the format: the verdict on them is v
 pub judged-own : {A : Type 0} (F : Format A) (a : A) (v : Verdict) → F .Good a → judged F (given (F .write a)) v ≡ v
 unfolding judged
 judged-own F a v h =

@@ -12,7 +12,7 @@ use Rattle.writer_blank.proofs.Ending.{close-short, close-refused, clos
 use Rattle.writer_blank.proofs.append.Statement.{statement}
 use Rattle.writer_blank.proofs.append.Tie as tie
 
--- a refusal f that the code has made by a call, where the definition has d
+-- the refusal f that a call made is d, the one in the definition
 made : (s : List ℕ) (f d : Refusal) → f ≡ d → (y : End × List ℕ) → (P.Refused d, s) ≡ y → (P.Refused f, s) ≡ y
 made s f d e y h = ap (λ (r : Refusal). (P.Refused r, s)) e ∙ h
 

@@ -1,4 +1,4 @@
--- `writer_blank::blanks_end` meets its contract. The invariant: what is left, from here, gives the whole. Assumes nothing.
+-- `writer_blank::blanks_end` meets its contract. The invariant: the end of the credentials that are left is the end of all. Assumes nothing.
 use Prim.Native.Nat.{_≤_}
 use mathlib.Core.Path.{_≡_}
 use native.Mathlib.Omega.{arith}

@@ -1,4 +1,4 @@
--- `writer_blank::put_blanks` meets its contract. The invariant: what is left to write, from here, makes the whole. Assumes nothing.
+-- `writer_blank::put_blanks` meets its contract. The invariant: writing the credentials that are left completes the writing of all. Assumes nothing.
 use native.Mathlib.Omega.{arith}
 use lib.ListN.{length-take}
 use borrow.Author.Needs.{needs}

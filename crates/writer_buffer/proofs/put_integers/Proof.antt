@@ -1,4 +1,4 @@
--- `writer_buffer::put_integers` meets its contract. The invariant: putting the numbers that are left is putting them all.
+-- `writer_buffer::put_integers` meets its contract. The invariant: writing the integers that are left completes the writing of all of them.
 -- Assumes nothing.
 use Prim.Native.Nat.{_+_, _-_, _*_, _≤_}
 use mathlib.Core.Path.{_≡_, refl, ap}

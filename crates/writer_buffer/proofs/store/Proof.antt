@@ -11,7 +11,7 @@ use Rattle.writer_buffer.proofs.store.Tie as tie
 abbrev start-of : tie.After-enum-told → tie.Start
 start-of told = search
 
--- where room was found, the lengths add up within the buffer
+-- if there is room, the lengths add up to an end inside the buffer
 sum : (told : tie.After-enum-told) → let a = start-of told .args in
     a .at + length (a .first .now) + length (a .second .now) + 4 * length (a .numbers .now) ≤ length (a .buf .now)
 sum told =

@@ -1,4 +1,4 @@
--- `writer_rules::transfers::indices_rise` meets its contract. The invariant: the numbers from the one before here on rise, or not, as all do.
+-- `writer_rules::transfers::indices_rise` meets its contract. The invariant: the integers from the one before i on rise exactly if all of them do.
 -- Assumes nothing.
 use Prim.Native.Nat.{_-_, _≤_}
 use mathlib.Core.Path.{_≡_, refl}
