@@ -25,9 +25,9 @@ module _ (w : Writer) (s : List ℕ) where
   unfolding prev
   last-there t h e = rw (ne-eqb (w .count) 0 e) h
 
--- ---- a step that is barred
+-- ---- a step that is refused
 
--- what bars a step is what it answers
+-- a step answers the refusal that its verdict gives, and changes nothing
 pub kept-out : (w : Writer) (s : List ℕ) (v : Verdict) (w′ : Writer) (s′ : List ℕ) (d : Refusal) → v ≡ J.Refuse d → (r : Step) → r ≡ refusedStep w d
     → after r s ≡ answered v w s w′ s′
 unfolding answered

@@ -26,7 +26,7 @@ use Rattle.writer.specs.Code.{after, notDueStep}
 use Rattle.writer.proofs.Laws.{guarded-not}
 use Rattle.writer.proofs.Entering.{kept-out}
 
--- ---- names by their numbers
+-- ---- names by their codes
 
 abbrev fieldAt : ℕ → FieldName
 fieldAt n = pick (eqb n 0) F.Memo (pick (eqb n 1) F.Name (pick (eqb n 2) F.Symbol (pick (eqb n 3) F.Denomination F.Chain)))
@@ -41,12 +41,12 @@ fieldAt-code F.Chain = refl
 pub same-field : (f h : FieldName) → sameField f h ≡ true → h ≡ f
 same-field f h e = sym (fieldAt-code h) ∙ ap fieldAt (sym (eqb-true (fieldCode f) (fieldCode h) e)) ∙ fieldAt-code f
 
--- lists of the same number judge an element alike
+-- lists with the same code judge an element alike
 module _ (last : List ℕ) (g : Given) (v : Verdict) where
   abbrev listJudged : ListName → Verdict
   listJudged l = judged (elementsOf l .element last) g v
 
-  -- by a list's number
+  -- the verdict by a list's code
   abbrev integerJudged : ℕ → Verdict
   integerJudged n = listJudged (pick (eqb n 0) L.Output (pick (eqb n 1) L.Input (pick (eqb n 2) L.State L.Operation)))
 
@@ -80,11 +80,11 @@ module _ (most : ℕ) (w : Writer) (s : List ℕ) (f : FieldName) (g : Given) wh
   other-field r h (field k q) e = kept-out w s _ _ _ _ (guarded-not (sameField f k) w s _ e) r h
   other-field r h (many l least q) e = kept-out w s (refusedBy stepNotDue) w s _ refl r h
 
-  -- what bars the field once it is due, where a list is next or not
+  -- the verdict on the field once it is due; `opens` says whether a list is next
   abbrev pub fieldVerdict : Bool → Verdict
   fieldVerdict opens = guarded true w s (judged (contentOf most f) g (roomFor (w .at + length (g .bytes ++ countOf opens)) s))
 
-  -- the step that is due
+  -- the step where the field is due
   abbrev pub fieldStep : Verdict → Bool → Turn
   fieldStep v opens =
       answered v w s
@@ -134,7 +134,7 @@ module _ (w : Writer) (s : List ℕ) (l : ListName) (g : Given) where
   other-list r h (field f q) e = kept-out w s (refusedBy stepNotDue) w s _ refl r h
   other-list r h (many m least q) e = kept-out w s _ _ _ _ (guarded-not (sameList l m && sane w) w s _ e) r h
 
-  -- what bars the element once it is due
+  -- the verdict on the element once it is due
   abbrev pub elementVerdict : Verdict
   elementVerdict = guarded true w s (judged (elementsOf l .element (prev w s)) g (roomFor (w .at + length (g .bytes)) s))
 

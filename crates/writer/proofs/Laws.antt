@@ -29,14 +29,14 @@ guarded-not t w s v e = rw e
 pub guarded-short : (t : Bool) (w : Writer) (s : List ℕ) (v : Verdict) → t ≡ true → length s < w .at → guarded t w s v ≡ refusedBy noRoom
 guarded-short t w s v e h = rw (e, lt-leb (w .at) (length s) h)
 
--- what holds of state and buffer holds after the step, if it held before and holds where the step is done
+-- P holds of state and buffer after the step if it holds before and, where the step is done, of what the step leaves
 pub answered-keeps : (P : Writer → List ℕ → Type 1) (v : Verdict) (w : Writer) (s : List ℕ) (w′ : Writer) (s′ : List ℕ) → P w s → (v ≡ J.Allowed → P w′ s′)
     → P (answered v w s w′ s′ .step .next) (answered v w s w′ s′ .buffer)
 unfolding answered
 answered-keeps P J.Allowed w s w′ s′ h k = k refl
 answered-keeps P (J.Refuse d) w s w′ s′ h k = h
 
--- ---- a test the other way round
+-- ---- a negated test
 
 pub not-true : (t : Bool) → not t ≡ true → t ≡ false
 not-true true e = sym e

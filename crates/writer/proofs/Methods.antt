@@ -54,11 +54,11 @@ use Rattle.writer.proofs.Naming.{next-opens, field-barred, field-is, el
 use Rattle.writer_buffer.specs.Stores.{roomFor, overwrite, countOf, stored}
 use Rattle.writer.proofs.Settling.{store-refused, store-done}
 
--- a number that fits its digits
+-- an integer that fits its width is written without truncation
 fits-digits : (w n m : ℕ) → n ≤ m → m < 256 ^ w → digits w (n % 256 ^ w) ≡ digits w n
 fits-digits w n m h k = ap (digits w) (mod-eq-of-lt (omega arith))
 
--- where a text's rules hold, it is not longer than allowed
+-- a text that keeps its rules is not longer than allowed
 text-short : (long : ℕ) (b : List ℕ) → textRules long b ≡ J.Allowed → length b ≤ long
 text-short long b e =
     let (_, e₁) = pick-fine (ltb 0 (length b)) _ (ruleOf badLength) e in
@@ -66,12 +66,12 @@ text-short long b e =
 
 -- ---- fields
 
--- t has let the step in, the buffer has the bytes written, and x are the rules
+-- the field is due, the bytes written are inside the buffer, and x is the verdict of the rules
 module _ (most : ℕ) (w : Writer) (s : List ℕ) (t : Bool) (n : not t ≡ false) (long : w .at ≤ length s) (x : Verdict) where
   abbrev IsDue : FieldName → Type 0
   IsDue f = t ≡ isField f (dueAt w)
 
-  -- the bytes zs are put
+  -- the step writes the bytes zs
   abbrev Puts : Step → List ℕ → List ℕ → Type 0
   Puts r u zs = after r u ≡ segmentStep w s zs (opensNext w)
 
@@ -140,11 +140,11 @@ chain-is most w s t n long p c e r u h = field-is w s F.Chain t p n most (given 
 -- ---- closing a list
 
 module _ (w : Writer) (s : List ℕ) where
-  -- what bars the close of a list that is due, where another is next or not
+  -- the verdict on closing the list that is due; `opens` says whether another list is next
   abbrev closeVerdict : ℕ → Bool → Verdict
   closeVerdict least opens = guarded true w s (pick (leb least (w .count)) (roomFor (w .at + length (countOf opens)) s) (refusedBy (ruleOf emptyList)))
 
-  -- the close that is due
+  -- the step where a list is due
   abbrev closeStep : Verdict → Bool → Turn
   closeStep v opens =
       answered v w s record { «type_id» = w .«type_id»; phase = suc (w .phase); at = w .at + length (countOf opens); list = w .at; count = 0; last = 0 }
@@ -164,7 +164,7 @@ module _ (w : Writer) (s : List ℕ) where
       i (sym (opening-is q))
 
   module _ (x : Due) (p : x ≡ dueAt w) where
-    -- no list is open
+    -- no list is due
     pub close-not : (most : ℕ) (d : Due) → x ≡ d → isList d ≡ false → (r : Step) → r ≡ notDueStep w → after r s ≡ close (avm most) w s
     unfolding close closeAt answered
     close-not most d e n r h = go (due (w .phase) (planOf (w .«type_id»))) (ap isList (sym p ∙ e) ∙ n)
@@ -258,7 +258,7 @@ module _ (most : ℕ) (w : Writer) (s : List ℕ) («type_id» network : ℕ) (c
 
 -- ---- elements given as fields
 
--- a head has its width
+-- a head has a fixed width
 pub output-head-wide : (asset : List ℕ) (amount locktime threshold count : ℕ) → length asset ≡ 32 → (head : List ℕ)
     → head ≡ outputHead asset amount locktime threshold count → length head ≡ 60
 unfolding outputHead outputFront
@@ -269,7 +269,7 @@ pub input-head-wide : (txid : List ℕ) (index : ℕ) (asset : List ℕ) (amount
 unfolding inputHead
 input-head-wide txid index asset amount count h k head e = ap length e ∙ simp (length-append, length-digits) (omega arith)
 
--- a head is as long for every count
+-- a head's length does not depend on the count
 head-long : (asset : List ℕ) (amount locktime threshold m n : ℕ)
     → length (outputHead asset amount locktime threshold m) ≡ length (outputHead asset amount locktime threshold n)
 unfolding outputHead
@@ -286,7 +286,7 @@ module _ (most : ℕ) (w : Writer) (s : List ℕ) (asset : List ℕ) (amount loc
   abbrev outputRules : List ℕ → Verdict
   outputRules last = judged (notBelow transferableOutput last) (outputGiven asset amount locktime threshold addresses) J.Allowed
 
-  -- where the rules hold the addresses are whole
+  -- if the rules hold, the addresses are complete
   whole-addresses : (last : List ℕ) → outputRules last ≡ J.Allowed → length addresses % 20 ≡ 0
   whole-addresses last e =
       eqb-true (length addresses % 20) 0

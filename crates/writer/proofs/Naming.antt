@@ -30,7 +30,7 @@ use Rattle.writer.proofs.Laws.{guarded-fine, guarded-short, not-true, n
 use Rattle.writer.proofs.Entering.{kept-out}
 use Rattle.writer.proofs.Fitting.{other-field, fieldVerdict, fieldStep, field-put, other-list, elementVerdict, element-put}
 
--- ---- the part behind the one that is due
+-- ---- the segment after the one that is due
 
 module _ (t : Due → Bool) (none : t D.Nothing ≡ false) where
   live : (q : Plan) → t (dueOf q) ≡ true → Live q
@@ -47,7 +47,7 @@ module _ (t : Due → Bool) (none : t D.Nothing ≡ false) where
 
 -- ---- fields
 
--- t tells whether the field is due
+-- t says whether the field is due
 module _ (w : Writer) (s : List ℕ) (f : FieldName) (t : Bool) (ht : t ≡ isField f (dueAt w)) where
   pub field-not : not t ≡ true → (r : Step) → r ≡ notDueStep w → (most : ℕ) (g : Given) → after r s ≡ putField (avm most) w s f g
   unfolding putField
@@ -69,7 +69,7 @@ module _ (w : Writer) (s : List ℕ) (f : FieldName) (t : Bool) (ht : t ≡ isFi
       pub field-short : length s < w .at → (r : Step) → r ≡ noRoomStep w → after r s ≡ putField (avm most) w s f g
       field-short k r h = kept-out w s _ _ _ _ (guarded-short true w s _ refl k) r h ∙ field-here
 
-      -- x are the field's rules
+      -- x is the verdict of the field's rules
       module _ (long : w .at ≤ length s) (x : Verdict) (hx : x ≡ judged (contentOf most f) g J.Allowed) where
         abbrev room : Verdict
         room = roomFor (w .at + length (g .bytes ++ countOf (opensNext w))) s
@@ -81,7 +81,7 @@ module _ (w : Writer) (s : List ℕ) (f : FieldName) (t : Bool) (ht : t ≡ isFi
         pub field-barred : (d : Refusal) → x ≡ J.Refuse d → (r : Step) → r ≡ refusedStep w d → after r s ≡ putField (avm most) w s f g
         field-barred d e r h = kept-out w s _ _ _ d (field-judged (J.Refuse d) e) r h ∙ field-here
 
-        -- the code has made zs of it
+        -- zs is what the code has written of the field
         pub field-is : x ≡ J.Allowed → (zs : List ℕ) → zs ≡ g .bytes → (r : Step) (u : List ℕ) → after r u ≡ segmentStep w s zs (opensNext w)
             → after r u ≡ putField (avm most) w s f g
         field-is e zs hz r u h =
@@ -90,7 +90,7 @@ module _ (w : Writer) (s : List ℕ) (f : FieldName) (t : Bool) (ht : t ≡ isFi
 
 -- ---- elements
 
--- the bytes of an element matter only where it is not longer than a transaction
+-- the bytes of an element matter only if it is not longer than a transaction
 element-bytes : (w : Writer) (s ys zs : List ℕ) → length ys ≡ length zs → (length ys ≤ mostBytes → ys ≡ zs) → elementStep w s ys ≡ elementStep w s zs
 unfolding answered
 element-bytes w s ys zs long e = go (roomFor (w .at + length ys) s) refl
@@ -102,7 +102,7 @@ element-bytes w s ys zs long e = go (roomFor (w .at + length ys) s) refl
         ap (λ (v : Verdict). answered v w s (grown w (length ys)) (appended w s ys)) f
         ∙ ap (λ (v : Verdict). answered v w s (grown w (length zs)) (appended w s zs)) (sym k)
 
--- t tells whether the element is due
+-- t says whether the element is due
 module _ (w : Writer) (s : List ℕ) (l : ListName) (t : Bool) (ht : t ≡ (isOpen l (dueAt w) && sane w)) where
   pub element-not : not t ≡ true → (r : Step) → r ≡ notDueStep w → (most : ℕ) (g : Given) → after r s ≡ putElement (avm most) w s l g
   unfolding putElement
@@ -123,7 +123,7 @@ module _ (w : Writer) (s : List ℕ) (l : ListName) (t : Bool) (ht : t ≡ (isOp
       pub element-short : length s < w .at → (r : Step) → r ≡ noRoomStep w → after r s ≡ putElement (avm most) w s l g
       element-short k r h = kept-out w s _ _ _ _ (guarded-short true w s _ refl k) r h ∙ element-here
 
-      -- x are the element's rules
+      -- x is the verdict of the element's rules
       module _ (long : w .at ≤ length s) (x : Verdict) (hx : x ≡ judged (elementsOf l .element (prev w s)) g J.Allowed) where
         abbrev space : Verdict
         space = roomFor (w .at + length (g .bytes)) s
@@ -135,7 +135,7 @@ module _ (w : Writer) (s : List ℕ) (l : ListName) (t : Bool) (ht : t ≡ (isOp
         pub element-barred : (d : Refusal) → x ≡ J.Refuse d → (r : Step) → r ≡ refusedStep w d → after r s ≡ putElement (avm most) w s l g
         element-barred d e r h = kept-out w s _ _ _ d (element-judged (J.Refuse d) e) r h ∙ element-here
 
-        -- the code has made zs of it
+        -- zs is what the code has written of the element
         pub element-is : x ≡ J.Allowed → (zs : List ℕ) → length zs ≡ length (g .bytes) → (length zs ≤ mostBytes → zs ≡ g .bytes)
             → (r : Step) (u : List ℕ) → after r u ≡ elementStep w s zs → after r u ≡ putElement (avm most) w s l g
         element-is e zs same i r u h =

@@ -32,7 +32,7 @@ module _ (v : Verdict) (n : ℕ) (w : Writer) (s t : List ℕ) (x : End) (u : Li
   unfolding answered
   store-refused t′ e q h = let (i, j) = told-refused n s t x u v p e q in rw i (ap₂ after h j)
 
-  -- f is the state behind a place
+  -- f gives the writer's state, by the offset just past what was stored
   pub store-done : (f : ℕ → Writer) (m : ℕ) → x ≡ P.At m → r ≡ storedStep (f m) → f n ≡ w′ → after r u ≡ answered v w s w′ t
   unfolding answered
   store-done f m q h g = let (i, k, j) = told-next n s t x u v p m q in rw i (ap₂ after (h ∙ ap (λ (a : ℕ). storedStep (f a)) k ∙ ap storedStep g) j)
@@ -66,7 +66,7 @@ module _ (w : Writer) (s : List ℕ) (first second : List ℕ) (opens : Bool) (f
     pub settle-refused : (e : Refusal) → x ≡ P.Refused e → (r : Step) → r ≡ refusedStep w e → after r u ≡ settled w s (first ++ second) opens from
     settle-refused e q r h = store-refused _ _ w s _ x u stores _ r _ e q h
 
-    -- the count is behind the field, and four bytes long
+    -- the end m is past the count, which has four bytes
     pub settle-place : (m : ℕ) → x ≡ P.At m → 4 * k ≤ m
     settle-place m q =
         let (_, i, _) = told-next _ s _ x u _ stores m q in
@@ -98,7 +98,7 @@ segment-settled w s ys opens o r u h =
 
 -- ---- an element
 
--- the tests of `sane`
+-- what `sane` says
 pub sane-inv : (w : Writer) → sane w ≡ true → (w .list + 4 ≤ w .at) × (w .count < 65536)
 sane-inv w e =
     let (a, b) = both-true (leb (w .list + 4) (w .at)) _ e in

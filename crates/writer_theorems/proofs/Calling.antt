@@ -70,7 +70,7 @@ module _ (most : ℕ) where
   actOf C.close = closes
   actOf C.finish = finishes
 
-  -- whatever state and buffer it is given
+  -- call and step agree on every state and buffer
   abbrev Does : Call → Act → Type 0
   Does c a = (w : Writer) (s : List ℕ) → call most c w s ≡ act (avm most) a w s
 
@@ -88,7 +88,7 @@ module _ (most : ℕ) where
   call-is C.close w s = refl
   call-is C.finish w s = refl
 
-  -- each call is the step at its place
+  -- the calls are the steps, one by one
   abbrev Do : List Call → List Act → Type 0
   Do [] [] = Unit {0}
   Do [] (a ∷ m) = ⊥
@@ -121,18 +121,18 @@ module _ (most : ℕ) where
   do-finish : (l : List Call) (m : List Act) → Do l m → (s : List ℕ) → C.finishBehind most l s ≡ finishBehind (avm most) m s
   do-finish l m h s = ap (λ (x : Writer × List ℕ). finish (avm most) (x .0) (x .1)) (do-run l m h fresh s)
 
--- ---- what they are given is bytes
+-- ---- the arguments of the calls are bytes
 
 bytes-integers : (l : List ℕ) → Words l → Bytes (integersBytes l)
 unfolding integersBytes
 bytes-integers [] h = tt
 bytes-integers (n ∷ l) (h, hs) = bytes-append (digits 4 n) (integersBytes l) (bytes-digits 4 n h) (bytes-integers l hs)
 
--- a count and as many bytes
+-- a count and the bytes that it counts are bytes
 bytes-counted : (w n : ℕ) (b : List ℕ) → n < 256 ^ w → Bytes b → Bytes (digits w n ++ b)
 bytes-counted w n b h k = bytes-append (digits w n) b (bytes-digits w n h) k
 
--- where the addresses are whole an output is its head and these
+-- if the addresses are complete, an output's bytes are its head and the addresses
 bytes-output : (asset : List ℕ) (amount locktime threshold : ℕ) (addresses : List ℕ) → Typed (C.output asset amount locktime threshold addresses)
     → length addresses % 20 ≡ 0 → length (outputGiven asset amount locktime threshold addresses .bytes) ≤ mostBytes
     → Bytes (outputGiven asset amount locktime threshold addresses .bytes)
@@ -183,9 +183,9 @@ fair-call most (C.denomination n) h = λ w k. subst Bytes (sym (denomination-wri
 fair-call most C.close h = tt
 fair-call most C.finish h = tt
 
--- ---- the calls that a reading spells are the steps that it spells
+-- ---- the calls that write a reading are the steps that write it
 
--- addresses of twenty bytes
+-- each address has twenty bytes
 abbrev Twenties : List (List ℕ) → Type 0
 Twenties [] = Unit {0}
 Twenties (a ∷ l) = (length a ≡ 20) × Twenties l
@@ -224,7 +224,7 @@ output-own asset amount o h =
     record { whole = t; bytes = transferableOutput .write record { asset = asset; output = (secpTransfer, (amount, p)) } })
     (eq-eqb (length (C.joined l) % 20) 0 whole) (ap (λ (n : ℕ). addressesOf n (C.joined l)) count ∙ joined-back l h)
 
--- lists of the same number have their elements by the same step
+-- the steps that add an element to lists with the same code are the same
 same-step : (F : Family) (l m : ListName) → listCode l ≡ listCode m → (w : Writer) (s : List ℕ) (g : Given) → putElement F w s l g ≡ putElement F w s m g
 unfolding putElement putElementAt
 same-step F l m e w s g = go (dueFor F w)
@@ -245,14 +245,14 @@ module _ (most : ℕ) where
   of-type asset (nftMint, o) h = absurd (false≢true (h .0 .1))
   of-type asset (nftTransfer, o) h = absurd (false≢true (h .0 .1))
 
-  -- base or exported
+  -- an output of the base outputs or of the exported ones
   output-does : (l : ListName) → listCode L.Output ≡ listCode l → (p : List ℕ) (v : TransferableOutput) → notBelow transferableOutput p .Good v
       → Does most (C.outputCall v) (putsElement l (given (notBelow transferableOutput p .write v)))
   unfolding guard transferableOutput named andThen
   output-does l e p v g w s =
       of-type (v .asset) (v .output) (g .0 .1) w s ∙ same-step (avm most) L.Output l e w s (given (notBelow transferableOutput p .write v))
 
-  -- base or imported
+  -- an input of the base inputs or of the imported ones
   input-does : (l : ListName) → listCode L.Input ≡ listCode l → (p : List ℕ) (v : Input) → input p .Good v
       → Does most (C.inputCall v) (putsElement l (given (input p .write v)))
   unfolding inputAfter guard
@@ -262,7 +262,7 @@ module _ (most : ℕ) where
   unfolding initialStateAfter guard
   state-does p v g w s = refl
 
-  -- a list's calls are its steps
+  -- the calls for a list's elements are the steps for them
   module _ (l : ListName) (f : elementsOf l .Element → Call)
       (one : (p : List ℕ) (v : elementsOf l .Element) → elementsOf l .element p .Good v
       → Does most (f v) (putsElement l (given (elementsOf l .element p .write v)))) where
@@ -294,7 +294,7 @@ module _ (most : ℕ) where
         (list-do L.Input C.inputCall (input-does L.Input refl) 0 ins gi _ _ (call-is most (C.memo note), own-do (h .type) own gw)),
   )
 
-  -- ---- the claims, of the methods
+  -- ---- the claims about the methods
 
   all-fair : (l : List Call) → AllTyped l → AllFair (map (actOf most) l)
   all-fair [] h = tt
@@ -335,13 +335,13 @@ module _ (most : ℕ) where
         ap (λ (x : Turn). putAll (Any.slotsAt (unsigned (avm most)) (wants (avm most)) d) (slotAt d) (take (length d) (x .buffer))) ends-alike
         ∙ avm-round-trip most .filled d v n bs e s room
 
--- ---- what is spelled has the types of the methods' arguments
+-- ---- the calls that write a reading have arguments of the methods' types
 
 append-typed : (l m : List Call) → AllTyped l → AllTyped m → AllTyped (l ++ m)
 append-typed [] m h k = k
 append-typed (c ∷ l) m (h, hs) k = (h, append-typed l m hs k)
 
--- a list's calls, where each element's call is typed
+-- a list's calls are typed if each element's call is
 module _ (l : ListName) (f : elementsOf l .Element → Call)
     (one : (p : List ℕ) (v : elementsOf l .Element) → elementsOf l .element p .Good v → Typed (f v)) where
   elements-typed : (p : List ℕ) (vs : List (elementsOf l .Element)) → Chain (elementsOf l .element) (left (elementsOf l .element)) p vs

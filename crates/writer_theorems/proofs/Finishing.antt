@@ -46,7 +46,7 @@ use Rattle.writer_theorems.specs.Claims.{finishBehind, FinishedIsAccepte
 use Rattle.writer_theorems.proofs.Keeping.{leaves, Here, Stays, Begun, begun-stays, open-more, closed, begin, Reach, reach-field, reach-list, reach-shut}
 
 module _ (F : Family) where
-  -- the head and the first parts of the plan stand written, and behind them what is due
+  -- the head and the plan's first segments are written, and after them what there is of the segment that is due
   record Running (w : Writer) (s : List ℕ) : Type 1 where
     pub first : Head (F .TransactionType)
     pub good : head F .Good first
@@ -61,16 +61,16 @@ module _ (F : Family) where
     waiting : w .phase ≡ 0 → Kept w s
     running : Running w s → Kept w s
 
-  -- ---- a step given what is due
+  -- ---- a step, given what is due
 
-  -- what a step by the plan keeps
+  -- a step by the plan keeps the invariant
   abbrev Keeps : (Plan → Writer → List ℕ → Turn) → Type 1
   Keeps T =
       (first : Head (F .TransactionType)) → head F .Good first → (q : Plan) (w : Writer) (s b : List ℕ) → F .typeOf (w .«type_id») ≡ first .type
       → dueFor F w ≡ q
       → Reach (F .memoMost) (F .plan (first .type)) (head F .write first) q b → Stays q w s b → Kept (T q w s .step .next) (T q w s .buffer)
 
-  -- a step that is not due
+  -- a step that is not due keeps it
   still : Keeps (λ q w s. notDue w s)
   unfolding answered
   still first good q w s b type isDue reach stays =
@@ -174,7 +174,7 @@ module _ (F : Family) where
   finish-keeps first good (field f q) w s b type isDue reach stays = still first good (field f q) w s b type isDue reach stays
   finish-keeps first good (many l least q) w s b type isDue reach stays = still first good (many l least q) w s b type isDue reach stays
 
-  -- before the start nothing is due
+  -- before the start nothing is due, so a step by the plan keeps the invariant in every state
   by-due : (T : Plan → Writer → List ℕ → Turn) → Keeps T → ((w : Writer) (s : List ℕ) → T shut w s ≡ notDue w s) → (w : Writer) (s : List ℕ) → Kept w s
       → Kept (T (dueFor F w) w s .step .next) (T (dueFor F w) w s .buffer)
   unfolding answered
@@ -187,7 +187,7 @@ module _ (F : Family) where
 
   -- ---- the start
 
-  -- the type that a head was written with
+  -- the type of a head is the one that it was written with
   code-of : (h : Head (F .TransactionType)) (type network : ℕ) (chain : List ℕ) → head F .Good h → type < 256 ^ 4
       → head F .write h ≡ headBytes type network chain
       → F .typeId (h .type) ≡ type
@@ -232,7 +232,7 @@ module _ (F : Family) where
             (begun-stays q _ _ _ next);
       }
 
-  -- ---- every run
+  -- ---- every sequence of steps
 
   act-keeps : (a : Act) → Fair a → (w : Writer) (s : List ℕ) → Kept w s → Kept (act F a w s .step .next) (act F a w s .buffer)
   unfolding putField putElement close finish putFieldAt putElementAt closeAt finishAt
@@ -252,7 +252,7 @@ module _ (F : Family) where
   abbrev pub blankSigned : Unsigned F → List (List ℕ)
   blankSigned u = blanks (layout (wants F u))
 
-  -- where the unsigned part stands whole
+  -- the unsigned part is written completely
   module _ (w : Writer) (s b : List ℕ) (h : Here w s b) (u : Unsigned F) (g : unsigned F .Good u) (e : unsigned F .write u ≡ b) where
     stands-own : unsigned F .write u ≡ take (w .at) s
     stands-own = e ∙ sym (h .stands)
@@ -291,7 +291,7 @@ module _ (F : Family) where
           short = omega (arith, length-take-le n s′ (omega (arith, length-overwrite s (blankOf F u) (w .at) f)));
         }
 
-  -- how finish ends
+  -- the ways in which finish can end
   pub data Outcome (t : Turn) : Type 0 where
     not-due : t .step .answer ≡ W.Refused (refusal stepNotDue 0) → Outcome t
     no-room : t .step .answer ≡ W.Refused (refusal noRoom 0) → Outcome t
@@ -331,7 +331,7 @@ module _ (F : Family) where
       subst (λ (q : Plan). Outcome (finishAt F q w s)) (sym (r .isDue))
       (due-outcome (r .first) (r .good) (r .parts) w s (r .done) (r .reach) (r .stays))
 
-  -- behind every run
+  -- finish after any sequence of steps
   run-outcome : (l : List Act) → AllFair l → (s : List ℕ) → Outcome (finishBehind F l s)
   run-outcome l f s = finish-outcome (run F l fresh s .0) (run F l fresh s .1) (run-keeps l f fresh s (waiting refl))
 

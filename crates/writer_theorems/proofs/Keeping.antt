@@ -26,7 +26,7 @@ use Rattle.writer.specs.Steps.{prev, grown, appended, opening, opened}
 -- ---- lists that grow at their end
 
 module _ {A : Type 0} (E : List ℕ → Format A) where
-  -- the bytes of the last element, p where there is none
+  -- the bytes of the last element, or p if there is none
   abbrev pub leaves : List ℕ → List A → List ℕ
   leaves p [] = p
   leaves p (a ∷ l) = leaves (E p .write a) l
@@ -49,7 +49,7 @@ module _ {A : Type 0} (E : List ℕ → Format A) where
 abbrev pub listed : (E : Elements) → List (E .Element) → List ℕ
 listed E l = listWrite (E .element) (left (E .element)) [] l
 
--- a list that may be closed is a value of its format, and the other way round
+-- a list may be closed exactly if it is a value of its format
 module _ (E : Elements) (least : ℕ) (l : List (E .Element)) where
   pub list-good : Chain (E .element) (left (E .element)) [] l → length l < 256 ^ 4 → least ≤ length l → atLeast least (E .element) .Good l
   unfolding atLeast countPrefixed named andThen guard items integer
@@ -63,7 +63,7 @@ module _ (E : Elements) (least : ℕ) (l : List (E .Element)) where
   unfolding atLeast countPrefixed named andThen guard items integer
   list-write = refl
 
--- no more elements than bytes
+-- a list has at most as many elements as bytes
 pub elements-le : (E : Elements) (p : List ℕ) (l : List (E .Element)) → Chain (E .element) (left (E .element)) p l
     → length l ≤ length (listWrite (E .element) (left (E .element)) p l)
 unfolding listWrite
@@ -74,7 +74,7 @@ elements-le E p (a ∷ l) (h, hs) =
 
 -- ---- the bytes written
 
--- they are b
+-- the bytes written are b
 pub record Here (w : Writer) (s b : List ℕ) : Type 0 where
   pub fits : w .at ≤ length s
   pub small : w .at ≤ mostBytes
@@ -83,7 +83,7 @@ pub record Here (w : Writer) (s b : List ℕ) : Type 0 where
 pub here-at : (w : Writer) (s b : List ℕ) → Here w s b → w .at ≡ length b
 here-at w s b h = sym (length-take-le (w .at) s (h .fits)) ∙ ap length (h .stands)
 
--- behind b stand the count and the elements of the open list
+-- the bytes written are b, then the count and the elements of the open list
 pub record Open (E : Elements) (w : Writer) (s b : List ℕ) (l : List (E .Element)) : Type 0 where
   pub here : Here w s (b ++ (digits 4 (w .count) ++ listed E l))
   pub place : w .list ≡ length b
@@ -92,14 +92,14 @@ pub record Open (E : Elements) (w : Writer) (s b : List ℕ) (l : List (E .Eleme
   pub before : prev w s ≡ leaves (E .element) [] l
   pub inside : w .last ≤ w .at
 
--- behind b, which is done, stands what is due
+-- b is what is done; if a list is due, its count and its elements so far follow
 abbrev pub Stays : Plan → Writer → List ℕ → List ℕ → Type 0
 Stays shut w s b = Unit {0}
 Stays end w s b = Here w s b
 Stays (field f q) w s b = Here w s b
 Stays (many l least q) w s b = (es : List (elementsOf l .Element)) × Open (elementsOf l) w s b es
 
--- nothing of what is due stands yet
+-- nothing is written yet of the segment that is due, except an open list's count of 0
 abbrev pub Begun : Plan → Writer → List ℕ → List ℕ → Type 0
 Begun shut w s b = Unit {0}
 Begun end w s b = Here w s b
@@ -112,7 +112,7 @@ begun-stays end w s b h = h
 begun-stays (field f q) w s b h = h
 begun-stays (many l least q) w s b h = ([], h)
 
--- ---- an element more
+-- ---- one more element
 
 module _ (E : Elements) (w : Writer) (s b : List ℕ) (es : List (E .Element)) (h : Open E w s b es) where
   pub open-at : w .at ≡ length b + (4 + length (listed E es))
@@ -180,7 +180,7 @@ module _ (E : Elements) (w : Writer) (s b : List ℕ) (es : List (E .Element)) (
           inside = omega arith;
         }
 
-  -- a list that is closed
+  -- a list that is closed is a good value, and its bytes are written
   pub closed : (least : ℕ) → least ≤ w .count → atLeast least (E .element) .Good es × Here w s (b ++ atLeast least (E .element) .write es)
   closed least n =
       let same : digits 4 (w .count) ++ listed E es ≡ atLeast least (E .element) .write es =
@@ -189,7 +189,7 @@ module _ (E : Elements) (w : Writer) (s b : List ℕ) (es : List (E .Element)) (
       list-good E least es (h .chain) (omega (arith, open-few, h .here .small, h .number)) (omega (arith, h .number)) in
       (good, subst (λ (z : List ℕ). Here w s (b ++ z)) same (h .here))
 
--- ---- what is due begins
+-- ---- the next segment becomes due
 
 module _ (type phase : ℕ) (w : Writer) (s b : List ℕ) (h : Here w s b) (ys : List ℕ) where
   begin-here : (q : Plan) → w .at + length (ys ++ opening q) ≤ length s → w .at + length (ys ++ opening q) ≤ mostBytes
@@ -229,7 +229,7 @@ module _ (type phase : ℕ) (w : Writer) (s b : List ℕ) (h : Here w s b) (ys :
         inside = omega arith;
       }
 
--- ---- from a value of what is still to come to a value of the whole, with memos of at most `most` bytes
+-- ---- from a value of the segments still to come to a value of all segments, with memos of at most `most` bytes
 
 module _ (most : ℕ) where
   abbrev pub Reach : Plan → List ℕ → Plan → List ℕ → Type 0

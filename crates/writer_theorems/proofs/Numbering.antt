@@ -48,7 +48,7 @@ use Rattle.writer_theorems.specs.Calls.{Call, Words, Typed, call, callNu
 use Rattle.writer_theorems.proofs.Owing.{Numbered, Owed, pick-numbered, judged-numbered, guarded-numbered}
 use Rattle.writer_theorems.proofs.Owing.{field-owed, element-owed, close-owed, finish-owed, start-owed}
 
--- ---- a step by its name, with memos of at most `most` bytes
+-- ---- steps by their names, with memos of at most `most` bytes
 
 module _ (P : Rule → Type 0) (room : P noRoom) (most : ℕ) (w : Writer) (s : List ℕ) (g : Given) where
   put-field-owed : (f : FieldName) → Numbered P (judged (contentOf most f) g J.Allowed) → Owed P (fieldDue f w) w s (putField (avm most) w s f g)
@@ -60,7 +60,7 @@ module _ (P : Rule → Type 0) (room : P noRoom) (most : ℕ) (w : Writer) (s : 
   unfolding putElement
   put-element-owed l h = element-owed P room (dueFor (avm most) w) w s l g h
 
--- ---- what is given as fields, by its tests
+-- ---- elements and heads given as fields, by the tests on them
 
 words-fit : (l : List ℕ) → Words l → Inputs.Words l
 words-fit [] h j = record { fits = omega arith }
@@ -123,7 +123,7 @@ module _ (P : Rule → Type 0) where
   head-numbered most type network chain h k =
       subst (Numbered P) (sym (head-judged most type network chain h)) (pick-numbered P (isType type) J.Allowed (ruleOf unknownType) tt k)
 
--- ---- each call, by its own list
+-- ---- each call answers a number of its own list
 
 abbrev Among : Call → Rule → Type 0
 Among c = NumberIn (callNumbers c)
@@ -186,7 +186,7 @@ call-owed most C.finish typed w s =
     (refuses-more (unsigned (avm most)) unsignedNumbers (callNumbers C.finish) refl (unsigned-numbers (avm most))) (has 2 refl) (has 13 refl)
     (dueFor (avm most) w) w s
 
--- 0, 14 and 16 are in every list
+-- 0, 14 and 16 are in every call's list
 abbrev isListed : Call → ℕ → Bool
 isListed c = listed (λ (k : ℕ). k) (callNumbers c)
 
@@ -204,7 +204,7 @@ always-listed (C.denomination n) = (refl, refl, refl)
 always-listed C.close = (refl, refl, refl)
 always-listed C.finish = (refl, refl, refl)
 
--- ---- each call, of any arguments: its rules refuse neither by 0 nor by 16
+-- ---- whatever its arguments, a call's rules refuse by a number from 2 to 14
 
 abbrev Some : Rule → Type 0
 Some x = (2 ≤ ruleNumber x) × (ruleNumber x ≤ ruleNumber noRoom)
@@ -244,7 +244,7 @@ call-some most C.finish w s =
     finish-owed Some some-room (avm most) (rules-some (unsigned (avm most))) (omega arith, omega arith) (omega arith, omega arith)
     (dueFor (avm most) w) w s
 
--- 16 included, where the step is not due
+-- every refusal has a number of at least 2, also the 16 of a step that is not due
 abbrev AtLeastTwo : Rule → Type 0
 AtLeastTwo x = 2 ≤ ruleNumber x
 
@@ -257,7 +257,7 @@ two-or-more most c w s =
     weaker J.Allowed h = tt
     weaker (J.Refuse e) ((least, _), z) = (least, z)
 
--- ---- what an answer tells
+-- ---- what follows from an answer
 
 module _ (w : Writer) (s : List ℕ) (w′ : Writer) (s′ : List ℕ) where
   abbrev numberBy : Verdict → ℕ
@@ -268,7 +268,7 @@ module _ (w : Writer) (s : List ℕ) (w′ : Writer) (s′ : List ℕ) where
   answered-number l z J.Allowed h = z
   answered-number l z (J.Refuse e) h = h .0
 
-  -- a step that changes nothing where it is refused, and reports where it is done
+  -- a step that is refused changes nothing and reports place 0; one that is done reports the bytes written
   answered-refused : (v : Verdict) → Numbered AtLeastTwo v → (numberBy v ≡ 0 → ⊥)
       → (answered v w s w′ s′ .step .next ≡ w) × (answered v w s w′ s′ .buffer ≡ s) × (writtenPlace (answered v w s w′ s′ .step .answer) ≡ 0)
   unfolding answered
@@ -292,7 +292,7 @@ module _ (w : Writer) (s : List ℕ) (w′ : Writer) (s′ : List ℕ) where
   answered-rules J.Allowed h e = absurd (omega arith)
   answered-rules (J.Refuse d) ((_, most), _) e = absurd (omega arith)
 
-  -- by 16 where the step is not due; by 14 where it is and the buffer is short
+  -- a step answers 16 exactly if it is not due, and 14 if it is due and the buffer is short
   guarded-not-due : (isDue : Bool) (v : Verdict) → (isDue ≡ true → Numbered Some v) → (numberBy (guarded isDue w s v) ≡ ruleNumber stepNotDue) ↔ (isDue ≡ false)
   unfolding answered
   guarded-not-due true v h =

@@ -44,9 +44,9 @@ use Rattle.writer_theorems.specs.Occurring.{Method, start, output, input
 use Rattle.writer_theorems.specs.Occurring.{WriterNumbersOccur}
 use Rattle.writer_theorems.specs.Occurring as M
 
--- ---- what the calls are given
+-- ---- the arguments of the calls
 
--- a list of bytes, by a test
+-- each element is a byte, as a test
 abbrev pub eachByte : List ℕ → Bool
 eachByte [] = true
 eachByte (x ∷ s) = pick (ltb x 256) (eachByte s) false
@@ -59,7 +59,7 @@ bytes-of (x ∷ s) h = turn (ltb x 256) refl h (bytes-of s)
     turn true p h on = (ltb-true x 256 p, on h)
     turn false p h on = absurd (false≢true h)
 
--- a state that code can hold, by a test
+-- the state fits the types of the code, as a test
 abbrev fits : Writer → Bool
 fits w =
     ltb (w .«type_id») (2 ^ 32) && (ltb (w .phase) (2 ^ 32) && (ltb (w .count) (2 ^ 32)
@@ -91,30 +91,30 @@ bytes-zeros (suc n) = (omega arith, bytes-zeros n)
 abbrev pub word : ℕ → List ℕ
 word n = 0 ∷ 0 ∷ 0 ∷ n ∷ []
 
--- behind n bytes, with the list's count in the first four
+-- n bytes are written, and the open list's count is in the first four
 abbrev at : ℕ → ℕ → ℕ → Writer
 at type phase n = record { «type_id» = type; phase = phase; at = n; list = 0; count = 0; last = 0 }
 
--- state and buffer, by one test
+-- the test on state and buffer together
 abbrev holds : Writer → List ℕ → Bool
 holds w s = fits w && eachByte s
 
--- an operation: asset id, no pairs, and a transfer in front of its indices
+-- an operation up to its indices: asset id, no pairs, type 13
 abbrev transfer : List ℕ
 transfer = zeros 36 ++ word 13
 
 abbrev space : List ℕ
 space = 32 ∷ []
 
--- one output, in front of its amount
+-- a transaction up to its first output's amount
 abbrev pub paid : List ℕ
 paid = zeros 42 ++ word 1 ++ zeros 32 ++ word 7
 
--- a head of that type, no outputs, no inputs, no memo
+-- a transaction of that type with no outputs, no inputs and no memo, up to the segments of its own
 abbrev pub typed : ℕ → List ℕ
 typed type = zeros 2 ++ word type ++ zeros 48
 
--- numbers, each with what is said of it
+-- numbers, each with a proof of P
 module _ (P : ℕ → Type 0) where
   abbrev numbers : List ((n : ℕ) × P n) → List ℕ
   numbers [] = []
@@ -124,7 +124,7 @@ module _ (P : ℕ → Type 0) where
   one-occurs [] n h = absurd h
   one-occurs ((k, p) ∷ l) n h = ⊎-elim (λ e. subst P (sym e) p) (one-occurs l n) h
 
--- what a format refuses is refused whatever is judged behind it
+-- what a format refuses is refused whatever is judged after it
 refused-number : {A : Type 0} (F : Format A) (g : Given) (v : Verdict) (x : Rule) → judged F g J.Allowed ≡ refusedBy x
     → (w : Writer) (s : List ℕ) (w′ : Writer) (s′ : List ℕ) → writtenNumber (answered (judged F g v) w s w′ s′ .step .answer) ≡ ruleNumber x
 unfolding answered
@@ -134,7 +134,7 @@ refused-number F g v x e w s w′ s′ =
 -- ---- the calls, with memos of at most `most` bytes
 
 module _ (most : ℕ) where
-  -- a number, and that it occurs
+  -- a number, with a proof that it occurs
   abbrev Case : Method → Type 0
   Case m = (n : ℕ) × Occurs most m n
 
@@ -302,7 +302,7 @@ module _ (most : ℕ) where
       ∷ chains (at 3 0 0) [] refl 16 refl
       ∷ []
 
-  -- ---- close: of the base outputs, and of operations, of which there is one at least
+  -- ---- close: of the base outputs, and of operations, which must not be empty
 
   unfoldable close-cases : List (Case M.close)
   unfolding close closeAt answered roomFor digits
@@ -313,7 +313,7 @@ module _ (most : ℕ) where
       ∷ occurs C.close tt (at 0 0 0) [] refl 16 refl
       ∷ []
 
-  -- ---- finish, over bytes that no run of calls has left
+  -- ---- finish, over bytes that no sequence of calls leaves
 
   abbrev ends : (s : List ℕ) → holds (at 0 4 (length s)) s ≡ true → (n : ℕ) → numberOf most C.finish (at 0 4 (length s)) s ≡ n → Case M.finish
   ends s h n = occurs C.finish tt (at 0 4 (length s)) s h n

@@ -33,13 +33,13 @@ use Rattle.writer.specs.Steps.{putFieldAt, putElementAt, closeAt, finishAt, pla
 use Rattle.writer.proofs.Laws.{guarded-inv}
 use Rattle.writer.proofs.Fitting.{same-field, same-list}
 
--- ---- the rule of a verdict is P, and its place 0
+-- ---- the rule of a refusal has the property P, and its place is 0
 
 abbrev pub Numbered : (Rule → Type 0) → Verdict → Type 0
 Numbered P J.Allowed = Unit {0}
 Numbered P (J.Refuse e) = P (e .rule) × (e .place ≡ 0)
 
--- a step that answers by its rules where it is due and the buffer is not short; what it leaves is as long as what it was given
+-- the step answers by its rules if it is due and the buffer is not short, and the buffer keeps its length
 pub record Owed (P : Rule → Type 0) (isDue : Bool) (w : Writer) (s : List ℕ) (t : Turn) : Type 0 where
   pub rules : Verdict
   pub numbered : isDue ≡ true → Numbered P rules
@@ -57,7 +57,7 @@ module _ (P : Rule → Type 0) where
   on-numbered J.Allowed u h k = k
   on-numbered (J.Refuse e) u h k = h
 
-  -- what is judged of bytes, by the numbers that their format refuses by
+  -- the verdict on bytes has P if every rule by which their format refuses has it
   pub judged-numbered : {A : Type 0} (F : Format A) (g : Given) → RefusesBy F P → P (ruleOf cutShort) → P bytesAfterEnd
       → Numbered P (judged F g J.Allowed)
   judged-numbered {A} F g f h k =
@@ -69,7 +69,7 @@ module _ (P : Rule → Type 0) where
       go (took a m) r = pick-numbered (eqb m (length (g .bytes))) J.Allowed bytesAfterEnd tt k
       go (refused e) r = (f (g .bytes) 0 e r, refl)
 
-  -- ---- the numbers of every step
+  -- ---- the numbers that every step answers
 
   module _ (room : P noRoom) where
     pub guarded-numbered : P stepNotDue → (t : Bool) (w : Writer) (s : List ℕ) (v : Verdict) → (t ≡ true → Numbered P v) → Numbered P (guarded t w s v)
@@ -86,7 +86,7 @@ module _ (P : Rule → Type 0) where
     none-owed : (w : Writer) (s : List ℕ) → Owed P false w s (notDue w s)
     none-owed w s = record { rules = J.Allowed; numbered = λ e. tt; next = w; buffer = s; is = refl; long = λ e. refl }
 
-    -- ---- a field, or an element
+    -- ---- a field or an element
 
     pub field-owed : (most : ℕ) (q : Plan) (w : Writer) (s : List ℕ) (f : FieldName) (g : Given) → Numbered P (judged (contentOf most f) g J.Allowed)
         → Owed P (isField f (dueOf q)) w s (putFieldAt most q w s f g)

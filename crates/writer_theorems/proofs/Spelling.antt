@@ -91,9 +91,9 @@ length-appended w s ys f k =
     (omega (arith, length-overwrite s ys (w .at) f, length-digits 4 (w .count + 1)))
     ∙ length-overwrite s ys (w .at) f
 
--- ---- from one part to the next
+-- ---- from one segment to the next
 
--- a list's count is among what is still to come
+-- a list's count is among the bytes still to come
 pub opening-le : (most : ℕ) (q : Plan) (v : Value q) → length (opening q) ≤ length (form most q .write v)
 unfolding form only andThen
 opening-le most shut v = omega arith
@@ -131,7 +131,7 @@ module _ (F : Family) where
   abbrev pub Reached : Plan → List ℕ → List Act → Writer → List ℕ → Type 0
   Reached q b l w s = (w′ : Writer) × (s′ : List ℕ) × Does l w s w′ s′ × Begun q w′ s′ b × (dueFor F w′ ≡ q) × (length s′ ≡ length s)
 
-  -- what was reached is handed on as variables
+  -- two sequences of steps, one after the other; the state and the buffer between them are variables
   onward : (q r : Plan) (b c : List ℕ) (l m : List Act) (w : Writer) (s : List ℕ) → Reached q b l w s
       → ((w₁ : Writer) (s₁ : List ℕ) → Begun q w₁ s₁ b → dueFor F w₁ ≡ q → length s₁ ≡ length s → Reached r c m w₁ s₁)
       → Reached r c (l ++ m) w s
@@ -209,7 +209,7 @@ module _ (F : Family) where
         (adds more (es ++ (v ∷ [])) ys (grown w (length ys)) (appended w s ys) (leaves-snoc element [] es v ∙ ey) d
         (open-more (elementsOf l) w s b es o v good ys ey fits small) cs (omega arith) (omega arith))
 
-    -- and the close behind them
+    -- the elements are written, and then the list is closed
     closed-behind : (es : List Element) (m : List Act) (w : Writer) (s : List ℕ) → least ≤ length es
         → length b + length (listOf l least .write es) + length (opening q) ≤ length s
         → length b + length (listOf l least .write es) + length (opening q) ≤ mostBytes
@@ -247,7 +247,7 @@ module _ (F : Family) where
         omega (arith, ap length (list-write (elementsOf l) least es), length-append (digits 4 (length es)) bytes, length-digits 4 (length es)) in
         closed-behind es (elementActs l [] es) w s enough f k (adds es [] [] w s refl d o c (omega arith) (omega arith))
 
-  -- ---- the parts of a plan
+  -- ---- the segments of a plan
 
   pub plan-reached : (q : Plan) (v : Value q) → Ends q → (w : Writer) (s b : List ℕ) → dueFor F w ≡ q → Begun q w s b → form (F .memoMost) q .Good v
       → length b + length (form (F .memoMost) q .write v) ≤ length s → length b + length (form (F .memoMost) q .write v) ≤ mostBytes

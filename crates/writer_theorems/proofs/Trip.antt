@@ -44,7 +44,7 @@ module _ (F : Family) (ends : (k : F .TransactionType) → Ends (F .plan k)) whe
   unfolding head named andThen constant guard tag integer blob
   head-bytes h = refl
 
-  -- the start
+  -- the first step
   module _ (h : Head (F .TransactionType)) (good : head F .Good h) (s : List ℕ) where
     ys : List ℕ
     ys = headBytes (F .typeId (h .type)) (h .network) (h .chain)
@@ -71,7 +71,7 @@ module _ (F : Family) (ends : (k : F .TransactionType) → Ends (F .plan k)) whe
         let here : Here fresh s [] = record { fits = omega arith; small = omega arith; stands = refl } in
         rw zero-add at (begin (F .typeId (h .type)) 1 fresh s [] here ys q (omega arith) (omega arith))
 
-  -- the steps of a value
+  -- the steps that write a value are done, and its bytes are written
   Spells : Unsigned F → List ℕ → Type 0
   Spells u s =
       (w : Writer) × (t : List ℕ) × Does F (spelled F u) fresh s w t × Here w t (unsigned F .write u) × (dueFor F w ≡ end) × (length t ≡ length s)
@@ -99,7 +99,7 @@ module _ (F : Family) (ends : (k : F .TransactionType) → Ends (F .plan k)) whe
       let (w, t, does, here, d, e) = plan-reached F p v (ends (h .type)) w₁ s₁ y same b gv (omega arith) (omega arith) in
       (w, t, (w₁, s₁, started h good s f₁ k₁, does), subst (λ (z : List ℕ). Here w t (z ++ zs)) (sym (head-bytes h)) here, d, _∙_ {a = length t} e long)
 
-  -- what finish leaves behind them
+  -- finish after those steps is done and leaves the transaction with empty slots
   Finishes : Unsigned F → List ℕ → ℕ → Type 0
   Finishes u s n =
       AllDone F (spelled F u) fresh s × (finishBehind F (spelled F u) s .step .answer ≡ W.Done n)
