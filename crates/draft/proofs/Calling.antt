@@ -33,7 +33,7 @@ use Rattle.draft.specs.declared.Answer.{Answer}
 use Rattle.draft.specs.declared.Answer.the-variants as A
 use Rattle.draft.proofs.Known.{avmReader, Known, known, not-accepted, known-body, alike}
 
--- an answer beside the lent bytes
+-- an equal answer beside the same lent bytes
 beside : (r a : Answer) (s : List ℕ) (z : Answer × List ℕ) → r ≡ a → (a, s) ≡ z → (r, s) ≡ z
 beside r a s z h e = ap (λ (x : Answer). (x, s)) h ∙ e
 
@@ -132,7 +132,7 @@ module _ (most : ℕ) where
                 let fits = spaced-at 0 (R .slots d) (length d) (first .spaced) k b .1 in
                 length-join (slotAt d _) (slotAt e _) (length-slotAt d _ fits) (length-slotAt e _ (omega (arith, both .1))))
 
-            -- what is lent of out comes back as the merge
+            -- the first n bytes of out were lent, and are now the merge
             lent-merge : (u : List ℕ) → n ≤ length out
                 → u ≡ joinedWith e (w .«credentials_at») (take (length (take n out)) d ++ drop (length d) (take n out)) → u ≡ merged R d e
             unfolding merged

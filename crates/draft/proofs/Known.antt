@@ -35,7 +35,7 @@ module _ (most : ℕ) where
   abbrev W : Unsigned (avm most) → List Want
   W = wants (avm most)
 
-  -- s is accepted: w tells where its parts are, and n its length
+  -- s is accepted, with layout w and length n
   pub record Known (s : List ℕ) (w : Layout) (n : ℕ) : Type 0 where
     pub value : Unsigned (avm most)
     pub signatures : List (List ℕ)
@@ -68,12 +68,12 @@ module _ (most : ℕ) where
   pub not-accepted : (s : List ℕ) (x : Checked) (e : Refusal) → x ≡ checked most s → x ≡ C.Refused e → avmReader .accepts s ≡ false
   not-accepted s x e p q = ap taken (refused-check most s e (found q p))
 
-  -- the bytes before the credential count
+  -- the bytes before the credential count are the unsigned transaction
   pub known-body : (s : List ℕ) (w : Layout) (n : ℕ) → Known s w n → between 0 (w .«credentials_at») s ≡ body avmReader s
   unfolding body
   known-body s w n k = let q : w .«credentials_at» - 0 ≡ avmReader .credentialsAt s = omega (arith, k .place) in ap (λ (i : ℕ). take i s) q
 
-  -- two drafts of one unsigned transaction have the same slots, are as long, and have their credentials at the same place
+  -- two drafts of one unsigned transaction have the same slots, the same length, and their credentials at the same offset
   pub alike : (d e : List ℕ) (v w : Layout) (m n : ℕ) → Known d v m → Known e w n → body avmReader d ≡ body avmReader e
       → (avmReader .slots e ≡ avmReader .slots d) × (length e ≡ length d) × (v .«credentials_at» ≡ w .«credentials_at»)
   unfolding body

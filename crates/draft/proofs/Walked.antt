@@ -16,7 +16,7 @@ use Rattle.draft_slots.specs.Scan.{rangeAt, onRange, slotRange, scanFrom, scan}
 use Rattle.draft_slots.specs.declared.SlotRange.{SlotRange}
 use Rattle.draft_slots.specs.declared.SlotRange.the-variants as R
 
--- n signatures are a run of slots, and then the others
+-- n signatures are a slot range, and the other slots follow it
 places-range : (n : ℕ) (ps : List Piece) (p : ℕ) → places p (signatures n ps) ≡ slotRange n p ++ places (p + 65 * n) ps
 unfolding places signatures slotRange signatureWidth
 places-range zero ps p = let e : p ≡ p + 65 * 0 = omega arith in ap (λ (i : ℕ). places i ps) e
@@ -24,7 +24,7 @@ places-range (suc n) ps p =
     let e : p + 65 + 65 * n ≡ p + 65 * suc n = omega arith in
     ap (λ (l : List ℕ). p ∷ l) (places-range n ps (p + 65) ∙ ap (λ (i : ℕ). slotRange n (p + 65) ++ places i ps) e)
 
--- .. and so many bytes
+-- the bytes of n signatures, and the signatures after them
 pub record Split (n : ℕ) (ps : List Piece) (l : List (List ℕ)) : Type 0 where
   pub front : List ℕ
   pub others : List (List ℕ)
@@ -48,11 +48,11 @@ split (suc n) ps (b ∷ l) g =
       bytes = bytes-append b (r .front) (g .0 .1) (r .bytes);
     }
 
--- what stands behind a number
+-- the bytes just past an integer
 pub behind-integer : (s : List ℕ) (q v : ℕ) (t : List ℕ) → drop q s ≡ integer 4 .write v ++ t → drop (q + 4) s ≡ t
 behind-integer s q v t h = subst (λ (n : ℕ). drop (q + n) s ≡ t) (length-integer 4 v) (drop-step s q (integer 4 .write v) t h)
 
--- the slots of a credential that stands at q, and what follows them
+-- the slots of the credential at offset q, and the bytes after them
 module _ (s : List ℕ) (q t n : ℕ) (x rest : List ℕ) (gt : integer 4 .Good t) (gn : integer 4 .Good n) (lx : length x ≡ 65 * n) (bx : Bytes x)
     (h : drop q s ≡ integer 4 .write t ++ (integer 4 .write n ++ (x ++ rest))) where
   at-count : drop (q + 4) s ≡ integer 4 .write n ++ (x ++ rest)
@@ -81,7 +81,7 @@ module _ (s : List ℕ) (q t n : ℕ) (x rest : List ℕ) (gt : integer 4 .Good 
       counted : ℕ → SlotRange
       counted i = integer 4 .parse s i (λ e. R.Nothing) signed
 
--- three parts, one behind the other, and what is left of the third
+-- three byte strings, one after the other, the third in two pieces
 pub regroup : (a b c x y rest : List ℕ) → c ≡ x ++ y → (a ++ (b ++ c)) ++ rest ≡ a ++ (b ++ (x ++ (y ++ rest)))
 regroup a b c x y rest e = rw e (simp append-assoc)
 

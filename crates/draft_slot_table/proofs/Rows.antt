@@ -16,7 +16,7 @@ use Rattle.draft_slots.proofs.Comparing.{same-eq, same-of-eq, same-no}
 use Rattle.draft.specs.Reader.{reader}
 use Rattle.draft_slot_table.specs.Slots.{Slot, slotIn, slotsFrom, slotsOf, slotList, filledAt, row, rows}
 
--- ---- the places are those of the slots
+-- ---- the offsets are those of the slots
 
 places-behind : (n : ℕ) (ps : List Piece) (p : ℕ) → places p (signatures n ps) ≡ places p (signatures n []) ++ places (p + size (signatures n [])) ps
 unfolding places signatures size
@@ -55,11 +55,11 @@ module _ {U : Type 0} (body : Format U) (wants : U → List Want) where
       go (took u m) = places-from 0 (m + 4) (wants u)
       go (refused e) = refl
 
--- demand 3: what is merged and filled is what is listed
+-- demand 3: the slots that are listed are those that are merged and filled
 pub reader-places : (F : Family) (d : List ℕ) → map (λ x. x .place) (slotList (unsigned F) (wants F) d) ≡ reader F .slots d
 reader-places F d = slot-places (unsigned F) (wants F) d
 
--- ---- filled
+-- ---- whether a slot is filled
 
 module _ (d : List ℕ) (p : ℕ) where
   pub filled-empty : slotAt d p ≡ blank → filledAt d p ≡ 0
@@ -78,7 +78,7 @@ module _ (d : List ℕ) (p : ℕ) where
       go true e h = same-eq (slotAt d p) blank e
       go false e h = absurd (omega arith)
 
--- x is the slot, and r whether it is blank
+-- x is the slot, and r says whether it is empty
 module _ (d : List ℕ) (p : ℕ) (x : List ℕ) (r : Bool) (h : x ≡ slotAt d p) (g : r ≡ same x blank) where
   pub blank-filled : r ≡ true → 0 ≡ filledAt d p
   unfolding filledAt
@@ -90,7 +90,7 @@ module _ (d : List ℕ) (p : ℕ) (x : List ℕ) (r : Bool) (h : x ≡ slotAt d 
 
 pub ruleset filling = (blank-filled, signed-filled)
 
--- ---- the numbers of rows
+-- ---- rows as integers, three each
 
 pub length-rows : (d : List ℕ) (l : List Slot) → length (rows d l) ≡ 3 * length l
 unfolding rows row

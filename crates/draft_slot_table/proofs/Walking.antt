@@ -26,7 +26,7 @@ unfolding slotsIn
 length-range k zero p = refl
 length-range k (suc n) p = ap suc (length-range k n (p + 65))
 
--- as many, whatever the number of the first credential
+-- the number of slots does not depend on the number of the first credential
 length-walk : (j k n : ℕ) (s : List ℕ) (q : ℕ) → length (scanFrom j n s q) ≡ length (scanFrom k n s q)
 unfolding scanFrom
 length-walk j k zero s q = refl
@@ -62,7 +62,7 @@ module _ (s : List ℕ) (k q : ℕ) (x : SlotRange) (e : x ≡ rangeAt s q) wher
   scan-range (suc left) p n next h i =
       ap (λ (r : SlotRange). onRange r [] (λ f c m. slotsIn k c f ++ scanFrom (suc k) left s m)) (found e h) ∙ rw (sub-one (suc left), add-one)
 
-  -- so many slots are left behind it
+  -- the slots that are left are the n of this range and those after it
   pub left-behind : (left p n next : ℕ) → x ≡ R.Slots p n next → 0 < left → length (scanFrom k left s q) ≡ n + length (scanFrom (k + 1) (left - 1) s next)
   left-behind left p n next h i =
       let l : List Slot = scanFrom (k + 1) (left - 1) s next in
@@ -73,7 +73,7 @@ module _ (s : List ℕ) (k q : ℕ) (x : SlotRange) (e : x ≡ rangeAt s q) wher
   scan-stop zero h = refl
   scan-stop (suc left) h = ap (λ (r : SlotRange). onRange r [] (λ f c m. slotsIn k c f ++ scanFrom (suc k) left s m)) (found e h)
 
--- ---- counted
+-- ---- counting the slots
 
 module _ (s : List ℕ) (at : ℕ) (x : Integer) (p : x ≡ valued (integer 4) s at) where
   pub count-start : (n q : ℕ) → x ≡ N.Value n q → 0 + length (scanFrom 0 n s q) ≡ length (scan s at)
@@ -96,7 +96,7 @@ module _ (s : List ℕ) (c left q y : ℕ) (h : c + length (scanFrom 0 left s q)
 
 pub ruleset counting = (count-over, count-stop, count-next)
 
--- ---- put into the table
+-- ---- writing rows into the table
 
 put-append : (t : List ℕ) (i : ℕ) (a b : List ℕ) → put t i (a ++ b) ≡ put (put t i a) (i + length a) b
 unfolding put
@@ -109,12 +109,12 @@ pub same-length : (t u : List ℕ) (i : ℕ) (v : List ℕ) → u ≡ put t i v 
 unfolding put
 same-length t u i v h = ap length h ∙ length-sets t i v
 
--- three numbers stored one after the other
+-- three integers stored one after the other are a row
 pub row-stored : (s t : List ℕ) (i k p f : ℕ) → f ≡ filledAt s p → set (set (set t i k) (i + 1) p) (i + 2) f ≡ put t i (row s (slotIn k p))
 unfolding row put
 row-stored s t i k p f h = let e : i + 2 ≡ suc (suc i) = omega arith in rw (e, add-one, h)
 
--- of a credential's slots, y is what is left
+-- in a slot range: writing the rows that are left gives y
 module _ (s : List ℕ) (k n p i : ℕ) (t y : List ℕ) (h : put t i (rows s (slotsIn k n p)) ≡ y) where
   pub range-end : n ≤ 0 → t ≡ y
   unfolding rows slotsIn put

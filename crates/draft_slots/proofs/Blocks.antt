@@ -14,7 +14,7 @@ use Rattle.transaction.specs.Slots.{signatureWidth, blank, slotAt}
 use Rattle.draft_slots.specs.Joining.{same, clashes}
 use Rattle.draft_slots.proofs.Comparing.{same-eq, same-no}
 
--- from index i on. It is shut, so that `search` reads a, b and i off it
+-- whether a and b are equal from index i on; opaque, so that `search` reads a, b and i off it
 unfoldable pub sameFrom : List ℕ → List ℕ → ℕ → Bool
 sameFrom a b i = same (drop i a) (drop i b)
 
@@ -26,7 +26,7 @@ and-true : (x : Bool) → (x && true) ≡ x
 and-true true = refl
 and-true false = refl
 
--- ---- byte by byte, with what was found so far
+-- ---- byte by byte, x being the result so far
 
 pub same-all : (a b : List ℕ) → (true && sameFrom a b 0) ≡ same a b
 unfolding sameFrom
@@ -88,7 +88,7 @@ module _ (a b : List ℕ) (i : ℕ) (y : Bool) (w : sameFrom a b i ≡ y) (r : B
       rest : (s : List ℕ) → take (length s - i) (drop i s) ≡ drop i s
       rest s = take-all (length s - i) (drop i s) (omega (arith, length-drop i s))
 
--- ---- what is no slot's content, and what stands in a slot
+-- ---- the bytes of a slot, and what cannot be in one
 
 pub differ-length : (a b : List ℕ) → (length a ≡ length b → ⊥) → false ≡ same a b
 differ-length a b n = sym (same-no a b (λ e. n (ap length e)))
@@ -116,7 +116,7 @@ pub blank-test : (s : List ℕ) (r : Bool) → r ≡ same s (replicate 65 0) →
 unfolding blank signatureWidth
 blank-test s r e = e
 
--- an empty slot is all there
+-- an empty slot is complete: its 65 bytes are inside the draft
 pub blank-fits : (d : List ℕ) (p : ℕ) (x : List ℕ) (r : Bool) → x ≡ slotAt d p → r ≡ same x blank → r ≡ true → p + 65 ≤ length d
 unfolding slotAt blank signatureWidth
 blank-fits d p x r w e t =
@@ -125,7 +125,7 @@ blank-fits d p x r w e t =
 
 pub ruleset slotted = (slot-none, slot-some, slot-whole, not-blank, blank-test)
 
--- ---- do two slots clash, by what was found of them
+-- ---- whether two slots clash, by the tests on them
 
 module _ (a b : List ℕ) (t : Bool) where
   pub clash-first : t ≡ same a blank → t ≡ true → false ≡ clashes a b

@@ -64,11 +64,11 @@ pub join-blank : (a b : List ℕ) → a ≡ blank → join a b ≡ b
 unfolding join
 join-blank a b e = ap (λ (t : Bool). cond t b a) (same-of-eq a blank e)
 
--- what a join holds is held by one of the two
+-- a join is one of the two slots
 pub join-one : (a b : List ℕ) → (join a b ≡ a) ⊎ (join a b ≡ b)
 join-one a b = elim (dec-same a blank) [ yes e ↦ inr (join-blank a b e) | no n ↦ inl (join-filled a b n) ]
 
--- two slots that do not clash: the join holds what either holds
+-- if two slots do not clash and the second is filled, their join is the second
 pub join-second : (a b : List ℕ) → (Clash a b → ⊥) → Filled b → join a b ≡ b
 join-second a b nc nb = elim (dec-same a blank) [ yes e ↦ join-blank a b e | no n ↦ go n (dec-same a b) ]
   where
@@ -76,7 +76,7 @@ join-second a b nc nb = elim (dec-same a blank) [ yes e ↦ join-blank a b e | n
     go n (yes e) = join-filled a b n ∙ e
     go n (no m) = absurd (nc (record { first = n; second = nb; differ = m }))
 
--- a slot joined with an empty one
+-- joining a slot with an empty one gives the slot
 pub join-empty : (a : List ℕ) → join a blank ≡ a
 join-empty a = elim (dec-same a blank) [ yes e ↦ join-blank a blank e ∙ sym e | no n ↦ join-filled a blank n ]
 
@@ -112,7 +112,7 @@ clashes-none a b n = go (clashes a b) refl
     go true e = absurd (n (clashes-yes a b e))
     go false e = e
 
--- the first clash of a list of slots: there is none, or it is the k-th
+-- the first clash in a list of slots: there is none, or slot k is the first that clashes
 abbrev ClashAt : List ℕ → List ℕ → List ℕ → ℕ → Type 0
 ClashAt ps d e k = Clash (slotAt d (getD ps k 0)) (slotAt e (getD ps k 0))
 

@@ -20,7 +20,7 @@ use Rattle.draft_slots.proofs.Blocks.{blank-fits}
 
 -- ---- one slot
 
--- 65 bytes lent to the copying of as many
+-- the 65 bytes of a slot were lent and are now y, a copy of s: that is s put into the slot
 lent-slot : (d s y : List ℕ) (p n : ℕ) → y ≡ take (length (take n (drop p d))) s ++ drop (length s) (take n (drop p d)) → n ≡ 65 → length s ≡ 65
     → p + 65 ≤ length d
     → take p d ++ (y ++ drop n (drop p d)) ≡ putSlot p s d
@@ -50,7 +50,7 @@ module _ (p : ℕ) (s d : List ℕ) where
         go true b h = rw h
         go false b h = refl
 
-    -- the lent slot comes back as y
+    -- the slot was lent and is now y
     pub joined-blank : (y : List ℕ) → y ≡ take (length (take (p + 65 - p) (drop p d))) s ++ drop (length s) (take (p + 65 - p) (drop p d)) → r ≡ true
         → length s ≡ 65
         → take p d ++ (y ++ drop (p + 65 - p) (drop p d)) ≡ joinedAt p s d
@@ -67,7 +67,7 @@ module _ (e : List ℕ) where
   join-append [] qs d = refl
   join-append (p ∷ ps) qs d = join-append ps qs (joinedAt p (slotAt e p) d)
 
-  -- what is left is y
+  -- joining the slots that are left gives y
   module _ (p : ℕ) (d y : List ℕ) where
     pub join-on : (n : ℕ) → joinAll (slotRange n p) e d ≡ y → 0 < n → (s : List ℕ) → s ≡ slotAt e p → (z : List ℕ) → z ≡ joinedAt p s d
         → joinAll (slotRange (n - 1) (p + 65)) e z ≡ y
@@ -82,7 +82,7 @@ module _ (e : List ℕ) where
 
 pub ruleset joining-slot = (joined-short, joined-filled, joined-blank)
 
--- ---- in place, and as a whole
+-- ---- joining in place, and joining as a whole
 
 pub joined-put : (p : ℕ) (s d : List ℕ) → length s ≡ signatureWidth → joinedAt p s d ≡ putSlot p (join (slotAt d p) s) d
 unfolding joinedAt signatureWidth
@@ -99,7 +99,7 @@ put-alike f g lo (p ∷ ps) n d h e =
     ap (λ (s : List ℕ). putAll ps f (putSlot p s d)) (e p (h .0))
     ∙ put-alike f g (p + signatureWidth) ps n (putSlot p (g p) d) (h .1) (λ q k. e q (omega arith))
 
--- joining slot by slot is putting each slot's join into d
+-- joining slot by slot puts each slot's join into d
 pub joined-all : (e : List ℕ) (lo : ℕ) (ps d : List ℕ) → Spaced lo ps (length d) → length e ≡ length d
     → joinAll ps e d ≡ putAll ps (λ p. join (slotAt d p) (slotAt e p)) d
 unfolding joinAll putAll

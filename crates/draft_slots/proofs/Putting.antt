@@ -11,7 +11,7 @@ use lib.Seq.{getD-take, getD-drop, ext-getD, take-at, drop-at, drop-drop, length
 use Rattle.wire.specs.Bytes.{Bytes, bytes-take, bytes-drop, bytes-append}
 use Rattle.transaction.specs.Slots.{signatureWidth, slotAt, putSlot, putAll, Outside, Spaced, length-slotAt}
 
--- ---- the places of slots
+-- ---- the offsets of slots
 
 pub spaced-le : (lo : ℕ) (ps : List ℕ) (n : ℕ) → Spaced lo ps n → lo ≤ n
 spaced-le lo [] n h = h
@@ -22,7 +22,7 @@ spaced-at lo [] n h k b = absurd (not-suc-le-zero b)
 spaced-at lo (p ∷ ps) n h zero b = (h .0, spaced-le (p + signatureWidth) ps n (h .1))
 spaced-at lo (p ∷ ps) n h (suc k) b = let r = spaced-at (p + signatureWidth) ps n (h .1) k (le-of-suc-le-suc b) in (omega arith, r .1)
 
--- a place is in no slot, or in the k-th
+-- an offset is in no slot, or in slot k
 pub inside : (ps : List ℕ) (n : ℕ) → Outside ps n ⊎ ((k : ℕ) × (k < length ps) × (getD ps k 0 ≤ n) × (n < getD ps k 0 + signatureWidth))
 inside [] n = inl tt
 inside (p ∷ ps) n = go (decLe p n) (decLe (p + signatureWidth) n) (inside ps n)
@@ -53,7 +53,7 @@ unfolding slotAt
 getD-slotAt d p n h k =
     getD-take signatureWidth (drop p d) (n - p) 0 (omega arith) ∙ getD-drop p d (n - p) 0 ∙ ap (λ (m : ℕ). getD d m 0) (omega arith)
 
--- two lists as long, the same outside the slots and in each slot, are equal
+-- two byte strings of the same length that agree outside the slots and in each slot are equal
 pub by-slots : (ps a b : List ℕ) → length a ≡ length b → ((n : ℕ) → Outside ps n → getD a n 0 ≡ getD b n 0)
     → ((k : ℕ) → k < length ps → slotAt a (getD ps k 0) ≡ slotAt b (getD ps k 0)) → a ≡ b
 by-slots ps a b e o s = ext-getD 0 a b e (λ n h. go n (inside ps n))
@@ -63,14 +63,14 @@ by-slots ps a b e o s = ext-getD 0 a b e (λ n h. go n (inside ps n))
     go n (inr (k, i, l, u)) =
         sym (getD-slotAt a (getD ps k 0) n l u) ∙ ap (λ (t : List ℕ). getD t (n - getD ps k 0) 0) (s k i) ∙ getD-slotAt b (getD ps k 0) n l u
 
--- ---- one signature put in
+-- ---- one signature put into a slot
 
 pub bytes-put : (p : ℕ) (s d : List ℕ) → Bytes s → Bytes d → Bytes (putSlot p s d)
 unfolding putSlot
 bytes-put p s d bs bd =
     bytes-append (take p d ++ s) (drop (p + signatureWidth) d) (bytes-append (take p d) s (bytes-take p d bd) bs) (bytes-drop (p + signatureWidth) d bd)
 
--- what stands there already
+-- putting a slot's own bytes changes nothing
 pub put-own : (p : ℕ) (d : List ℕ) → putSlot p (slotAt d p) d ≡ d
 unfolding putSlot slotAt
 put-own p d =
@@ -135,12 +135,12 @@ module _ (p : ℕ) (s d : List ℕ) (hs : length s ≡ signatureWidth) (hd : p +
       split : (x : List ℕ) (j : ℕ) → q ≡ p + signatureWidth + j → drop q x ≡ drop j (drop (p + signatureWidth) x)
       split x j e = ap (λ (m : ℕ). drop m x) e ∙ sym (drop-drop j (p + signatureWidth) x)
 
--- ---- and one into each slot of a list
+-- ---- a signature put into each slot of a list
 
 abbrev pub Long : (ℕ → List ℕ) → List ℕ → Type 0
 Long f ps = (k : ℕ) → k < length ps → length (f (getD ps k 0)) ≡ signatureWidth
 
--- the first put leaves the other slots their places
+-- after the first put the other slots are at the same offsets
 record First (f : ℕ → List ℕ) (d : List ℕ) (p : ℕ) (ps : List ℕ) : Type 0 where
   here : length (f p) ≡ signatureWidth
   fits : p + signatureWidth ≤ length d

@@ -30,11 +30,11 @@ use Rattle.draft_slots.specs.declared.Found.{Found}
 use Rattle.draft_slots.specs.declared.Found.the-variants as F
 use Rattle.draft_slots.proofs.InPlace.{join-append}
 
--- ---- the credentials' slots
+-- ---- the slots of one credential
 
 pub ruleset running = (W.on-value, W.on-integer-refused, W.on-part, W.on-part-refused)
 
--- a run that was found lies inside the bytes
+-- a slot range that was found lies inside the bytes
 pub record Inside (s : List ℕ) (q p n next : ℕ) : Type 0 where
   pub starts : p ≡ q + 8
   pub ends : next ≡ p + 65 * n
@@ -75,7 +75,7 @@ range-inside s q p n next x e h = type (leb 4 (length s - q)) refl (found e h)
     type true h z = count (leb 4 (length s - (q + 4))) refl z
     type false h z = never z
 
--- what a range that was found bounds, where k slots were counted before it
+-- the bounds that a slot range gives, where k slots were counted before it
 module _ (s : List ℕ) (q p n next : ℕ) (x : SlotRange) (e : x ≡ rangeAt s q) (h : x ≡ R.Slots p n next) where
   inside : Inside s q p n next
   inside = range-inside s q p n next x e h
@@ -102,7 +102,7 @@ module _ (s : List ℕ) (q p n next : ℕ) (x : SlotRange) (e : x ≡ rangeAt s 
 pub slots-fit : (c : ℕ) → c < 256 ^ 4 → 65 * c < 2 ^ 64
 slots-fit c h = omega arith
 
--- ---- the walk
+-- ---- the scan
 
 module _ (s : List ℕ) (at : ℕ) (x : Integer) (p : x ≡ valued (integer 4) s at) where
   pub scan-from : (n q : ℕ) → x ≡ N.Value n q → scanFrom n s q ≡ scan s at
@@ -163,7 +163,7 @@ pub found-some : (o : Option ℕ) (j : ℕ) → Walk.found o ≡ F.At j → o �
 found-some none j h = let z : _≡_ {A = ℕ} 0 1 = cc in absurd (omega arith)
 found-some (some k) j h = let z : k ≡ j = cc in ap some z
 
--- the first clash of d and e in these slots, as code tells it. It is shut, so that `search` reads its arguments off it
+-- the first clash of d and e in these slots, as the code answers it; opaque, so that `search` reads its arguments off it
 unfoldable pub clashFrom : List ℕ → List ℕ → ℕ → List ℕ → Found
 clashFrom d e k ps = Walk.found (firstClash k ps d e)
 
@@ -171,7 +171,7 @@ pub clash-is : (d e : List ℕ) (k : ℕ) (ps : List ℕ) (z : Found) → z ≡ 
 unfolding clashFrom
 clash-is d e k ps z h = h
 
--- in a run of slots, y is what is left
+-- in a slot range: y is the first clash among the slots that are left
 module _ (d e : List ℕ) (k p n : ℕ) (y : Found) (w : clashFrom d e k (slotRange n p) ≡ y) where
   module _ (a b : List ℕ) (ha : a ≡ slotAt d p) (hb : b ≡ slotAt e p) (t : Bool) (ht : t ≡ clashes a b) where
     test : clashes (slotAt d p) (slotAt e p) ≡ t
@@ -203,7 +203,7 @@ module _ (d e : List ℕ) (k p n : ℕ) (y : Found) (w : clashFrom d e k (slotRa
 
 pub ruleset clashing-range = (clash-here, clash-on, clash-end)
 
--- over all credentials, y is what is left
+-- over all credentials: y is the first clash among the slots that are left
 module _ (d e : List ℕ) (at : ℕ) (x : Integer) (p : x ≡ valued (integer 4) d at) where
   pub clash-start : (n q : ℕ) → x ≡ N.Value n q → clashFrom d e 0 (scanFrom n d q) ≡ clashFrom d e 0 (scan d at)
   clash-start n q h = ap (clashFrom d e 0) (scan-from d at x p n q h)
@@ -241,7 +241,7 @@ module _ (d e : List ℕ) (k left q : ℕ) (y : Found) (w : clashFrom d e k (sca
 
 pub ruleset clashing-walk = (clash-over, clash-stop, clash-found, clash-next)
 
--- ---- the place of a slot
+-- ---- the offset of a slot
 
 range-place : (n p k : ℕ) → k < n → getD (slotRange n p) k 0 ≡ p + 65 * k
 unfolding slotRange
@@ -275,7 +275,7 @@ place-behind n p k qs h = go (decLt (k - n) (length qs))
 place-none : (k : ℕ) → F.Nothing ≡ placed [] k
 place-none k = let h : 0 ≤ k = omega arith in rw (le-ltb k 0 h)
 
--- slot k of those in s. It is shut, so that `search` reads its arguments off it
+-- the offset of slot k among ps; opaque, so that `search` reads its arguments off it
 unfoldable pub placeFrom : List ℕ → ℕ → Found
 placeFrom ps k = placed ps k
 

@@ -7,7 +7,7 @@ use borrow.Author.Needs.{needs}
 use Rattle.draft.proofs.put_merge.Statement.{statement}
 use Rattle.draft.proofs.put_merge.Tie as tie
 
--- the copy, and then the slots joined to it
+-- the first draft is copied, and then the second's slots are joined to the copy
 returns : tie.Need-returns
 returns c =
     let copied : tie.After-put-bytes = search in

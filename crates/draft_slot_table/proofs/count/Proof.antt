@@ -1,4 +1,4 @@
--- `draft_slot_table::count` meets its contract. The invariant: the slots counted and those that are left are all. Assumes nothing.
+-- `draft_slot_table::count` meets its contract. The invariant: the slots counted so far and those that are left are all slots. Assumes nothing.
 use borrow.Author.Needs.{needs}
 use Prim.Native.Nat.{_+_, _≤_}
 use mathlib.Core.Path.{_≡_}

@@ -1,4 +1,4 @@
--- `draft_slot_table::put_slots` meets its contract. The invariant: putting the rows that are left is putting them all. Assumes nothing.
+-- `draft_slot_table::put_slots` meets its contract. The invariant: writing the rows that are left completes the writing of all. Assumes nothing.
 use borrow.Author.Needs.{needs}
 use Prim.Native.Nat.{_+_, _*_, _≤_}
 use mathlib.Core.Path.{_≡_, refl, ap}

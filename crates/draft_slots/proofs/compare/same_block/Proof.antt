@@ -1,4 +1,4 @@
--- `draft_slots::compare::same_block` meets its contract. The invariant: what was found so far, and what is left to compare, is the whole. Assumes nothing.
+-- `draft_slots::compare::same_block` meets its contract. The invariant: the result so far and that of the bytes left give the whole. Assumes nothing.
 use borrow.Author.Needs.{needs}
 use mathlib.Core.Path.{_≡_}
 use mathlib.Core.Bool.{_&&_}

@@ -1,4 +1,4 @@
--- `draft_slots::compare::same_bytes` meets its contract. The invariant: what is left to compare is the whole. Assumes nothing.
+-- `draft_slots::compare::same_bytes` meets its contract. The invariant: the strings are equal exactly if what is left of them is. Assumes nothing.
 use mathlib.Core.Path.{_≡_}
 use Prim.Native.Nat.{_-_, _≤_}
 use native.Mathlib.Omega.{arith}

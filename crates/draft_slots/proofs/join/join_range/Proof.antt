@@ -1,4 +1,4 @@
--- `draft_slots::join::join_range` meets its contract. The invariant: joining what is left gives what joining all gives. Assumes nothing.
+-- `draft_slots::join::join_range` meets its contract. The invariant: joining the slots that are left completes the joining of all. Assumes nothing.
 use mathlib.Core.Path.{_≡_, refl}
 use Prim.Native.Nat.{_+_, _*_, _≤_}
 use native.Mathlib.Omega.{arith}

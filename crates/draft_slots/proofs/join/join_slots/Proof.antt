@@ -1,4 +1,4 @@
--- `draft_slots::join::join_slots` meets its contract. The invariant: joining what is left gives what joining all gives. Assumes nothing.
+-- `draft_slots::join::join_slots` meets its contract. The invariant: joining the slots that are left completes the joining of all. Assumes nothing.
 use mathlib.Core.Path.{_≡_, refl}
 use lib.ListN.{length}
 use Rattle.draft_slots.specs.Scan.{scan, scanFrom, joinAll}

@@ -1,4 +1,4 @@
--- `draft_slots::scan::clash_in` meets its contract. The invariant: the first clash of what is left is that of the whole. Assumes nothing.
+-- `draft_slots::ranges::clash_in` meets its contract. The invariant: the first clash among the slots left is the first of all. Assumes nothing.
 use mathlib.Core.Path.{_≡_, refl}
 use Prim.Native.Nat.{_+_, _*_, _≤_}
 use native.Mathlib.Omega.{arith}

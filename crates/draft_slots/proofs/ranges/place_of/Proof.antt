@@ -1,4 +1,4 @@
--- `draft_slots::scan::place_of` meets its contract. The invariant: the slot among what is left is that of the whole. Assumes nothing.
+-- `draft_slots::ranges::place_of` meets its contract. The invariant: slot `before` of those that are left is slot k of all. Assumes nothing.
 use mathlib.Core.Path.{_≡_}
 use Rattle.draft_slots.specs.Scan.{scan, scanFrom}
 use Rattle.draft_slots.proofs.Walking.{slot-offset, slot-start, placeFrom, place-is, place-start, place-absent, placing-walk}

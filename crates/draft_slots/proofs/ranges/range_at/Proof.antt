@@ -1,4 +1,4 @@
--- `draft_slots::scan::range_at` meets its contract. Assumes nothing.
+-- `draft_slots::ranges::range_at` meets its contract. Assumes nothing.
 use Rattle.wire.proofs.Reading.{value-small}
 use Rattle.draft_slots.proofs.Walking.{slots-fit, running}
 use borrow.Author.Needs.{needs}
