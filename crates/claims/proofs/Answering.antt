@@ -64,7 +64,7 @@ check-answers = record { number = check-number; own = check-own }
 -- ---- entry n
 
 module _ (s : List ℕ) (n : ℕ) where
-  -- the answer, by what the check came to
+  -- the answer, by the result of the check
   abbrev answerOf : Result (Signed (avm memoMost)) → EntryRead
   answerOf o = onResult o refusedEntry (λ v end. entryAnswer end (entry (avm memoMost) v n))
 
@@ -97,7 +97,7 @@ entry-answers =
 
 -- ---- rows in a lent table
 
--- what holds of every answer over the table t
+-- what holds of every answer with the lent table t
 record Kept (t : List ℕ) (f : Filled) : Type 0 where
   number : OneOf (tabledNumber (f .answer)) tableNumbers
   unchanged : (tabledNumber (f .answer) ≡ 0 → ⊥) → (tabledRows (f .answer) ≡ 0) × (f .table ≡ t)
@@ -107,7 +107,7 @@ record Kept (t : List ℕ) (f : Filled) : Type 0 where
 refused-kept : (t : List ℕ) (e : Refusal) → OneOf (numberOf e) tableNumbers → Kept t (filled (T.Refused e) t)
 refused-kept t e h = record { number = h; unchanged = λ n. (refl, refl); beyond = refl; length-kept = refl }
 
--- rows r, which are c, with room asked for n numbers
+-- c rows, which are the integers r, where room for n integers is asked
 module _ (c : ℕ) (r : List ℕ) (n : ℕ) (asked : n ≡ 3 * c) (long : length r ≡ 3 * c) (end : ℕ) (t : List ℕ) where
   abbrev inRoom : Filled
   inRoom = pick (leb n (length t)) (filled (T.Listed c end) (r ++ drop n t)) (filled (T.Refused (refusal noRoom 0)) t)
@@ -131,11 +131,11 @@ module _ (c : ℕ) (r : List ℕ) (n : ℕ) (asked : n ≡ 3 * c) (long : length
           }
       go false room = refused-kept t (refusal noRoom 0) (inl refl)
 
--- of the reading v of s there are `count s v` rows, the numbers `rows s v`; room is asked for `width s v` numbers
+-- the reading v of s has `count s v` rows, which are the integers `rows s v`; room for `width s v` integers is asked
 module _ (count : List ℕ → Signed (avm memoMost) → ℕ) (rows : List ℕ → Signed (avm memoMost) → List ℕ) (width : List ℕ → Signed (avm memoMost) → ℕ)
     (asked : (s : List ℕ) (v : Signed (avm memoMost)) → width s v ≡ 3 * count s v)
     (long : (s : List ℕ) (v : Signed (avm memoMost)) → length (rows s v) ≡ 3 * count s v) where
-  -- the table, by what the check came to
+  -- the table, by the result of the check
   abbrev tableOf : List ℕ → List ℕ → Result (Signed (avm memoMost)) → Filled
   tableOf s t o = onResult o (λ e. filled (T.Refused e) t) (λ v end. inRoom (count s v) (rows s v) (width s v) (asked s v) (long s v) end t)
 

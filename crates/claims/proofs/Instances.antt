@@ -31,13 +31,13 @@ use Rattle.draft_theorems.proofs.Theorems.{avm-demand-3}
 use Rattle.claims.specs.Cases.{A, edited, empty}
 use Rattle.claims.specs.Instance.{Avm, halves, clashing, oneCall, Supposed, Instances}
 
--- ---- what computes
+-- ---- facts found by computing
 
 abbrev allBelow : List ℕ → Bool
 allBelow [] = true
 allBelow (x ∷ xs) = ltb x 256 && allBelow xs
 
--- d is accepted, and of A's unsigned transaction
+-- d is bytes, is accepted, and has A's unsigned transaction
 abbrev LikeA : List ℕ → Type 0
 LikeA d = (allBelow d ≡ true) × (Avm .accepts d ≡ true) × (body Avm d ≡ body Avm A)
 
@@ -76,7 +76,7 @@ bytes : (s : List ℕ) → allBelow s ≡ true → Bytes s
 bytes [] h = tt
 bytes (x ∷ xs) h = let (a, b) = and-true (ltb x 256) (allBelow xs) h in (ltb-true x 256 a, bytes xs b)
 
--- ---- the lists, and the call over each
+-- ---- the two lists of drafts, and the call on each
 
 draft-like : (d : List ℕ) → LikeA d → Draft Avm d
 draft-like d c = record { bytes = bytes d (c .0); accepted = c .1 }
@@ -104,7 +104,7 @@ clashing-supposed =
       uses = uses-both;
     }
 
--- a call with a result shows that there is no conflict
+-- the call has a result, so there is no conflict
 halves-free : Conflict Avm halves → ⊥
 halves-free c =
     let h : Supposed halves oneCall = halves-supposed in
@@ -113,7 +113,7 @@ halves-free c =
     never : {x : List ℕ} → none ≡ some x → ⊥
     never p = let y : _≡_ {A = ℕ} 0 1 = cc in omega arith
 
--- slot 1: the first byte of each is 64, and the last ones differ
+-- slot 1 is filled in both, for its first byte is 64, and its last bytes differ
 clashing-conflict : Conflict Avm clashing
 clashing-conflict =
     record {

@@ -50,7 +50,7 @@ use Rattle.claims.proofs.Answering.{table-answers, slots-answers, entry
 abbrev Refused : ℕ → Type 0
 Refused n = (s : List ℕ) × (e : Refusal) × Bytes s × (check (avm memoMost) s ≡ refused e) × (numberOf e ≡ n)
 
--- rule 1 looks at nothing but the length
+-- rule 1 depends on the length only, so zeros can break it
 zero-bytes : (n : ℕ) → Bytes (zeros n)
 zero-bytes zero = tt
 zero-bytes (suc n) = (omega arith, zero-bytes n)
@@ -119,7 +119,7 @@ read-entries = (refl, refl)
 A-bytes : Bytes A
 A-bytes = bytes-of A refl
 
--- a case for a number that is given, and those of the check behind it
+-- the first number has a case of its own, and the others those of the check
 behind : (P : ℕ → Type 0) (k n : ℕ) (l : List ℕ) → P k → (OneOf n l → P n) → OneOf n (k ∷ l) → P n
 behind P k n l p on = ⊎-elim (λ e. subst P (sym e) p) on
 

@@ -51,7 +51,7 @@ pub inside-each : (hi : ℕ) (es : List EntryAt) → Inside hi es → Each (λ e
 inside-each hi [] h = tt
 inside-each hi (e ∷ es) (a, b, h) = ((a, b), inside-each hi es h)
 
--- ---- what stands in s, and its parts
+-- ---- bytes that are in s at an offset, and ranges of them
 
 abbrev Here : List ℕ → ℕ → List ℕ → Type 0
 Here s at w = (r : List ℕ) × (drop at s ≡ w ++ r)
@@ -113,7 +113,7 @@ module _ (s : List ℕ) where
   input-part : (prev : List ℕ) (at : ℕ) (i : Input) → Here s at (input prev .write i) → between at (at + length (input prev .write i)) s ≡ inputBytes i
   input-part prev at i h = here-part s at (input prev .write i) h ∙ input-bytes prev i
 
-  -- an element of a list stands at its entry
+  -- the bytes of a list's element are at its entry
   element-stands : (l : ListName) (prev : List ℕ) (at : ℕ) (a : elementsOf l .Element) → Here s at (elementsOf l .element prev .write a)
       → Stand (elementsOf l .entries at (at + length (elementsOf l .element prev .write a)) a)
   unfolding guard
@@ -139,7 +139,7 @@ module _ (s : List ℕ) where
 
   -- ---- credentials
 
-  -- the bytes of n signatures, and of what is behind them
+  -- n signatures and the pieces after them, with the bytes of both
   record Signatures (n : ℕ) (ps : List Piece) (l : List (List ℕ)) : Type 0 where
     these : List (List ℕ)
     others : List (List ℕ)

@@ -136,7 +136,7 @@ module _ (s : List ℕ) (k n p i : ℕ) (t y : List ℕ) (h : put t i (rows s (s
 
 pub ruleset running = (range-end, range-next)
 
--- over all credentials
+-- over all credentials: writing the rows that are left gives the whole table
 module _ (s t : List ℕ) (at : ℕ) (x : Integer) (p : x ≡ valued (integer 4) s at) where
   pub slots-start : (n q : ℕ) → x ≡ N.Value n q → put t 0 (rows s (scanFrom 0 n s q)) ≡ put t 0 (rows s (scan s at))
   slots-start n q h = ap (λ (l : List Slot). put t 0 (rows s l)) (scan-from s at x p n q h)

@@ -41,7 +41,7 @@ outside-at [] n o k b = absurd (not-suc-le-zero b)
 outside-at (p ∷ ps) n o zero b = o .0
 outside-at (p ∷ ps) n o (suc k) b = outside-at ps n (o .1) k (le-of-suc-le-suc b)
 
--- an earlier slot ends before a later one
+-- a slot ends before a later one starts
 pub spaced-before : (lo : ℕ) (ps : List ℕ) (n : ℕ) → Spaced lo ps n → (j k : ℕ) → j < k → k < length ps → getD ps j 0 + signatureWidth ≤ getD ps k 0
 spaced-before lo [] n h j k a b = absurd (not-suc-le-zero b)
 spaced-before lo (p ∷ ps) n h j zero a b = absurd (not-suc-le-zero a)

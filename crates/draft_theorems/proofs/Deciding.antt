@@ -50,7 +50,7 @@ module _ (R : Reader) (L : Laws R) (d e out : List ℕ) (hd : Draft R d) (he : D
         called R L d hd d e (like-self R d hd) (le R L d e out hd he same-body) none true out none-first (le-leb (length d) (length out) h)
         ∙ ap (λ (n : ℕ). (A.Done n, merged R d e ++ drop n out)) (merged-like R L d hd d e (like-self R d hd) (le R L d e out hd he same-body) .frame .long)
 
--- ---- what is not accepted, or not of one unsigned transaction; a slot that is not there, bytes that are no signature
+-- ---- inputs that are not accepted, or not of one unsigned transaction; a slot that does not exist; bytes that are no signature
 
 module _ (R : Reader) where
   first-not : (d e out : List ℕ) → R .accepts d ≡ false → mergeCall R d e out ≡ (refuse firstNotAccepted 0, out)

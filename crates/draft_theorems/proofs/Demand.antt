@@ -18,7 +18,7 @@ use Rattle.draft_theorems.proofs.Listing.{held-by, held-filled, is-merg
 use Rattle.draft_theorems.proofs.Pairing.{pair}
 
 module _ (R : Reader) (L : Laws R) (ds : List (List ℕ)) (D : Drafts R ds) where
-  -- ---- there is one merge at most, and none where there is a conflict
+  -- ---- there is at most one merge, and none if there is a conflict
 
   module _ (m : List ℕ) (M : IsMerge R ds m) where
     like-merge : Like R (at ds 0) m
@@ -69,7 +69,7 @@ module _ (R : Reader) (L : Laws R) (ds : List (List ℕ)) (D : Drafts R ds) wher
         is-mergeOf R L ds D x (j .like) (λ k b i bi f. j .upper k b i (uses i bi) f)
         (λ k b f. let w = j .lower k b f in (w .0, w .1, λ z. f (sym (w .2) ∙ z)))
 
-    -- with a result there is no conflict: the result holds what each draft holds
+    -- if there is a result, there is no conflict, for the result holds what each draft holds
     result-free : (x : List ℕ) → Joined R ds g x → Conflict R ds → ⊥
     result-free x j c =
         let b = in-first R L ds D (at ds (c .i)) (like-at R L ds D (c .i) (c .i-in) .slots) (c .k) (c .k-in) in

@@ -23,7 +23,7 @@ use Rattle.draft.specs.Calls.{refuse, decideFill, fillCall}
 use Rattle.draft_theorems.specs.Filling.{signatures, emptied, BlankOf, Fills, Leaves, Filling}
 use Rattle.draft_theorems.proofs.Laws.{Laws, Like, like-self, like-read, like-refilled, slot-on, like-putAll, putAll-on}
 
--- ---- one slot put anew
+-- ---- one slot replaced
 
 module _ (R : Reader) (L : Laws R) (d : List ℕ) (hd : Draft R d) (k : ℕ) (kb : k < slotCount R d) where
   at-k : ℕ
@@ -99,14 +99,14 @@ module _ (R : Reader) (L : Laws R) (d : List ℕ) (hd : Draft R d) (k : ℕ) (kb
             others = put-others j hj bj;
           }
 
--- ---- the calls that make a transaction of its blank draft
+-- ---- the calls that fill the blank draft of a transaction
 
 module _ (R : Reader) (L : Laws R) (d : List ℕ) (hd : Draft R d) where
   in-like : (e : List ℕ) → Like R d e → (k : ℕ) → k < length (R .slots d) → k < slotCount R e
   unfolding slotCount
   in-like e l k b = subst⁻¹ (λ (ps : List ℕ). k < length ps) (l .slots) b
 
-  -- the slots before k are filled as in d, the others empty
+  -- the slots before k are filled as in d, and the others are empty
   record UpTo (k : ℕ) (e : List ℕ) : Type 0 where
     pub like : Like R d e
     pub filled : (j : ℕ) → j < k → j < length (R .slots d) → slot R e j ≡ slot R d j

@@ -11,7 +11,7 @@ use Rattle.draft.specs.Reader.{Reader, Draft, body, slot}
 use Rattle.draft_theorems.specs.Demand.{Frame}
 
 pub record Laws (R : Reader) : Type 0 where
-  -- the slots lie one behind the other inside the draft
+  -- the slots lie one after the other inside the draft
   pub apart : (d : List ℕ) → Draft R d → Spaced 0 (R .slots d) (length d)
   -- two drafts of one unsigned transaction differ in their slots only
   pub alike : (d e : List ℕ) → Draft R d → Draft R e → body R d ≡ body R e → (R .slots e ≡ R .slots d) × Frame (R .slots d) d e
@@ -39,7 +39,7 @@ like-both R d x y a b =
           (record { long = b .frame .long ∙ sym (a .frame .long); outside = λ n o. b .frame .outside n o ∙ sym (a .frame .outside n o) });
     }
 
--- slot k of x, at the place that it has in d
+-- slot k of x, at the offset that it has in d
 abbrev pub on : Reader → List ℕ → List ℕ → ℕ → List ℕ
 on R d x k = slotAt x (getD (R .slots d) k 0)
 
@@ -61,7 +61,7 @@ module _ (R : Reader) (L : Laws R) where
         length-slotAt x (getD (R .slots d) k 0)
         (subst⁻¹ (λ (n : ℕ). getD (R .slots d) k 0 + signatureWidth ≤ n) (l .frame .long) (spaced-at 0 (R .slots d) (length d) (L .apart d hd) k b .1))
 
-    -- every slot of x put anew
+    -- every slot of x replaced
     module _ (x : List ℕ) (lx : Like R d x) (f : ℕ → List ℕ) (long : Long f (R .slots d)) (bytes : (p : ℕ) → Bytes (f p)) where
       spaced-x : Spaced 0 (R .slots d) (length x)
       spaced-x = subst⁻¹ (λ (n : ℕ). Spaced 0 (R .slots d) n) (lx .frame .long) (L .apart d hd)

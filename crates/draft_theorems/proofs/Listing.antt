@@ -16,7 +16,7 @@ use Rattle.draft_theorems.specs.Demand.{Conflict, heldAt, mergeOf, IsMer
 use Rattle.draft_theorems.proofs.Laws.{Laws, Like, like-both, on, slot-on, length-on, like-putAll, putAll-on}
 use Rattle.draft_theorems.proofs.Running.{first-draft, like-at, conflict-of}
 
--- ---- what the drafts hold at one place
+-- ---- what the drafts hold at one offset
 
 pub held-by : (p : ℕ) (ds : List (List ℕ)) → Filled (heldAt p ds) → (i : ℕ) × (i < length ds) × (slotAt (at ds i) p ≡ heldAt p ds)
 unfolding heldAt
@@ -71,7 +71,7 @@ module _ (R : Reader) (L : Laws R) (ds : List (List ℕ)) (D : Drafts R ds) wher
   unfolding mergeOf held
   merge-on = putAll-on R L (at ds 0) (first-draft R L ds D) (at ds 0) (like-at R L ds D 0 (D .one-or-more)) (λ p. heldAt p ds) all-long all-bytes
 
-  -- a draft of the list's unsigned transaction that carries every draft, and holds no signature that no draft holds, is the merge
+  -- a draft of the list's unsigned transaction that holds every signature of the drafts, and fills no other slot, is the merge
   pub is-mergeOf : (x : List ℕ) → Like R (at ds 0) x
       → ((k : ℕ) → k < length (R .slots (at ds 0)) → (i : ℕ) → i < length ds → Filled (on R (at ds 0) (at ds i) k)
       → on R (at ds 0) x k ≡ on R (at ds 0) (at ds i) k)

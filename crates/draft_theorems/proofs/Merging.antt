@@ -25,7 +25,7 @@ decided : (a b c : Bool) (o p : Option ℕ) (r t : Bool) (m out : List ℕ) → 
     → decideMerge a b c o r m out ≡ decideMerge true true true p t m out
 decided a b c o p r t m out ha hb hc ho hr = rw (ha, hb, hc, ho, hr)
 
--- how it ends, where there is room
+-- how a call of merge ends if there is room
 pub data Ends (R : Reader) (d x y out : List ℕ) : Type 0 where
   joins : ((k : ℕ) → k < length (R .slots d) → Clash (on R d x k) (on R d y k) → ⊥)
       → mergeCall R x y out ≡ (A.Done (length (merged R x y)), merged R x y ++ drop (length (merged R x y)) out)
@@ -35,7 +35,7 @@ pub data Ends (R : Reader) (d x y out : List ℕ) : Type 0 where
       → Ends R d x y out
 
 module _ (R : Reader) (L : Laws R) (d : List ℕ) (hd : Draft R d) (x y : List ℕ) (lx : Like R d x) (ly : Like R d y) where
-  -- ---- what the slots are joined to
+  -- ---- the joins of the slots
 
   both : ℕ → List ℕ
   both p = join (slotAt x p) (slotAt y p)
@@ -61,7 +61,7 @@ module _ (R : Reader) (L : Laws R) (d : List ℕ) (hd : Draft R d) (x y : List �
 
   -- ---- the answer
 
-  -- once the first clash and the room are known
+  -- the answer, by the first clash and the room
   pub called : (o : Option ℕ) (t : Bool) (out : List ℕ) → firstClash 0 (R .slots d) x y ≡ o → leb (length x) (length out) ≡ t
       → mergeCall R x y out ≡ decideMerge true true true o t (merged R x y) out
   unfolding mergeCall

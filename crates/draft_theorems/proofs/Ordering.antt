@@ -59,7 +59,7 @@ module _ (R : Reader) (ds es : List (List ℕ)) (w : Within ds es) where
               sym (ap (body R) e) ∙ D .same-unsigned i i′ bi bi′ ∙ ap (body R) e′;
         }
 
--- ---- lists of few drafts
+-- ---- a list of one draft, and a list with one draft more
 
 pub drafts-one : (R : Reader) (d : List ℕ) → Draft R d → Drafts R (d ∷ [])
 drafts-one R d h =

@@ -25,7 +25,7 @@ first-one R d e j k a b = go (decLt j k) (decLt k j)
     go (no h) (yes t) = absurd (a .before k t (b .here))
     go (no h) (no t) = omega arith
 
--- with no clash the number is 0 or 14
+-- without a clash the number is 0 or 14
 never-20 : (t : Bool) (m out : List ℕ) → answerNumber (decideMerge true true true none t m out .0) ≡ 20 → ⊥
 never-20 true m out h = omega arith
 never-20 false m out h = omega arith

@@ -27,7 +27,7 @@ module _ {U : Type 0} (unsigned : Format U) (wants : U → List Want) where
   pub draft-of : (d : List ℕ) (u : U) (l : List (List ℕ)) → Parts unsigned wants d u l → Draft R d
   draft-of d u l p = record { bytes = bytes-of unsigned wants d u l p; accepted = accepted-of unsigned wants d u l p }
 
-  -- two drafts of one unsigned transaction
+  -- two drafts of one unsigned transaction differ in their slots only
   frame-of : (d e : List ℕ) (u : U) (l m : List (List ℕ)) → Parts unsigned wants d u l → Parts unsigned wants e u m → Frame (slotsAt unsigned wants d) d e
   unfolding assemble credentials
   frame-of d e u l m p q =
@@ -44,7 +44,7 @@ module _ {U : Type 0} (unsigned : Format U) (wants : U → List Want) where
             ∙ ap (λ (x : List ℕ). getD x n 0) (sym (p .same));
       }
 
-  -- what differs from a transaction in its slots only is assembled from what stands in them
+  -- bytes that differ from a transaction in its slots only are assembled from what their slots hold
   refill : (d e : List ℕ) (u : U) (l : List (List ℕ)) → Parts unsigned wants d u l → Bytes e → Frame (slotsAt unsigned wants d) d e
       → Parts unsigned wants e u (map (slotAt e) (slotsAt unsigned wants d))
   unfolding assemble credentials

@@ -18,7 +18,7 @@ use Rattle.draft_theorems.proofs.Reading.{draft-of, laws}
 use Rattle.draft_theorems.proofs.Filling.{fills-blank}
 
 module _ {U : Type 0} (unsigned : Format U) (wants : U → List Want) where
-  -- as many slots as signatures
+  -- there are as many slots as signatures
   pub slots-count : (d : List ℕ) (u : U) (l : List (List ℕ)) → Parts unsigned wants d u l → length (slotsAt unsigned wants d) ≡ length l
   unfolding credentials
   slots-count d u l p = ap length (slots-eq unsigned wants d u l p) ∙ length-places (layout (wants u)) l (length (unsigned .write u)) (p .signatures-good)

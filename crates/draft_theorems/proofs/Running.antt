@@ -24,7 +24,7 @@ use Rattle.draft_theorems.proofs.Merging.{merged-like, merged-on, Ends,
 
 -- ---- which calls are made
 
--- a call that is made is of one side, or the call above them; that call is made where both have results
+-- a call that is made belongs to one side, or is the call above both; that one is made if both sides have results
 module _ (R : Reader) (ds : List (List ℕ)) where
   parts : (o : Sides) (out : List ℕ) (g h : Grouping) (c : Call) → Made R ds (call o out g h) c → Made R ds g c ⊎ Made R ds h c ⊎ Above R ds out g h c
   parts firstBefore out g h c (inl w) = inl w
@@ -39,7 +39,7 @@ module _ (R : Reader) (ds : List (List ℕ)) where
   made-above secondBefore out g h c w = inr (inr w)
   made-above bothAnyway out g h c w = inr (inr w)
 
-  -- a side's calls, where the other side has a result
+  -- a side's calls are made if the other side has a result
   made-first : (o : Sides) (out : List ℕ) (g h : Grouping) (c : Call) → IsSome (result R ds h) → Made R ds g c → Made R ds (call o out g h) c
   made-first firstBefore out g h c i w = inl w
   made-first secondBefore out g h c i w = inl (i, w)
@@ -50,13 +50,13 @@ module _ (R : Reader) (ds : List (List ℕ)) where
   made-second secondBefore out g h c i w = inr (inl w)
   made-second bothAnyway out g h c i w = inr (inl w)
 
-  -- both sides meet n: the one whose calls come first does
+  -- if both sides meet n, the grouping meets it on the side whose calls come first
   meets-either : (o : Sides) (out : List ℕ) (g h : Grouping) (n : ℕ) → Meets R ds g n → Meets R ds h n → Meets R ds (call o out g h) n
   meets-either firstBefore out g h n a b = record { asked = a .asked; made = inl (a .made); answers = a .answers }
   meets-either secondBefore out g h n a b = record { asked = b .asked; made = inr (inl (b .made)); answers = b .answers }
   meets-either bothAnyway out g h n a b = record { asked = a .asked; made = inl (a .made); answers = a .answers }
 
-  -- the call above, where the sides' results are known
+  -- the call above is on the sides' results
   above-is : (g h : Grouping) (out x y : List ℕ) (c : Call) → result R ds g ≡ some x → result R ds h ≡ some y
       → Above R ds out g h c → c ≡ record { first = x; second = y; out = out }
   above-is g h out x y c ex ey m =
@@ -64,7 +64,7 @@ module _ (R : Reader) (ds : List (List ℕ)) where
       let e₂ : c .second ≡ y = cc in
       λ i. record { first = e₁ i; second = e₂ i; out = m .2 i }
 
--- ---- how it ends
+-- ---- how a grouping ends
 
 pub record Joined (R : Reader) (ds : List (List ℕ)) (g : Grouping) (x : List ℕ) : Type 0 where
   pub like : Like R (at ds 0) x
@@ -193,7 +193,7 @@ module _ (R : Reader) (L : Laws R) (ds : List (List ℕ)) (D : Drafts R ds) wher
         (λ q w. ⊎-elim (λ u. inl (cx q u))
         (⊎-elim (λ u. inl (cy q u)) (λ a. inr (subst⁻¹ (Refused R) (above-is R ds g h out x y q ex ey a) (refused-me k f e)))) (parts R ds o out g h q w))
 
-  -- ---- where a side has no result, the call above is not made
+  -- ---- if a side has no result, the call above is not made
 
   never-above : (out : List ℕ) (g h : Grouping) → (result R ds g ≡ none) ⊎ (result R ds h ≡ none)
       → ((c : Call) → Made R ds g c → Done R ds c ⊎ Refused R c) → ((c : Call) → Made R ds h c → Done R ds c ⊎ Refused R c)

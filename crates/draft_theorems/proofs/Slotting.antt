@@ -21,7 +21,7 @@ module _ (F : Family) (d : List ℕ) (v : Signed F) (p : Parts (unsigned F) (wan
   count-at : reader F .credentialsAt d ≡ length (unsigned F .write (v .0))
   count-at = ap endOf (read-body (unsigned F) (wants F) d (v .0) (v .1) p)
 
-  -- the list of credentials begins with their count, of four bytes
+  -- the slots come after the credentials' count, which has four bytes
   spaced-behind : Spaced (length (unsigned F .write (v .0)) + 4) (reader F .slots d) (length d)
   unfolding layout places size
   spaced-behind =

@@ -41,7 +41,7 @@ module _ (F : Family) where
 
 -- ---- the AVM
 
--- with the memo's limit of the base: that is said here only
+-- the AVM's family with the base's limit on memos, fixed here only
 abbrev base : Family
 base = avm memoMost
 

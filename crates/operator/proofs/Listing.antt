@@ -11,13 +11,13 @@ use Rattle.entry_table.specs.declared.Tabled.{Tabled}
 use Rattle.entry_table.specs.declared.Tabled.the-variants as T
 use Rattle.operator.specs.Listing.{packed, listing, listed}
 
--- ---- the number of an answer
+-- ---- the answer as one integer
 
 pub rows-packed : (x : Tabled) (n end : ℕ) → x ≡ T.Listed n end → n % 4294967296 ≡ packed x
 unfolding packed
 rows-packed x n end q = rw q (omega arith)
 
--- a refusal has a number, so that it is told from done
+-- a refusal's number is not 0, so it differs from done
 pub refused-packed : (x : Tabled) (e : Refusal) → x ≡ T.Refused e → (n : ℕ) → n ≡ numberOf e → n * 4294967296 + e .place % 4294967296 ≡ packed x
 unfolding packed
 refused-packed x e q n h =

@@ -32,7 +32,7 @@ use Rattle.draft_slot_table.specs.Slots as Slot
 use Rattle.draft_slot_table.proofs.Rows.{reader-places}
 use Rattle.operator.specs.Listing.{reported, packed, Unlisted}
 
--- an answer with a small number and few rows, or a small place
+-- the number of the answer is at most 21, and its rows or its place at most 65,536
 record Small (a : Tabled) : Type 0 where
   number : tabledNumber a ≤ 21
   rest : reported a ≤ 65536
@@ -50,13 +50,13 @@ refused-small e h = record { number = number-range (e .rule) .1; rest = go (eqb 
     go true = omega arith
     go false = h
 
--- n rows where there is room for them, else 14
+-- n rows if there is room for them, else 14
 in-room : (n end : ℕ) (x t : List ℕ) → n ≤ 65536 → (b : Bool) → Small (pick b (filled (T.Listed n end) x) (filled (T.Refused (refusal noRoom 0)) t) .answer)
 in-room n end x t h true = record { number = omega arith; rest = h }
 in-room n end x t h false = refused-small (refusal noRoom 0) (omega arith)
 
 module _ (s : List ℕ) (bytes : Bytes s) where
-  -- a refusal of the check
+  -- a refusal of the check is small
   check-small : (e : Refusal) → check (avm memoMost) s ≡ refused e → Small (T.Refused e)
   check-small e h =
       let q = sym (ap (λ (o : Result (Signed (avm memoMost))). onResult o C.Refused (λ v n. C.Accepted (layout memoMost (v .0)) n)) h) in

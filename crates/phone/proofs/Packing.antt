@@ -50,7 +50,7 @@ pub ruleset packing = (accepted-packed, refused-packed)
 
 -- ---- merge
 
--- no answer is done and refused
+-- no answer is both done and refused
 refuses : {P : Type 0} (n : ℕ) (s : List ℕ) (e : Refusal) (t : List ℕ) → _≡_ {A = Answer × List ℕ} (A.Done n, s) (A.Refused e, t) → P
 refuses n s e t q =
     let y : A.Done n ≡ A.Refused e = ap (λ (z : Answer × List ℕ). z .0) q in
@@ -67,7 +67,7 @@ abbrev R : Reader
 R = reader (avm memoMost)
 
 module _ (d e out : List ℕ) (b : Bytes d) where
-  -- the slot of a conflict is a small number
+  -- the slot number of a conflict is at most 65,536
   slot-small : R .accepts d ≡ true → (k : ℕ) → firstClash 0 (R .slots d) d e ≡ some k → k ≤ 65536
   slot-small h k q =
       let (u, l, p) = parts-of U W d b h in
@@ -98,7 +98,7 @@ module _ (d e out : List ℕ) (b : Bytes d) where
         (merged R d e) slot-small
         (ap (λ (x : Answer). (x, s)) (sym q) ∙ p)
 
--- the same, with what the call ensures before what is known of its first draft
+-- the same, with the call's contract before what is known of the first draft
 pub called-small : (d e out : List ℕ) (a : Answer) (s : List ℕ) → (a, s) ≡ mergeCall R d e out → (f : Refusal) → a ≡ A.Refused f
     → Bytes d → f .place ≤ 65536
 called-small d e out a s p f q b = merge-small d e out b a s p f q
@@ -117,7 +117,7 @@ pub ruleset merged-packing = (merge-done, merge-refused)
 
 -- ---- a merge that is done has at most 65,536 bytes
 
--- what holds where a merge of bytes m is done
+-- what holds if the merge m is done
 record Tests (u v w : Bool) (m : List ℕ) (n : ℕ) : Type 0 where
   pub first : u ≡ true
   pub second : v ≡ true

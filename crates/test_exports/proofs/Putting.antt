@@ -19,7 +19,7 @@ pub put-one : (i v : ℕ) (l : List Value) (t u w : List ℕ) → u ≡ set t i 
 unfolding putAt
 put-one i v l t u w e h = h ∙ ap (putAt l) e
 
--- the number that is put is known to be v
+-- the integer that is put is known to be v
 pub put-known : (i n v : ℕ) (l : List Value) (t u w : List ℕ) → u ≡ set t i n → n ≡ v → w ≡ putAt l u → w ≡ putAt ((i, v) ∷ l) t
 put-known i n v l t u w e k = put-one i v l t u w (e ∙ ap (set t i) k)
 
@@ -27,7 +27,7 @@ pub put-none : (t : List ℕ) → t ≡ putAt [] t
 unfolding putAt
 put-none t = refl
 
--- Several numbers, and then what l puts. Each law takes all the stores at once, so that `search` finds them in one step
+-- Several integers, and then what l puts. Each law takes all the stores at once, so that `search` finds them in one step
 module _ (i j : ℕ) (v w : ℕ) (t a b : List ℕ) (first : a ≡ set t i v) (second : b ≡ set a j w) where
   pub put-two : (l : List Value) (z : List ℕ) → z ≡ putAt l b → z ≡ putAt ((i, v) ∷ (j, w) ∷ l) t
   put-two l z h = put-one i v ((j, w) ∷ l) t a z first (put-one j w l a b z second h)
@@ -43,11 +43,11 @@ module _ (i j : ℕ) (v w : ℕ) (t a b : List ℕ) (first : a ≡ set t i v) (s
       pub all-four : d ≡ putAt ((i, v) ∷ (j, w) ∷ (k, x) ∷ (n, y) ∷ []) t
       all-four = put-four [] d (put-none d)
 
--- what is put by a case, where the case is known
+-- what a case puts, if the case is known
 pub by-case : {X : Type 0} (f : X → List Value) (x y : X) (t w : List ℕ) → x ≡ y → w ≡ putAt (f y) t → w ≡ putAt (f x) t
 by-case f x y t w e h = rw e h
 
--- the longest cases, each law with all that is put: searched for step by step they take too long
+-- the longest cases, one law each with all that it puts: searched for step by step they take too long
 pub put-nft-transfer : (x : OutputFields) (group at long : ℕ) (o : OwnersFields) → x ≡ O.NftTransfer group at long o → (t a b c d z : List ℕ)
     → a ≡ set t 5 11 → b ≡ set a 7 group → c ≡ set b 8 at → d ≡ set c 9 long → z ≡ putAt (ownersValues o) d → z ≡ putAt (outputValues x) t
 put-nft-transfer x group at long o e t a b c d z first second third fourth h =
@@ -65,13 +65,13 @@ pub put-fields : (o : OperationFields) (t a b c d e f g z : List ℕ)
 put-fields o t a b c d e f g z ha hb hc hd he hf hg h =
     put-four _ _ _ _ t a b ha hb _ _ c hc _ _ d hd _ z (put-two _ _ _ _ d e f he hf _ z (put-one _ _ _ f g z hg h))
 
--- behind the last number there is no room
+-- a put past the last integer changes nothing
 pub put-past : (t : List ℕ) (i v : ℕ) → length t ≤ i → t ≡ set t i v
 put-past [] i v h = refl
 put-past (x ∷ t) zero v h = absurd (omega arith)
 put-past (x ∷ t) (suc i) v h = ap (λ r. x ∷ r) (put-past t i v (omega arith))
 
--- r is the entry that was read
+-- the entry r that was read is e, and its encoding is that of e
 pub told-entry : (r e : EntryRead) (n a t m b u : List ℕ) → r ≡ e → m ≡ putAt (answerValues (r .answer)) n → b ≡ putId (r .asset) a → u ≡ putId (r .txid) t
     → probedEntry m b u ≡ encodedEntry e n a t
 told-entry r e n a t m b u h hm hb hu = rw (hm, hb, hu) (ap (λ (x : EntryRead). encodedEntry x n a t) h)

@@ -23,11 +23,11 @@ refused-told w a e q n h = ap (λ (i : ℕ). numbersOf w i (e .place)) h ∙ sym
 
 pub ruleset telling = (done-told, refused-told)
 
--- f is the step's definition, v the state that the numbers are, and r what the step's method answered
+-- f is the step's definition, v the state that the integers encode, and r the answer of the step's method
 step-encoded : (f : Writer → Turn) (v w : Writer) (r : Step) (m b : List ℕ) → w ≡ v → after r b ≡ f w → m ≡ encoded r → probed m b ≡ encodedTurn (f v)
 step-encoded f v w r m b h t e = rw e (ap encodedTurn t ∙ ap (λ x. encodedTurn (f x)) h)
 
--- The same by how many arguments a step has besides the state and the buffer s: `search` then reads all of them off the goal
+-- The same for each number of arguments besides the state and the buffer s, so that `search` reads all of them off the goal
 pub step-of-none : (f : Writer → List ℕ → Turn) (v w : Writer) (r : Step) (m b s : List ℕ) → w ≡ v
     → after r b ≡ f w s → m ≡ encoded r → probed m b ≡ encodedTurn (f v s)
 step-of-none f v w r m b s = step-encoded (λ q. f q s) v w r m b

@@ -117,7 +117,7 @@ module _ (s : List ℕ) (at : ℕ) where
 
 -- ---- ranges of the buffer that were lent
 
--- the bytes from at up to e were lent and are now y, a copy of b: that is a store of b
+-- the bytes from `at` up to e were lent and are now y, a copy of b: that is a store of b
 pub lent-bytes : (s y b : List ℕ) (at e : ℕ) → y ≡ take (length (take (e - at) (drop at s))) b ++ drop (length b) (take (e - at) (drop at s))
     → e ≡ at + length b → e ≤ length s
     → take at s ++ (y ++ drop (e - at) (drop at s)) ≡ overwrite s at b

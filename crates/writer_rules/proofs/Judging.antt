@@ -44,7 +44,7 @@ integer-back w v R s at t stop go e =
 
 -- ---- one field after the other
 
--- t is what s has from offset at on
+-- t is the bytes of s from the offset `at` on
 pub record Rest (s : List ℕ) (at : ℕ) (t : List ℕ) : Type 0 where
   pub there : drop at s ≡ t
   pub ends : at + length t ≡ length s

@@ -1,4 +1,4 @@
--- `entries::print_rows` meets its contract. The invariant: the place is inside the table.
+-- `entries::print_rows` meets its contract. The invariant: `at` is at most the table's length.
 -- Assumes nothing.
 use borrow.Author.Needs.{needs}
 use Prim.Native.Nat.{_-_, _≤_}
