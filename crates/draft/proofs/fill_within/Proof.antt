@@ -37,26 +37,16 @@ pub fill-within-spec : {M : Type 1} → statement M
 fill-within-spec =
     tie.close
     (tie.spec
-    (λ c κs. search needs)  -- check-within-requires
-    (λ c. search needs)  -- enum-known-layout
-    (λ c. search needs)  -- enum-told
-    (λ c κs. search needs)  -- refused-requires
-    (λ c. search needs)  -- same-length
+    (λ c κs. search needs) (λ c. search needs) (λ c. search needs)  -- check-within-requires, enum-known-layout, enum-told
+    (λ c κs. search needs) (λ c. search needs)  -- refused-requires, same-length
     (λ c. search fill-17)  -- returns
-    (λ c κs. search needs)  -- place-of-requires
-    (λ c. search needs)  -- enum-known-at
-    (λ c. search needs)  -- enum-told-2
-    (λ c κs. search needs)  -- refused-requires-2
-    (λ c. search needs)  -- same-length-2
+    (λ c κs. search needs) (λ c. search needs) (λ c. search needs)  -- place-of-requires, enum-known-at, enum-told-2
+    (λ c κs. search needs) (λ c. search needs)  -- refused-requires-2, same-length-2
     (λ c. search fill-15)  -- returns-2
-    (λ c κs. search needs)  -- refused-requires-3
-    (λ c. search needs)  -- same-length-3
+    (λ c κs. search needs) (λ c. search needs)  -- refused-requires-3, same-length-3
     (λ c. search fill-21)  -- returns-3
-    (λ c κs. search needs)  -- slot-of-requires
-    (λ c κs. search needs)  -- clash-requires
-    (λ c κs. search needs)  -- refused-requires-4
+    (λ c κs. search needs) (λ c κs. search needs) (λ c κs. search needs)  -- slot-of-requires, clash-requires, refused-requires-4
     (λ c. search needs)  -- same-length-4
     returns-4
-    (λ c κs. search needs)  -- join-at-requires
-    (λ c. search needs)  -- same-length-5
+    (λ c κs. search needs) (λ c. search needs)  -- join-at-requires, same-length-5
     returns-5)

@@ -67,30 +67,20 @@ pub merge-within-spec : {M : Type 1} → statement M
 merge-within-spec =
     tie.close
     (tie.spec
-    (λ c κs. search needs)  -- check-within-requires
-    (λ c. search needs)  -- enum-known-layout
-    (λ c. search needs)  -- enum-told
+    (λ c κs. search needs) (λ c. search needs) (λ c. search needs)  -- check-within-requires, enum-known-layout, enum-told
     (λ c κs. search needs)  -- refused-requires
     (λ c. search merge-17)  -- returns
-    (λ c κs. search needs)  -- check-within-requires-2
-    (λ c. search needs)  -- enum-known-other
-    (λ c. search needs)  -- enum-told-2
+    (λ c κs. search needs) (λ c. search needs) (λ c. search needs)  -- check-within-requires-2, enum-known-other, enum-told-2
     (λ c κs. search needs)  -- refused-requires-2
     (λ c. search merge-18)  -- returns-2
-    (λ c κs. search needs)  -- between-requires
-    (λ c κs. search needs)  -- between-requires-2
-    (λ c κs. search needs)  -- same-bytes-requires
+    (λ c κs. search needs) (λ c κs. search needs) (λ c κs. search needs)  -- between-requires, between-requires-2, same-bytes-requires
     (λ c κs. search needs)  -- refused-requires-3
     (λ c. search merge-19)  -- returns-3
-    (λ c κs. search needs)  -- first-clash-requires
-    (λ c. search needs)  -- enum-known-k
-    (λ c κs. search needs)  -- refused-requires-4
+    (λ c κs. search needs) (λ c. search needs) (λ c κs. search needs)  -- first-clash-requires, enum-known-k, refused-requires-4
     returns-4
-    (λ c. search needs)  -- enum-told-3
-    (λ c κs. search needs)  -- refused-requires-5
+    (λ c. search needs) (λ c κs. search needs)  -- enum-told-3, refused-requires-5
     returns-5
     (λ c. search needs)  -- slice-relend-prefix-put-merge
     (λ c. sym (length-take-le _ _ (c .before .if2 .left)))  -- slice-aggregate-put-merge
-    (λ c κs. search needs)  -- put-merge-requires
-    (λ c. search needs)  -- same-length
+    (λ c κs. search needs) (λ c. search needs)  -- put-merge-requires, same-length
     returns-6)

@@ -19,7 +19,5 @@ pub put-merge-spec : {M : Type 1} → statement M
 put-merge-spec =
     tie.close
     (tie.spec
-    (λ c κs. search needs)  -- put-bytes-requires
-    (λ c κs. search needs)  -- join-slots-requires
-    (λ c. search needs)  -- same-length
+    (λ c κs. search needs) (λ c κs. search needs) (λ c. search needs)  -- put-bytes-requires, join-slots-requires, same-length
     returns)

@@ -22,20 +22,15 @@ count-spec =
     (tie.spec
     Inv-loop
     μ-loop
-    (λ c κs. search needs)  -- u32-at-requires
-    (λ c. search needs)  -- enum-known-credentials
-    (λ c. search needs)  -- enum-told
+    (λ c κs. search needs) (λ c. search needs) (λ c. search needs)  -- u32-at-requires, enum-known-credentials, enum-told
     (λ c. search count-none)  -- returns
     (λ c. (search count-start, omega arith))  -- loop-holds
-    (λ c κs. search needs)  -- range-at-requires
-    (λ c. search needs)  -- enum-known-n
-    (λ c. search needs)  -- enum-told-2
+    (λ c κs. search needs) (λ c. search needs) (λ c. search needs)  -- range-at-requires, enum-known-n, enum-told-2
     (λ c. search counting)  -- returns-2
     (λ c.
     let i = range-inside _ _ _ _ _ _ (c .before .before .before .range-at .ensures) (c .before .n .given .1) in
     omega arith)  -- add-slots
-    (λ c. search needs)  -- sub-left
-    (λ c. search needs)  -- loop-less
+    (λ c. search needs) (λ c. search needs)  -- sub-left, loop-less
     (λ c.
     let i = range-inside _ _ _ _ _ _ (c .before .before .before .range-at .ensures) (c .before .n .given .1) in
     (search counting, omega arith))  -- loop-again

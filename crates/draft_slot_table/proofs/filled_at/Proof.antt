@@ -8,7 +8,6 @@ pub filled-at-spec : {M : Type 1} → statement M
 filled-at-spec =
     tie.close
     (tie.spec
-    (λ c κs. search needs)  -- slot-of-requires
-    (λ c κs. search needs)  -- is-blank-requires
+    (λ c κs. search needs) (λ c κs. search needs)  -- slot-of-requires, is-blank-requires
     (λ c. search filling)  -- returns
     (λ c. search filling))  -- returns-2

@@ -8,11 +8,8 @@ pub list-slots-within-spec : {M : Type 1} → statement M
 list-slots-within-spec =
     tie.close
     (tie.spec
-    (λ c κs. search needs)  -- check-within-requires
-    (λ c. search needs)  -- enum-known-refusal
-    (λ c. search needs)  -- enum-known-layout
-    (λ c κs. search needs)  -- count-requires
-    (λ c κs. search needs)  -- refuse-requires
+    (λ c κs. search needs) (λ c. search needs) (λ c. search needs)  -- check-within-requires, enum-known-refusal, enum-known-layout
+    (λ c κs. search needs) (λ c κs. search needs)  -- count-requires, refuse-requires
     (λ c. search listing)  -- returns
     (λ c κs. (search short, search room))  -- put-slots-requires
     (λ c. search listing)  -- returns-2

@@ -26,10 +26,7 @@ put-range-spec =
     μ-loop
     (λ c. (refl, refl, omega arith, omega arith, omega arith))  -- loop-holds
     (λ c κs. (omega arith, (omega arith, omega arith)))  -- put-row-requires
-    (λ c. search needs)  -- add-j
-    (λ c. search needs)  -- add-p
-    (λ c. search needs)  -- sub-left
-    (λ c. search needs)  -- loop-less
+    (λ c. search needs) (λ c. search needs) (λ c. search needs) (λ c. search needs)  -- add-j, add-p, sub-left, loop-less
     (λ c.
     let same = same-length _ _ _ _ (c .before .before .put-row .ensures) in
     (search running, omega arith, omega arith, omega arith, omega arith))  -- loop-again

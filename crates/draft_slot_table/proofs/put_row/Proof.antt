@@ -10,16 +10,10 @@ pub put-row-spec : {M : Type 1} → statement M
 put-row-spec =
     tie.close
     (tie.spec
-    (λ c. search needs)  -- cast-table
-    (λ c. search needs)  -- mul-table
-    (λ c. search needs)  -- slice-write-table
-    (λ c. search needs)  -- cast-table-2
-    (λ c. search needs)  -- add-table
-    (λ c. search needs)  -- mul-table-2
+    (λ c. search needs) (λ c. search needs) (λ c. search needs) (λ c. search needs)  -- cast-table, mul-table, slice-write-table, cast-table-2
+    (λ c. search needs) (λ c. search needs)  -- add-table, mul-table-2
     (λ c. simp length-set (omega arith))  -- slice-write-table-2
-    (λ c κs. search needs)  -- filled-at-requires
-    (λ c. search needs)  -- add-table-2
-    (λ c. search needs)  -- mul-table-3
+    (λ c κs. search needs) (λ c. search needs) (λ c. search needs)  -- filled-at-requires, add-table-2, mul-table-3
     (λ c. simp length-set (omega arith))  -- slice-write-table-3
     (λ c. search needs)  -- same-length
     (λ c. row-stored _ _ _ _ _ _ (c .filled-at .ensures)))  -- returns

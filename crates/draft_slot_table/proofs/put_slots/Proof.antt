@@ -25,16 +25,12 @@ put-slots-spec =
     (tie.spec
     Inv-loop
     μ-loop
-    (λ c κs. search needs)  -- u32-at-requires
-    (λ c. search needs)  -- enum-known-credentials
-    (λ c. search needs)  -- enum-told
+    (λ c κs. search needs) (λ c. search needs) (λ c. search needs)  -- u32-at-requires, enum-known-credentials, enum-told
     (λ c. search slots-none)  -- returns
     (λ c.
     let from = scan-from _ _ _ (c .before .before .before .u32-at .ensures) _ _ (c .before .credentials .given .1) in
     (search slots-start, refl, omega (arith, ap length from), omega arith))  -- loop-holds
-    (λ c κs. search needs)  -- range-at-requires
-    (λ c. search needs)  -- enum-known-first
-    (λ c. search needs)  -- enum-told-2
+    (λ c κs. search needs) (λ c. search needs) (λ c. search needs)  -- range-at-requires, enum-known-first, enum-told-2
     (λ c. search needs)  -- same-length
     (λ c. search slotting)  -- returns-2
     (λ c κs.
@@ -60,8 +56,7 @@ put-slots-spec =
     let here = (let found : tie.After-first Inv-loop μ-loop = search in found .first .given .1) in
     let i = range-inside _ _ _ _ _ _ slotsIn here in
     omega arith)  -- add-credential
-    (λ c. search needs)  -- sub-left
-    (λ c. search needs)  -- loop-less
+    (λ c. search needs) (λ c. search needs)  -- sub-left, loop-less
     (λ c.
     let l = (let turn : tie.At-loop Inv-loop μ-loop = search in turn .loop) in
     let slotsIn = (let called : tie.After-range-at Inv-loop μ-loop = search in called .range-at .ensures) in

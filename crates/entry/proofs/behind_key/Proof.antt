@@ -8,13 +8,9 @@ pub behind-key-spec : {M : Type 1} → statement M
 behind-key-spec =
     tie.close
     (tie.spec
-    (λ c κs. search needs)  -- field-at-requires
-    (λ c. search needs)  -- enum-known-i
-    (λ c. search needs)  -- enum-told
+    (λ c κs. search needs) (λ c. search needs) (λ c. search needs)  -- field-at-requires, enum-known-i, enum-told
     (λ c. search passing depth 10)  -- returns
-    (λ c κs. search needs)  -- u32-at-requires
-    (λ c. search needs)  -- enum-known-a
-    (λ c. search needs)  -- enum-told-2
+    (λ c κs. search needs) (λ c. search needs) (λ c. search needs)  -- u32-at-requires, enum-known-a, enum-told-2
     (λ c. search passing depth 10)  -- returns-2
     (λ c κs. search needs)  -- id-at-requires
     (λ c. search passing depth 10))  -- returns-3

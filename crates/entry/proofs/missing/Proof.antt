@@ -9,6 +9,5 @@ pub missing-spec : {M : Type 1} → statement M
 missing-spec =
     tie.close
     (tie.spec
-    (λ c κs. search needs)  -- refuse-requires
-    (λ c κs. search needs)  -- refused-requires
+    (λ c κs. search needs) (λ c κs. search needs)  -- refuse-requires, refused-requires
     (λ c. c .refused .ensures ∙ ap refusedEntry (c .before .refuse .ensures)))  -- returns

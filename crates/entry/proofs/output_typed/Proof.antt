@@ -8,13 +8,9 @@ pub output-typed-spec : {M : Type 1} → statement M
 output-typed-spec =
     tie.close
     (tie.spec
-    (λ c κs. search needs)  -- field-at-requires
-    (λ c. search needs)  -- enum-known-o
-    (λ c. search needs)  -- enum-told
+    (λ c κs. search needs) (λ c. search needs) (λ c. search needs)  -- field-at-requires, enum-known-o, enum-told
     (λ c. search typing depth 12)  -- returns
-    (λ c κs. search needs)  -- output-at-requires
-    (λ c. search needs)  -- enum-told-2
-    (λ c. search needs)  -- enum-known-fields
+    (λ c κs. search needs) (λ c. search needs) (λ c. search needs)  -- output-at-requires, enum-told-2, enum-known-fields
     (λ c. search typing depth 12)  -- returns-2
     (λ c. search typing depth 12)  -- returns-3
     (λ c. search typing depth 12))  -- returns-4

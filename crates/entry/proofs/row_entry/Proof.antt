@@ -8,11 +8,7 @@ pub row-entry-spec : {M : Type 1} → statement M
 row-entry-spec =
     tie.close
     (tie.spec
-    (λ c κs. search needs)  -- typed-at-requires
-    (λ c. search needs)  -- enum-told
-    (λ c κs. search needs)  -- missing-requires
-    (λ c. search needs)  -- enum-known-fields
-    (λ c κs. search needs)  -- asset-at-requires
-    (λ c κs. search needs)  -- txid-at-requires
+    (λ c κs. search needs) (λ c. search needs) (λ c κs. search needs)  -- typed-at-requires, enum-told, missing-requires
+    (λ c. search needs) (λ c κs. search needs) (λ c κs. search needs)  -- enum-known-fields, asset-at-requires, txid-at-requires
     (λ c. search typing depth 10)  -- returns
     (λ c. search typing depth 10))  -- returns-2

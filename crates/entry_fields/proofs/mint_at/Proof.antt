@@ -8,8 +8,6 @@ pub mint-at-spec : {M : Type 1} → statement M
 mint-at-spec =
     tie.close
     (tie.spec
-    (λ c κs. search needs)  -- owners-at-requires
-    (λ c. search needs)  -- enum-told
-    (λ c. search needs)  -- enum-known-owners
+    (λ c κs. search needs) (λ c. search needs) (λ c. search needs)  -- owners-at-requires, enum-told, enum-known-owners
     (λ c. search finding depth 12)  -- returns
     (λ c. search finding depth 12))  -- returns-2

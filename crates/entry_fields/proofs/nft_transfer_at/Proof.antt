@@ -8,20 +8,12 @@ pub nft-transfer-at-spec : {M : Type 1} → statement M
 nft-transfer-at-spec =
     tie.close
     (tie.spec
-    (λ c κs. search needs)  -- u32-at-requires
-    (λ c. search needs)  -- enum-known-group
-    (λ c. search needs)  -- enum-told
+    (λ c κs. search needs) (λ c. search needs) (λ c. search needs)  -- u32-at-requires, enum-known-group, enum-told
     (λ c. search finding depth 12)  -- returns
-    (λ c κs. search needs)  -- u32-at-requires-2
-    (λ c. search needs)  -- enum-known-payload-length
-    (λ c. search needs)  -- enum-told-2
+    (λ c κs. search needs) (λ c. search needs) (λ c. search needs)  -- u32-at-requires-2, enum-known-payload-length, enum-told-2
     (λ c. search finding depth 12)  -- returns-2
-    (λ c κs. search needs)  -- field-at-requires
-    (λ c. search needs)  -- enum-known-o
-    (λ c. search needs)  -- enum-told-3
+    (λ c κs. search needs) (λ c. search needs) (λ c. search needs)  -- field-at-requires, enum-known-o, enum-told-3
     (λ c. search finding depth 12)  -- returns-3
-    (λ c κs. search needs)  -- owners-at-requires
-    (λ c. search needs)  -- enum-told-4
-    (λ c. search needs)  -- enum-known-owners
+    (λ c κs. search needs) (λ c. search needs) (λ c. search needs)  -- owners-at-requires, enum-told-4, enum-known-owners
     (λ c. search finding depth 12)  -- returns-4
     (λ c. search finding depth 12))  -- returns-5

@@ -8,18 +8,12 @@ pub operation-at-spec : {M : Type 1} → statement M
 operation-at-spec =
     tie.close
     (tie.spec
-    (λ c κs. search needs)  -- field-at-requires
-    (λ c. search needs)  -- enum-known-p
-    (λ c. search needs)  -- enum-told
+    (λ c κs. search needs) (λ c. search needs) (λ c. search needs)  -- field-at-requires, enum-known-p, enum-told
     (λ c. search finding depth 12)  -- returns
-    (λ c κs. search needs)  -- u32-at-requires
-    (λ c. search needs)  -- enum-known-outputs-count
-    (λ c. search needs)  -- enum-told-2
+    (λ c κs. search needs) (λ c. search needs) (λ c. search needs)  -- u32-at-requires, enum-known-outputs-count, enum-told-2
     (λ c. search finding depth 12)  -- returns-2
     (λ c. search (needs, span-fits))  -- mul-part-at
-    (λ c κs. search needs)  -- field-at-requires-2
-    (λ c. search needs)  -- enum-known-t
-    (λ c. search needs)  -- enum-told-3
+    (λ c κs. search needs) (λ c. search needs) (λ c. search needs)  -- field-at-requires-2, enum-known-t, enum-told-3
     (λ c. search finding depth 12)  -- returns-3
     (λ c κs. search needs)  -- action-at-requires
     (λ c. search finding depth 12))  -- returns-4

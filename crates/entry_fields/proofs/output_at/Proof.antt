@@ -8,9 +8,7 @@ pub output-at-spec : {M : Type 1} → statement M
 output-at-spec =
     tie.close
     (tie.spec
-    (λ c κs. search needs)  -- u32-at-requires
-    (λ c. search needs)  -- enum-known-kind
-    (λ c. search needs)  -- enum-told
+    (λ c κs. search needs) (λ c. search needs) (λ c. search needs)  -- u32-at-requires, enum-known-kind, enum-told
     (λ c. search finding depth 12)  -- returns
     (λ c κs. search needs)  -- mint-at-requires
     (λ c. search finding depth 12)  -- returns-2

@@ -8,12 +8,8 @@ pub transfer-at-spec : {M : Type 1} → statement M
 transfer-at-spec =
     tie.close
     (tie.spec
-    (λ c κs. search needs)  -- u64-at-requires
-    (λ c. search needs)  -- enum-known-amount
-    (λ c. search needs)  -- enum-told
+    (λ c κs. search needs) (λ c. search needs) (λ c. search needs)  -- u64-at-requires, enum-known-amount, enum-told
     (λ c. search finding depth 12)  -- returns
-    (λ c κs. search needs)  -- owners-at-requires
-    (λ c. search needs)  -- enum-told-2
-    (λ c. search needs)  -- enum-known-owners
+    (λ c κs. search needs) (λ c. search needs) (λ c. search needs)  -- owners-at-requires, enum-told-2, enum-known-owners
     (λ c. search finding depth 12)  -- returns-2
     (λ c. search finding depth 12))  -- returns-3

@@ -8,7 +8,5 @@ pub cellfacet-rows-spec : {M : Type 1} → statement M
 cellfacet-rows-spec =
     tie.close
     (tie.spec
-    (λ c κs. search needs)  -- check-table-requires
-    (λ c κs. search needs)  -- word-requires
-    (λ c. search needs)  -- same-length
+    (λ c κs. search needs) (λ c κs. search needs) (λ c. search needs)  -- check-table-requires, word-requires, same-length
     (λ c. search answered))  -- returns

@@ -8,7 +8,5 @@ pub cellfacet-slots-spec : {M : Type 1} → statement M
 cellfacet-slots-spec =
     tie.close
     (tie.spec
-    (λ c κs. search needs)  -- list-slots-requires
-    (λ c κs. search needs)  -- word-requires
-    (λ c. search needs)  -- same-length
+    (λ c κs. search needs) (λ c κs. search needs) (λ c. search needs)  -- list-slots-requires, word-requires, same-length
     (λ c. search answered))  -- returns

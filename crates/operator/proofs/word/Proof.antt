@@ -8,11 +8,7 @@ pub word-spec : {M : Type 1} → statement M
 word-spec =
     tie.close
     (tie.spec
-    (λ c. search needs)  -- enum-known-answer
-    (λ c. search needs)  -- enum-known-answer-2
-    (λ c κs. search needs)  -- number-of-requires
-    (λ c. search needs)  -- cast-result
-    (λ c. search needs)  -- mul-result
-    (λ c. search needs)  -- add-result
+    (λ c. search needs) (λ c. search needs) (λ c κs. search needs)  -- enum-known-answer, enum-known-answer-2, number-of-requires
+    (λ c. search needs) (λ c. search needs) (λ c. search needs)  -- cast-result, mul-result, add-result
     (λ c. search packing)  -- returns
     (λ c. search packing))  -- returns-2

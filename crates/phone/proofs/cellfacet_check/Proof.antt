@@ -9,9 +9,7 @@ pub cellfacet-check-spec : {M : Type 1} → statement M
 cellfacet-check-spec =
     tie.close
     (tie.spec
-    (λ c κs. search needs)  -- check-requires
-    (λ c. search needs)  -- enum-known-end
-    (λ c. search needs)  -- enum-known-refusal
+    (λ c κs. search needs) (λ c. search needs) (λ c. search needs)  -- check-requires, enum-known-end, enum-known-refusal
     (λ c κs. search refused-small)  -- word-requires
     (λ c. search packing)  -- returns
     (λ c. search packing))  -- returns-2

@@ -9,9 +9,7 @@ pub cellfacet-merge-spec : {M : Type 1} → statement M
 cellfacet-merge-spec =
     tie.close
     (tie.spec
-    (λ c κs. search needs)  -- merge-requires
-    (λ c. search needs)  -- enum-known-end
-    (λ c. search needs)  -- enum-known-refusal
+    (λ c κs. search needs) (λ c. search needs) (λ c. search needs)  -- merge-requires, enum-known-end, enum-known-refusal
     (λ c κs. search (called-small, slice-bytes))  -- word-requires
     (λ c. search needs)  -- same-length
     (λ c. search merged-packing)  -- returns

@@ -11,9 +11,7 @@ unfolding denomination
 denomination-at-spec =
     tie.close
     (tie.spec
-    (λ c κs. search needs)  -- u8-at-requires
-    (λ c. search needs)  -- enum-known-value
-    (λ c. search needs)  -- enum-told
+    (λ c κs. search needs) (λ c. search needs) (λ c. search needs)  -- u8-at-requires, enum-known-value, enum-told
     (λ c κs. search needs)  -- cut-requires
     (λ c. search reading depth 12)  -- returns
     (λ c κs. search needs)  -- refuse-requires

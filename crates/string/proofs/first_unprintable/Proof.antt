@@ -27,7 +27,6 @@ first-unprintable-spec =
     (λ c. search characters)  -- returns
     (λ c. search needs)  -- shared-slice-read-if2
     (λ c. search characters)  -- returns-2
-    (λ c. search needs)  -- add-i
-    (λ c. search needs)  -- loop-less
+    (λ c. search needs) (λ c. search needs)  -- add-i, loop-less
     (λ c. search characters)  -- loop-again
     (λ c. search characters))  -- returns-3

@@ -12,9 +12,7 @@ unfolding andThen
 string-past-spec =
     tie.close
     (tie.spec
-    (λ c κs. search needs)  -- u32-at-requires
-    (λ c. search needs)  -- enum-known-length
-    (λ c. search needs)  -- enum-told
+    (λ c κs. search needs) (λ c. search needs) (λ c. search needs)  -- u32-at-requires, enum-known-length, enum-told
     (λ c κs. search needs)  -- cut-requires
     (λ c. string-passed _ _ (search needs) _ (search reading depth 12))  -- returns
     (λ c κs. search needs)  -- field-at-requires

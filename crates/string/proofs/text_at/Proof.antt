@@ -12,22 +12,17 @@ unfolding text
 text-at-spec =
     tie.close
     (tie.spec
-    (λ c κs. search needs)  -- u16-at-requires
-    (λ c. search needs)  -- enum-known-length
-    (λ c. search needs)  -- enum-told
+    (λ c κs. search needs) (λ c. search needs) (λ c. search needs)  -- u16-at-requires, enum-known-length, enum-told
     (λ c κs. search needs)  -- cut-requires
     (λ c. search (on-value, on-short, tests) depth 12)  -- returns
     (λ c κs. search needs)  -- refuse-requires
     (λ c. search (on-value, on-short, tests) depth 12)  -- returns-2
     (λ c κs. search needs)  -- refuse-requires-2
     (λ c. search (on-value, on-short, tests) depth 12)  -- returns-3
-    (λ c κs. search needs)  -- field-at-requires
-    (λ c. search needs)  -- enum-known-next
-    (λ c. search needs)  -- enum-told-2
+    (λ c κs. search needs) (λ c. search needs) (λ c. search needs)  -- field-at-requires, enum-known-next, enum-told-2
     (λ c κs. search needs)  -- cut-requires-2
     (λ c. search (on-value, on-short, on-part, on-cut, tests) depth 12)  -- returns-4
-    (λ c κs. search needs)  -- between-requires
-    (λ c κs. search needs)  -- first-unprintable-requires
+    (λ c κs. search needs) (λ c κs. search needs)  -- between-requires, first-unprintable-requires
     (λ c. search (needs, unprintable-fits))  -- add-t19
     (λ c κs. search needs)  -- refuse-requires-3
     (λ c. search (on-value, on-part, tests, if-unprintable) depth 12)  -- returns-5

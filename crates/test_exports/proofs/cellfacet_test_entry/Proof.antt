@@ -8,11 +8,7 @@ pub cellfacet-test-entry-spec : {M : Type 1} → statement M
 cellfacet-test-entry-spec =
     tie.close
     (tie.spec
-    (λ c κs. search needs)  -- entry-requires
-    (λ c κs. search needs)  -- put-answer-requires
-    (λ c κs. search needs)  -- put-bytes-requires
-    (λ c κs. search needs)  -- put-bytes-requires-2
-    (λ c. search needs)  -- same-length
-    (λ c. search needs)  -- same-length-2
+    (λ c κs. search needs) (λ c κs. search needs) (λ c κs. search needs)  -- entry-requires, put-answer-requires, put-bytes-requires
+    (λ c κs. search needs) (λ c. search needs) (λ c. search needs)  -- put-bytes-requires-2, same-length, same-length-2
     (λ c. search needs)  -- same-length-3
     (λ c. search told-entry))  -- returns

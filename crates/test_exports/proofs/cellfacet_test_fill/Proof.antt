@@ -8,12 +8,8 @@ pub cellfacet-test-fill-spec : {M : Type 1} → statement M
 cellfacet-test-fill-spec =
     tie.close
     (tie.spec
-    (λ c κs. search needs)  -- fill-requires
-    (λ c. search needs)  -- enum-known-length
-    (λ c. search needs)  -- enum-known-refusal
-    (λ c κs. search needs)  -- number-of-requires
-    (λ c. search needs)  -- cast-t14
-    (λ c. search needs)  -- same-length
+    (λ c κs. search needs) (λ c. search needs) (λ c. search needs)  -- fill-requires, enum-known-length, enum-known-refusal
+    (λ c κs. search needs) (λ c. search needs) (λ c. search needs)  -- number-of-requires, cast-t14, same-length
     (λ c. search filling)  -- returns
     (λ c. search needs)  -- same-length-2
     (λ c. search filling))  -- returns-2

@@ -8,16 +8,9 @@ pub cellfacet-test-table-spec : {M : Type 1} → statement M
 cellfacet-test-table-spec =
     tie.close
     (tie.spec
-    (λ c κs. search needs)  -- check-table-requires
-    (λ c. search needs)  -- enum-known-rows
-    (λ c. search needs)  -- mul-result
-    (λ c. search needs)  -- add-result
-    (λ c. search needs)  -- enum-known-refusal
-    (λ c κs. search needs)  -- number-of-requires
-    (λ c. search needs)  -- cast-result
-    (λ c. search needs)  -- mul-result-2
-    (λ c. search needs)  -- add-result-2
-    (λ c. search needs)  -- same-length
+    (λ c κs. search needs) (λ c. search needs) (λ c. search needs)  -- check-table-requires, enum-known-rows, mul-result
+    (λ c. search needs) (λ c. search needs) (λ c κs. search needs)  -- add-result, enum-known-refusal, number-of-requires
+    (λ c. search needs) (λ c. search needs) (λ c. search needs) (λ c. search needs)  -- cast-result, mul-result-2, add-result-2, same-length
     (λ c. search telling)  -- returns
     (λ c. search needs)  -- same-length-2
     (λ c. search telling))  -- returns-2

@@ -8,8 +8,5 @@ pub put-spec : {M : Type 1} → statement M
 put-spec =
     tie.close
     (tie.spec
-    (λ c. search needs)  -- mul-numbers
-    (λ c. search needs)  -- slice-write-numbers
-    (λ c. search needs)  -- same-length
-    (λ c. search needs)  -- returns
+    (λ c. search needs) (λ c. search needs) (λ c. search needs) (λ c. search needs)  -- mul-numbers, slice-write-numbers, same-length, returns
     (λ c. search (put-past, needs)))  -- returns-2

@@ -8,8 +8,6 @@ pub put-credential-spec : {M : Type 1} → statement M
 put-credential-spec =
     tie.close
     (tie.spec
-    (λ c κs. search needs)  -- put-requires
-    (λ c κs. search needs)  -- put-requires-2
-    (λ c κs. search needs)  -- put-requires-3
+    (λ c κs. search needs) (λ c κs. search needs) (λ c κs. search needs)  -- put-requires, put-requires-2, put-requires-3
     (λ c. search needs)  -- same-length
     (λ c. search put-three))  -- returns

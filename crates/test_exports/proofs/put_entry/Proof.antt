@@ -9,27 +9,13 @@ pub put-entry-spec : {M : Type 1} → statement M
 put-entry-spec =
     tie.close
     (tie.spec
-    (λ c. search needs)  -- enum-known-entry
-    (λ c κs. search needs)  -- put-requires
-    (λ c κs. search needs)  -- put-output-requires
-    (λ c. search needs)  -- enum-known-entry-2
-    (λ c κs. search needs)  -- put-requires-2
-    (λ c κs. search needs)  -- put-input-requires
-    (λ c. search needs)  -- enum-known-entry-3
-    (λ c κs. search needs)  -- put-requires-3
-    (λ c κs. search needs)  -- put-operation-requires
-    (λ c. search needs)  -- enum-known-entry-4
-    (λ c κs. search needs)  -- put-requires-4
-    (λ c κs. search needs)  -- put-input-requires-2
-    (λ c. search needs)  -- enum-known-entry-5
-    (λ c κs. search needs)  -- put-requires-5
-    (λ c κs. search needs)  -- put-output-requires-2
-    (λ c. search needs)  -- enum-known-entry-6
-    (λ c κs. search needs)  -- put-requires-6
-    (λ c κs. search needs)  -- put-output-requires-3
-    (λ c. search needs)  -- enum-known-entry-7
-    (λ c κs. search needs)  -- put-requires-7
-    (λ c κs. search needs)  -- put-credential-requires
+    (λ c. search needs) (λ c κs. search needs) (λ c κs. search needs)  -- enum-known-entry, put-requires, put-output-requires
+    (λ c. search needs) (λ c κs. search needs) (λ c κs. search needs)  -- enum-known-entry-2, put-requires-2, put-input-requires
+    (λ c. search needs) (λ c κs. search needs) (λ c κs. search needs)  -- enum-known-entry-3, put-requires-3, put-operation-requires
+    (λ c. search needs) (λ c κs. search needs) (λ c κs. search needs)  -- enum-known-entry-4, put-requires-4, put-input-requires-2
+    (λ c. search needs) (λ c κs. search needs) (λ c κs. search needs)  -- enum-known-entry-5, put-requires-5, put-output-requires-2
+    (λ c. search needs) (λ c κs. search needs) (λ c κs. search needs)  -- enum-known-entry-6, put-requires-6, put-output-requires-3
+    (λ c. search needs) (λ c κs. search needs) (λ c κs. search needs)  -- enum-known-entry-7, put-requires-7, put-credential-requires
     (λ c. search needs)  -- same-length
     (λ c. search (by-case entryValues, put-one))  -- returns
     (λ c. search needs)  -- same-length-2

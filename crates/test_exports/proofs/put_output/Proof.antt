@@ -9,24 +9,12 @@ pub put-output-spec : {M : Type 1} → statement M
 put-output-spec =
     tie.close
     (tie.spec
-    (λ c. search needs)  -- enum-known-fields
-    (λ c κs. search needs)  -- put-requires
-    (λ c κs. search needs)  -- put-owners-requires
-    (λ c. search needs)  -- enum-known-fields-2
-    (λ c κs. search needs)  -- put-requires-2
-    (λ c κs. search needs)  -- put-requires-3
-    (λ c κs. search needs)  -- put-owners-requires-2
-    (λ c. search needs)  -- enum-known-fields-3
-    (λ c κs. search needs)  -- put-requires-4
-    (λ c κs. search needs)  -- put-requires-5
-    (λ c κs. search needs)  -- put-owners-requires-3
-    (λ c. search needs)  -- enum-known-fields-4
-    (λ c κs. search needs)  -- put-requires-6
-    (λ c κs. search needs)  -- put-requires-7
-    (λ c κs. search needs)  -- put-requires-8
-    (λ c κs. search needs)  -- put-requires-9
-    (λ c κs. search needs)  -- put-owners-requires-4
-    (λ c. search needs)  -- same-length
+    (λ c. search needs) (λ c κs. search needs) (λ c κs. search needs)  -- enum-known-fields, put-requires, put-owners-requires
+    (λ c. search needs) (λ c κs. search needs) (λ c κs. search needs)  -- enum-known-fields-2, put-requires-2, put-requires-3
+    (λ c κs. search needs) (λ c. search needs) (λ c κs. search needs)  -- put-owners-requires-2, enum-known-fields-3, put-requires-4
+    (λ c κs. search needs) (λ c κs. search needs) (λ c. search needs)  -- put-requires-5, put-owners-requires-3, enum-known-fields-4
+    (λ c κs. search needs) (λ c κs. search needs) (λ c κs. search needs)  -- put-requires-6, put-requires-7, put-requires-8
+    (λ c κs. search needs) (λ c κs. search needs) (λ c. search needs)  -- put-requires-9, put-owners-requires-4, same-length
     (λ c. search (by-case outputValues, put-one))  -- returns
     (λ c. search needs)  -- same-length-2
     (λ c. search (by-case outputValues, put-two))  -- returns-2

@@ -8,9 +8,6 @@ pub put-owners-spec : {M : Type 1} → statement M
 put-owners-spec =
     tie.close
     (tie.spec
-    (λ c κs. search needs)  -- put-requires
-    (λ c κs. search needs)  -- put-requires-2
-    (λ c κs. search needs)  -- put-requires-3
-    (λ c κs. search needs)  -- put-requires-4
-    (λ c. search needs)  -- same-length
+    (λ c κs. search needs) (λ c κs. search needs) (λ c κs. search needs)  -- put-requires, put-requires-2, put-requires-3
+    (λ c κs. search needs) (λ c. search needs)  -- put-requires-4, same-length
     (λ c. search all-four))  -- returns

@@ -9,14 +9,9 @@ pub put-recipients-spec : {M : Type 1} → statement M
 put-recipients-spec =
     tie.close
     (tie.spec
-    (λ c. search needs)  -- enum-known-recipients
-    (λ c κs. search needs)  -- put-requires
-    (λ c κs. search needs)  -- put-requires-2
-    (λ c κs. search needs)  -- put-requires-3
-    (λ c. search needs)  -- enum-known-recipients-2
-    (λ c κs. search needs)  -- put-requires-4
-    (λ c κs. search needs)  -- put-owners-requires
-    (λ c. search needs)  -- same-length
+    (λ c. search needs) (λ c κs. search needs) (λ c κs. search needs)  -- enum-known-recipients, put-requires, put-requires-2
+    (λ c κs. search needs) (λ c. search needs) (λ c κs. search needs)  -- put-requires-3, enum-known-recipients-2, put-requires-4
+    (λ c κs. search needs) (λ c. search needs)  -- put-owners-requires, same-length
     (λ c. search (by-case recipientsValues, put-three))  -- returns
     (λ c. search needs)  -- same-length-2
     (λ c. search (by-case recipientsValues, put-one)))  -- returns-2

@@ -10,8 +10,6 @@ pub cellfacet-test-chain-spec : {M : Type 1} → statement M
 cellfacet-test-chain-spec =
     tie.close
     (tie.spec
-    (λ c κs. search needs)  -- writer-of-requires
-    (λ c κs. search needs)  -- chain-requires
-    (λ c κs. search needs)  -- numbers-of-requires
+    (λ c κs. search needs) (λ c κs. search needs) (λ c κs. search needs)  -- writer-of-requires, chain-requires, numbers-of-requires
     (λ c. search needs)  -- same-length
     (λ c. search (step-of-one (putChain memoMost))))  -- returns

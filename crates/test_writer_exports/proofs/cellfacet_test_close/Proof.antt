@@ -11,8 +11,6 @@ pub cellfacet-test-close-spec : {M : Type 1} → statement M
 cellfacet-test-close-spec =
     tie.close
     (tie.spec
-    (λ c κs. search needs)  -- writer-of-requires
-    (λ c κs. search needs)  -- append-requires
-    (λ c κs. search needs)  -- numbers-of-requires
+    (λ c κs. search needs) (λ c κs. search needs) (λ c κs. search needs)  -- writer-of-requires, append-requires, numbers-of-requires
     (λ c. search needs)  -- same-length
     (λ c. search (step-of-none (close (avm memoMost)))))  -- returns

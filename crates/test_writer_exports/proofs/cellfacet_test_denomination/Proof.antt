@@ -10,8 +10,6 @@ pub cellfacet-test-denomination-spec : {M : Type 1} → statement M
 cellfacet-test-denomination-spec =
     tie.close
     (tie.spec
-    (λ c κs. search needs)  -- writer-of-requires
-    (λ c κs. search needs)  -- denomination-requires
-    (λ c κs. search needs)  -- numbers-of-requires
+    (λ c κs. search needs) (λ c κs. search needs) (λ c κs. search needs)  -- writer-of-requires, denomination-requires, numbers-of-requires
     (λ c. search needs)  -- same-length
     (λ c. search (step-of-one (putDenomination memoMost))))  -- returns

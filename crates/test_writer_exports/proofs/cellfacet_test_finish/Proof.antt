@@ -11,8 +11,6 @@ pub cellfacet-test-finish-spec : {M : Type 1} → statement M
 cellfacet-test-finish-spec =
     tie.close
     (tie.spec
-    (λ c κs. search needs)  -- writer-of-requires
-    (λ c κs. search needs)  -- finish-requires
-    (λ c κs. search needs)  -- numbers-of-requires
+    (λ c κs. search needs) (λ c κs. search needs) (λ c κs. search needs)  -- writer-of-requires, finish-requires, numbers-of-requires
     (λ c. search needs)  -- same-length
     (λ c. search (step-of-none (finish (avm memoMost)))))  -- returns

@@ -10,8 +10,6 @@ pub cellfacet-test-input-spec : {M : Type 1} → statement M
 cellfacet-test-input-spec =
     tie.close
     (tie.spec
-    (λ c κs. search needs)  -- writer-of-requires
-    (λ c κs. search needs)  -- add-input-requires
-    (λ c κs. search needs)  -- numbers-of-requires
+    (λ c κs. search needs) (λ c κs. search needs) (λ c κs. search needs)  -- writer-of-requires, add-input-requires, numbers-of-requires
     (λ c. search needs)  -- same-length
     (λ c. search (step-of-five (addInput memoMost))))  -- returns

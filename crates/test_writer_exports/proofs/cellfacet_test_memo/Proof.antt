@@ -10,8 +10,6 @@ pub cellfacet-test-memo-spec : {M : Type 1} → statement M
 cellfacet-test-memo-spec =
     tie.close
     (tie.spec
-    (λ c κs. search needs)  -- writer-of-requires
-    (λ c κs. search needs)  -- memo-requires
-    (λ c κs. search needs)  -- numbers-of-requires
+    (λ c κs. search needs) (λ c κs. search needs) (λ c κs. search needs)  -- writer-of-requires, memo-requires, numbers-of-requires
     (λ c. search needs)  -- same-length
     (λ c. search (step-of-one (putMemo memoMost))))  -- returns

@@ -10,8 +10,6 @@ pub cellfacet-test-name-spec : {M : Type 1} → statement M
 cellfacet-test-name-spec =
     tie.close
     (tie.spec
-    (λ c κs. search needs)  -- writer-of-requires
-    (λ c κs. search needs)  -- name-requires
-    (λ c κs. search needs)  -- numbers-of-requires
+    (λ c κs. search needs) (λ c κs. search needs) (λ c κs. search needs)  -- writer-of-requires, name-requires, numbers-of-requires
     (λ c. search needs)  -- same-length
     (λ c. search (step-of-one (putName memoMost))))  -- returns

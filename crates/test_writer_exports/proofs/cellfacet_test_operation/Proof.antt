@@ -10,8 +10,6 @@ pub cellfacet-test-operation-spec : {M : Type 1} → statement M
 cellfacet-test-operation-spec =
     tie.close
     (tie.spec
-    (λ c κs. search needs)  -- writer-of-requires
-    (λ c κs. search needs)  -- add-operation-requires
-    (λ c κs. search needs)  -- numbers-of-requires
+    (λ c κs. search needs) (λ c κs. search needs) (λ c κs. search needs)  -- writer-of-requires, add-operation-requires, numbers-of-requires
     (λ c. search needs)  -- same-length
     (λ c. search (step-of-one (addOperation memoMost))))  -- returns

@@ -10,8 +10,6 @@ pub cellfacet-test-output-spec : {M : Type 1} → statement M
 cellfacet-test-output-spec =
     tie.close
     (tie.spec
-    (λ c κs. search needs)  -- writer-of-requires
-    (λ c κs. search needs)  -- add-output-requires
-    (λ c κs. search needs)  -- numbers-of-requires
+    (λ c κs. search needs) (λ c κs. search needs) (λ c κs. search needs)  -- writer-of-requires, add-output-requires, numbers-of-requires
     (λ c. search needs)  -- same-length
     (λ c. search (step-of-five (addOutput memoMost))))  -- returns

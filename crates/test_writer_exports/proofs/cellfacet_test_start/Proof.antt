@@ -11,8 +11,6 @@ pub cellfacet-test-start-spec : {M : Type 1} → statement M
 cellfacet-test-start-spec =
     tie.close
     (tie.spec
-    (λ c κs. search needs)  -- writer-of-requires
-    (λ c κs. search needs)  -- start-requires
-    (λ c κs. search needs)  -- numbers-of-requires
+    (λ c κs. search needs) (λ c κs. search needs) (λ c κs. search needs)  -- writer-of-requires, start-requires, numbers-of-requires
     (λ c. search needs)  -- same-length
     (λ c. search (step-of-three (start (avm memoMost)))))  -- returns

@@ -10,8 +10,6 @@ pub cellfacet-test-state-spec : {M : Type 1} → statement M
 cellfacet-test-state-spec =
     tie.close
     (tie.spec
-    (λ c κs. search needs)  -- writer-of-requires
-    (λ c κs. search needs)  -- add-initial-state-requires
-    (λ c κs. search needs)  -- numbers-of-requires
+    (λ c κs. search needs) (λ c κs. search needs) (λ c κs. search needs)  -- writer-of-requires, add-initial-state-requires, numbers-of-requires
     (λ c. search needs)  -- same-length
     (λ c. search (step-of-one (addInitialState memoMost))))  -- returns

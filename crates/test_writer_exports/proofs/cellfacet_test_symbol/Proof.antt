@@ -10,8 +10,6 @@ pub cellfacet-test-symbol-spec : {M : Type 1} → statement M
 cellfacet-test-symbol-spec =
     tie.close
     (tie.spec
-    (λ c κs. search needs)  -- writer-of-requires
-    (λ c κs. search needs)  -- symbol-requires
-    (λ c κs. search needs)  -- numbers-of-requires
+    (λ c κs. search needs) (λ c κs. search needs) (λ c κs. search needs)  -- writer-of-requires, symbol-requires, numbers-of-requires
     (λ c. search needs)  -- same-length
     (λ c. search (step-of-one (putSymbol memoMost))))  -- returns

@@ -8,15 +8,8 @@ pub numbers-of-spec : {M : Type 1} → statement M
 numbers-of-spec =
     tie.close
     (tie.spec
-    (λ c. search needs)  -- enum-known-answer
-    (λ c. search needs)  -- cast-t8
-    (λ c. search needs)  -- cast-t9
-    (λ c. search needs)  -- cast-t12
-    (λ c. search needs)  -- enum-known-answer-2
-    (λ c. search needs)  -- cast-t15
-    (λ c. search needs)  -- cast-t16
-    (λ c. search needs)  -- cast-t19
-    (λ c κs. search needs)  -- number-of-requires
-    (λ c. search needs)  -- cast-t22
+    (λ c. search needs) (λ c. search needs) (λ c. search needs) (λ c. search needs)  -- enum-known-answer, cast-t8, cast-t9, cast-t12
+    (λ c. search needs) (λ c. search needs) (λ c. search needs) (λ c. search needs)  -- enum-known-answer-2, cast-t15, cast-t16, cast-t19
+    (λ c κs. search needs) (λ c. search needs)  -- number-of-requires, cast-t22
     (λ c. search telling)  -- returns
     (λ c. search telling))  -- returns-2

@@ -8,12 +8,8 @@ pub address-below-spec : {M : Type 1} → statement M
 address-below-spec =
     tie.close
     (tie.spec
-    (λ c. search needs)  -- slice-aggregate-order-of
-    (λ c. search needs)  -- slice-aggregate-order-of-2
-    (λ c κs. search needs)  -- order-of-requires
-    (λ c. search needs)  -- enum-told
-    (λ c. search needs)  -- enum-told-2
-    (λ c. search needs)  -- enum-told-3
+    (λ c. search needs) (λ c. search needs) (λ c κs. search needs)  -- slice-aggregate-order-of, slice-aggregate-order-of-2, order-of-requires
+    (λ c. search needs) (λ c. search needs) (λ c. search needs)  -- enum-told, enum-told-2, enum-told-3
     (λ c. search ordered)  -- returns
     (λ c. search ordered)  -- returns-2
     (λ c. search ordered))  -- returns-3

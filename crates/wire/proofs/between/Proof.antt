@@ -12,10 +12,6 @@ between-spec =
     (λ c. part-out _ _ _ (c .before .if1 .taken))  -- returns
     (λ c. search needs)  -- slice-aggregate-result-2
     (λ c. part-none _ _ _ (c .before .if2 .taken))  -- returns-2
-    (λ c. search needs)  -- sub-result
-    (λ c. search needs)  -- part-result-start
-    (λ c. search needs)  -- part-result-end
+    (λ c. search needs) (λ c. search needs) (λ c. search needs)  -- sub-result, part-result-start, part-result-end
     (λ c. part-over _ _ _ (c .before .if3 .taken))  -- returns-3
-    (λ c. search needs)  -- part-result-start-2
-    (λ c. search needs)  -- part-result-end-2
-    (λ c. search needs))  -- returns-4
+    (λ c. search needs) (λ c. search needs) (λ c. search needs))  -- part-result-start-2, part-result-end-2, returns-4

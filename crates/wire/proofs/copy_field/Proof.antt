@@ -12,10 +12,8 @@ copy-field-spec =
     (tie.spec
     (λ c κs. search needs)  -- are-there-requires
     (λ c. search (needs, room-fits))  -- add-put-bytes
-    (λ c. search needs)  -- sub-put-bytes
-    (λ c. search needs)  -- part-put-bytes-start
+    (λ c. search needs) (λ c. search needs)  -- sub-put-bytes, part-put-bytes-start
     (λ c. search (needs, room-inside))  -- part-put-bytes-end
-    (λ c κs. search needs)  -- put-bytes-requires
-    (λ c. search needs)  -- same-length
+    (λ c κs. search needs) (λ c. search needs)  -- put-bytes-requires, same-length
     (λ c. search (leaf, copy-part))  -- returns
     (λ c. blob-cut _ _ _ _ _ _ _ (c .before .are-there .ensures) (c .if1 .left) _ refl refl))  -- returns-2

@@ -21,12 +21,9 @@ is-below-spec =
     μ-loop
     (λ c κs. search needs)  -- shorter-requires
     (λ c. below-all _ _)  -- loop-holds
-    (λ c. search needs)  -- shared-slice-read-if
-    (λ c. search needs)  -- shared-slice-read-if-2
-    (λ c. search needs)  -- shared-slice-read-result
+    (λ c. search needs) (λ c. search needs) (λ c. search needs)  -- shared-slice-read-if, shared-slice-read-if-2, shared-slice-read-result
     (λ c. search needs)  -- shared-slice-read-result-2
     (λ c. search separating)  -- returns
-    (λ c. search needs)  -- add-i
-    (λ c. search needs)  -- loop-less
+    (λ c. search needs) (λ c. search needs)  -- add-i, loop-less
     (λ c. search separating)  -- loop-again
     (λ c. search separating))  -- returns-2

@@ -8,10 +8,7 @@ pub key-below-spec : {M : Type 1} → statement M
 key-below-spec =
     tie.close
     (tie.spec
-    (λ c κs. search needs)  -- id-order-requires
-    (λ c. search needs)  -- enum-told
-    (λ c. search needs)  -- enum-told-2
-    (λ c. search needs)  -- enum-told-3
+    (λ c κs. search needs) (λ c. search needs) (λ c. search needs) (λ c. search needs)  -- id-order-requires, enum-told, enum-told-2, enum-told-3
     (λ c. search ordered)  -- returns
     (λ c. search ordered)  -- returns-2
     (λ c. search ordered))  -- returns-3

@@ -9,26 +9,11 @@ pub number-of-spec : {M : Type 1} → statement M
 number-of-spec =
     tie.close
     (tie.spec
-    (λ c. search needs)  -- enum-told
-    (λ c. search needs)  -- enum-told-2
-    (λ c. search needs)  -- enum-told-3
-    (λ c. search needs)  -- enum-told-4
-    (λ c. search needs)  -- enum-told-5
-    (λ c. search needs)  -- enum-told-6
-    (λ c. search needs)  -- enum-told-7
-    (λ c. search needs)  -- enum-told-8
-    (λ c. search needs)  -- enum-told-9
-    (λ c. search needs)  -- enum-told-10
-    (λ c. search needs)  -- enum-told-11
-    (λ c. search needs)  -- enum-told-12
-    (λ c. search needs)  -- enum-told-13
-    (λ c. search needs)  -- enum-told-14
-    (λ c. search needs)  -- enum-told-15
-    (λ c. search needs)  -- enum-told-16
-    (λ c. search needs)  -- enum-told-17
-    (λ c. search needs)  -- enum-told-18
-    (λ c. search needs)  -- enum-told-19
-    (λ c. search needs)  -- enum-told-20
+    (λ c. search needs) (λ c. search needs) (λ c. search needs) (λ c. search needs)  -- enum-told, enum-told-2, enum-told-3, enum-told-4
+    (λ c. search needs) (λ c. search needs) (λ c. search needs) (λ c. search needs)  -- enum-told-5, enum-told-6, enum-told-7, enum-told-8
+    (λ c. search needs) (λ c. search needs) (λ c. search needs) (λ c. search needs)  -- enum-told-9, enum-told-10, enum-told-11, enum-told-12
+    (λ c. search needs) (λ c. search needs) (λ c. search needs) (λ c. search needs)  -- enum-told-13, enum-told-14, enum-told-15, enum-told-16
+    (λ c. search needs) (λ c. search needs) (λ c. search needs) (λ c. search needs)  -- enum-told-17, enum-told-18, enum-told-19, enum-told-20
     (λ c. search needs)  -- enum-told-21
     (λ c. sym (ap ruleNumber (c .enum-told .given .1)))  -- returns
     (λ c. sym (ap ruleNumber (c .enum-told2 .given .1)))  -- returns-2

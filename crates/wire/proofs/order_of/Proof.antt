@@ -22,14 +22,11 @@ order-of-spec =
     μ-loop
     (λ c. order-all _ _)  -- loop-holds
     (λ c. search comparing)  -- returns
-    (λ c. search needs)  -- shared-slice-read-if2
-    (λ c. search needs)  -- shared-slice-read-if2-2
+    (λ c. search needs) (λ c. search needs)  -- shared-slice-read-if2, shared-slice-read-if2-2
     (λ c. search comparing)  -- returns-2
-    (λ c. search needs)  -- shared-slice-read-if3
-    (λ c. search needs)  -- shared-slice-read-if3-2
+    (λ c. search needs) (λ c. search needs)  -- shared-slice-read-if3, shared-slice-read-if3-2
     (λ c. search comparing)  -- returns-3
-    (λ c. search needs)  -- add-i
-    (λ c. search needs)  -- loop-less
+    (λ c. search needs) (λ c. search needs)  -- add-i, loop-less
     (λ c. search comparing)  -- loop-again
     (λ c. search comparing)  -- returns-4
     (λ c. search comparing))  -- returns-5

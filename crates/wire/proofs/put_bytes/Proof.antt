@@ -10,8 +10,7 @@ pub put-bytes-spec : {M : Type 1} → statement M
 put-bytes-spec =
     tie.close
     (tie.spec
-    (λ c κs. search needs)  -- copy-requires
-    (λ c. search needs)  -- same-length
+    (λ c κs. search needs) (λ c. search needs)  -- copy-requires, same-length
     (λ c. search copy-all)  -- returns
     (λ c. simp length-take (omega arith))  -- slice-aggregate-copy
     (λ c κs. simp length-take (omega arith))  -- copy-requires-2

@@ -41,10 +41,7 @@ put-integer-spec =
     Inv-loop
     μ-loop
     loop-holds
-    (λ c. search needs)  -- sub-i
-    (λ c. search needs)  -- cast-room
-    (λ c. search needs)  -- slice-write-room
-    (λ c. search needs)  -- loop-less
+    (λ c. search needs) (λ c. search needs) (λ c. search needs) (λ c. search needs)  -- sub-i, cast-room, slice-write-room, loop-less
     loop-again
     (λ c. search needs)  -- same-length
     (λ c. let e : c .before .loop .i ≡ 0 = omega arith in rw (e, sub-zero) at (c .before .loop .inv .3)))  -- returns

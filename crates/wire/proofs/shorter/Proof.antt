@@ -7,5 +7,4 @@ pub shorter-spec : {M : Type 1} → statement M
 shorter-spec =
     tie.close
     (tie.spec
-    (λ c. search needs)  -- returns
-    (λ c. search needs))  -- returns-2
+    (λ c. search needs) (λ c. search needs))  -- returns, returns-2

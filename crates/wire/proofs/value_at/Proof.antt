@@ -23,8 +23,7 @@ value-at-spec =
     Inv-loop
     μ-loop
     (λ c. (search needs, refl))  -- loop-holds
-    (λ c. search needs)  -- add-byte
-    (λ c. search needs)  -- shared-slice-read-byte
+    (λ c. search needs) (λ c. search needs)  -- add-byte, shared-slice-read-byte
     (λ c. let l = c .before .before in omega (arith, c .shared-slice-known .given (l .before .args .at + l .loop .i)))  -- cast-byte
     (λ c. let l = c .before .before in let a = l .before .args in omega
     (arith, value-room (a .s .now) (a .at) (c .shared-slice-known .given) (l .loop .i) (omega arith) (omega arith)))  -- mul-v
@@ -34,7 +33,6 @@ value-at-spec =
       value-room (a .s .now) (a .at) (c .shared-slice-known .given) (l .loop .i) (omega arith)
           (omega arith),
     ))  -- add-v
-    (λ c. search needs)  -- add-i
-    (λ c. search needs)  -- loop-less
+    (λ c. search needs) (λ c. search needs)  -- add-i, loop-less
     (λ c. let l = c .before .before in let a = l .before .args in (omega arith, cc (value-more (a .s .now) (a .at) (l .loop .i) (omega arith))))  -- loop-again
     (λ c. let e : c .before .loop .i ≡ c .before .before .args .width = omega arith in cc))  -- returns

@@ -26,12 +26,8 @@ append-spec =
     made (a .buf .now) _ _ (c .refuse .ensures) _ (close-short (a .most) (a .buf .now) (a .at) (omega arith)))  -- returns
     (λ c. search needs)  -- slice-reshare-prefix-unsigned-at
     (λ c. simp length-take (omega arith))  -- slice-aggregate-unsigned-at
-    (λ c κs. search needs)  -- unsigned-at-requires
-    (λ c. search needs)  -- enum-known-refusal
-    (λ c κs. search needs)  -- without-place-requires
-    (λ c. search needs)  -- enum-known-layout
-    (λ c κs. search needs)  -- refuse-requires-2
-    (λ c. search needs)  -- same-length
+    (λ c κs. search needs) (λ c. search needs) (λ c κs. search needs)  -- unsigned-at-requires, enum-known-refusal, without-place-requires
+    (λ c. search needs) (λ c κs. search needs) (λ c. search needs)  -- enum-known-layout, refuse-requires-2, same-length
     (λ c.
     let at-layout : tie.After-layout = search in
     let read : tie.After-unsigned-at = search in

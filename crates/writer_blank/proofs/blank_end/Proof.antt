@@ -26,9 +26,7 @@ blank-end-spec =
     let start : tie.Start = search in
     let a = start .args in
     ap P.Refused (c .before .before .before .refuse .ensures) ∙ fitted-full (a .at) (credentialWidth (a .count)) (a .limit) (omega arith))  -- returns-3
-    (λ c. search needs)  -- add-t8
-    (λ c. search needs)  -- mul-t11
-    (λ c. search needs)  -- add-t10
+    (λ c. search needs) (λ c. search needs) (λ c. search needs)  -- add-t8, mul-t11, add-t10
     (λ c.
     let start : tie.Start = search in
     let a = start .args in

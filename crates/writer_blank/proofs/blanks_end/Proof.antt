@@ -27,9 +27,7 @@ blanks-end-spec =
     Inv-loop
     μ-loop
     (λ c. (λ r h. h, omega arith))  -- loop-holds
-    (λ c κs. search needs)  -- next-wanted-requires
-    (λ c. search needs)  -- enum-known-signatures
-    (λ c. search needs)  -- enum-told
+    (λ c κs. search needs) (λ c. search needs) (λ c. search needs)  -- next-wanted-requires, enum-known-signatures, enum-told
     (λ c.
     let wanted : tie.After-next-wanted Inv-loop μ-loop = search in
     let in-loop : tie.In-loop Inv-loop μ-loop = search in
@@ -39,8 +37,7 @@ blanks-end-spec =
     let a = start .args in
     l .inv .0 _ (of-end (a .s .now) (a .type-id) record { phase = l .phase; asks = l .asks; at = l .q; left = l .elements } (l .left) _
     (wanted .next-wanted .ensures) _ (in-loop .loop-test .taken) (c .enum-told .given .1)))  -- returns
-    (λ c κs. search needs)  -- blank-end-requires
-    (λ c. search needs)  -- enum-known-refusal
+    (λ c κs. search needs) (λ c. search needs)  -- blank-end-requires, enum-known-refusal
     (λ c.
     let ended : tie.After-blank-end Inv-loop μ-loop = search in
     let at-signatures : tie.After-signatures Inv-loop μ-loop = search in
@@ -52,9 +49,7 @@ blanks-end-spec =
     l .inv .0 _ (end-full (a .s .now) (a .type-id) record { phase = l .phase; asks = l .asks; at = l .q; left = l .elements } (l .left) _
     (wanted .next-wanted .ensures) _ _ _
     (at-signatures .signatures .given .1) (l .at) _ _ (ended .blank-end .ensures) _ (c .before .refusal .given .1)))  -- returns-2
-    (λ c. search needs)  -- enum-known-end
-    (λ c. search needs)  -- sub-left
-    (λ c. search needs)  -- loop-less
+    (λ c. search needs) (λ c. search needs) (λ c. search needs)  -- enum-known-end, sub-left, loop-less
     (λ c.
     let ended : tie.After-blank-end Inv-loop μ-loop = search in
     let at-signatures : tie.After-signatures Inv-loop μ-loop = search in

@@ -22,9 +22,7 @@ clear-spec =
     Inv-loop
     μ-loop
     (λ c. (omega arith, refl, refl))  -- loop-holds
-    (λ c. search needs)  -- slice-write-room
-    (λ c. search needs)  -- add-i
-    (λ c. search needs)  -- loop-less
+    (λ c. search needs) (λ c. search needs) (λ c. search needs)  -- slice-write-room, add-i, loop-less
     (λ c.
     let l = c .before .loop in
     (omega arith, simp length-set (l .inv .1), rw (l .inv .2) (zero-more (c .before .before .args .room .now) (l .i) (omega arith))))  -- loop-again

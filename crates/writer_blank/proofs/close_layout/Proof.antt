@@ -10,12 +10,9 @@ pub close-layout-spec : {M : Type 1} → statement M
 close-layout-spec =
     tie.close
     (tie.spec
-    (λ c κs. search needs)  -- most-in-requires
-    (λ c. search needs)  -- slice-reshare-prefix-closing-end
+    (λ c κs. search needs) (λ c. search needs)  -- most-in-requires, slice-reshare-prefix-closing-end
     (λ c. simp length-take (omega arith))  -- slice-aggregate-closing-end
-    (λ c κs. search needs)  -- closing-end-requires
-    (λ c. search needs)  -- enum-known-refusal
-    (λ c. search needs)  -- enum-known-end
+    (λ c κs. search needs) (λ c. search needs) (λ c. search needs)  -- closing-end-requires, enum-known-refusal, enum-known-end
     (λ c κs.
     let ended : tie.After-closing-end = search in
     let most : tie.After-most-in = search in

@@ -17,9 +17,7 @@ closing-end-spec =
     let start : tie.Start = search in
     let a = start .args in
     closing-full (a .layout) (a .s .now) (a .at) (a .limit) (omega arith) _ (c .before .before .refuse .ensures))  -- returns-2
-    (λ c κs. search needs)  -- first-wanting-requires
-    (λ c. search needs)  -- add-blanks-end
-    (λ c κs. search needs)  -- blanks-end-requires
+    (λ c κs. search needs) (λ c. search needs) (λ c κs. search needs)  -- first-wanting-requires, add-blanks-end, blanks-end-requires
     (λ c.
     let start : tie.Start = search in
     let a = start .args in

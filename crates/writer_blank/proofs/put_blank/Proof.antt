@@ -11,13 +11,8 @@ unfolding signatureWidth
 put-blank-spec =
     tie.close
     (tie.spec
-    (λ c. search needs)  -- add-first
-    (λ c. search needs)  -- mul-width
-    (λ c κs. search needs)  -- put-u32-requires
-    (λ c. search needs)  -- add-put-u32
-    (λ c κs. search needs)  -- put-u32-requires-2
-    (λ c κs. search needs)  -- put-zeros-requires
-    (λ c. search needs)  -- add-result
+    (λ c. search needs) (λ c. search needs) (λ c κs. search needs) (λ c. search needs)  -- add-first, mul-width, put-u32-requires, add-put-u32
+    (λ c κs. search needs) (λ c κs. search needs) (λ c. search needs)  -- put-u32-requires-2, put-zeros-requires, add-result
     (λ c. search needs)  -- same-length
     (λ c.
     let zeros : tie.After-put-zeros = search in

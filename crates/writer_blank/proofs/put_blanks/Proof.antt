@@ -23,9 +23,7 @@ put-blanks-spec =
     (λ c. writing-begins (c .before .pre))  -- loop-holds
     (λ c. writing-front (c .before .loop .inv))  -- slice-reshare-prefix-next-wanted
     (λ c. simp length-take (omega (arith, writing-front (c .before .before .loop .inv))))  -- slice-aggregate-next-wanted
-    (λ c κs. search needs)  -- next-wanted-requires
-    (λ c. search needs)  -- enum-known-code
-    (λ c. search needs)  -- enum-told
+    (λ c κs. search needs) (λ c. search needs) (λ c. search needs)  -- next-wanted-requires, enum-known-code, enum-told
     (λ c. search needs)  -- same-length
     (λ c.
     let n = c .before .before in
@@ -36,8 +34,7 @@ put-blanks-spec =
     let at-loop : tie.At-loop Inv-loop μ-loop = search in
     let l = at-loop .loop in
     writing-room (l .inv) _ (wanted .next-wanted .ensures) _ _ _ (c .before .before .code .given .1))  -- put-blank-requires
-    (λ c. search needs)  -- sub-owed
-    (λ c. search needs)  -- loop-less
+    (λ c. search needs) (λ c. search needs)  -- sub-owed, loop-less
     (λ c.
     let blank : tie.After-put-blank Inv-loop μ-loop = search in
     let at-code : tie.After-code Inv-loop μ-loop = search in

@@ -8,9 +8,7 @@ pub put-closing-spec : {M : Type 1} → statement M
 put-closing-spec =
     tie.close
     (tie.spec
-    (λ c κs. search needs)  -- first-wanting-requires
-    (λ c κs. search needs)  -- put-u32-requires
-    (λ c. search needs)  -- add-put-blanks
+    (λ c κs. search needs) (λ c κs. search needs) (λ c. search needs)  -- first-wanting-requires, put-u32-requires, add-put-blanks
     (λ c κs.
     let p = c .before .before .before in
     let f = p .before .before in

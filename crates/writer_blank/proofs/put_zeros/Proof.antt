@@ -9,12 +9,8 @@ pub put-zeros-spec : {M : Type 1} → statement M
 put-zeros-spec =
     tie.close
     (tie.spec
-    (λ c. search needs)  -- add-clear
-    (λ c. search needs)  -- sub-clear
-    (λ c. search needs)  -- part-clear-start
-    (λ c. search needs)  -- part-clear-end
-    (λ c κs. search needs)  -- clear-requires
-    (λ c. search needs)  -- same-length
+    (λ c. search needs) (λ c. search needs) (λ c. search needs) (λ c. search needs)  -- add-clear, sub-clear, part-clear-start, part-clear-end
+    (λ c κs. search needs) (λ c. search needs)  -- clear-requires, same-length
     (λ c.
     let start : tie.Start = search in
     let a = start .args in

@@ -27,8 +27,7 @@ put-integers-spec =
     Inv-loop
     μ-loop
     (λ c. (refl, omega arith, omega arith, refl))  -- loop-holds
-    (λ c. search needs)  -- mul-put-u32
-    (λ c. search needs)  -- shared-slice-read-put-u32
+    (λ c. search needs) (λ c. search needs)  -- mul-put-u32, shared-slice-read-put-u32
     (λ c.
     let at-shared-slice-known : tie.After-shared-slice-known Inv-loop μ-loop = search in
     omega (arith, at-shared-slice-known .shared-slice-known .given (c .before .before .before .loop .i)))  -- cast-put-u32
@@ -41,9 +40,7 @@ put-integers-spec =
       c .before .before .loop-test .taken,
       start .pre,
     ))  -- put-u32-requires
-    (λ c. search needs)  -- add-i
-    (λ c. search needs)  -- add-at
-    (λ c. search needs)  -- loop-less
+    (λ c. search needs) (λ c. search needs) (λ c. search needs)  -- add-i, add-at, loop-less
     (λ c.
     let in-loop : tie.In-loop Inv-loop μ-loop = search in
     let at-loop : tie.At-loop Inv-loop μ-loop = search in

@@ -14,12 +14,8 @@ put-u32-spec =
     (λ c. search needs)  -- sub-if2
     (λ c. let a = c .before .before .before .args in not-there (a .buf .now) (a .at) (a .value)
     (omega (arith, c .if2 .taken, c .before .if1 .left)))  -- returns-2
-    (λ c. search needs)  -- add-put-integer
-    (λ c. search needs)  -- sub-put-integer
-    (λ c. search needs)  -- part-put-integer-start
-    (λ c. search needs)  -- part-put-integer-end
-    (λ c κs. search needs)  -- put-integer-requires
-    (λ c. search needs)  -- same-length
+    (λ c. search needs) (λ c. search needs) (λ c. search needs)  -- add-put-integer, sub-put-integer, part-put-integer-start
+    (λ c. search needs) (λ c κs. search needs) (λ c. search needs)  -- part-put-integer-end, put-integer-requires, same-length
     (λ c.
     let else2 : tie.Else2 = search in
     let else1 : tie.Else1 = search in

@@ -27,9 +27,7 @@ room-of-spec =
     let a = start .args in
     c .refuse-step3 .ensures
     ∙ integers-long (a .first .now) (a .second .now) (a .numbers .now) (a .at) (a .limit) (c .before .if3 .taken))  -- returns-3
-    (λ c. search needs)  -- add-room-for
-    (λ c. search needs)  -- mul-room-for
-    (λ c. search needs)  -- add-room-for-2
+    (λ c. search needs) (λ c. search needs) (λ c. search needs)  -- add-room-for, mul-room-for, add-room-for-2
     (λ c κs. search needs)  -- room-for-requires
     (λ c.
     let start : tie.Start = search in

@@ -24,9 +24,7 @@ pub store-spec : {M : Type 1} → statement M
 store-spec =
     tie.close
     (tie.spec
-    (λ c κs. search needs)  -- room-of-requires
-    (λ c. search needs)  -- enum-known-refusal
-    (λ c. search needs)  -- enum-told
+    (λ c κs. search needs) (λ c. search needs) (λ c. search needs)  -- room-of-requires, enum-known-refusal, enum-told
     (λ c κs. search room-made)  -- put-all-requires
     (λ c. let told : tie.After-enum-told = search in omega (arith, sum told))  -- add-t14
     (λ c. let told : tie.After-enum-told = search in omega (arith, sum told))  -- add-t16

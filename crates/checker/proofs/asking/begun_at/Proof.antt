@@ -8,13 +8,8 @@ pub begun-at-spec : {M : Type 1} → statement M
 begun-at-spec =
     tie.close
     (tie.spec
-    (λ c κs. search needs)  -- due-at-requires
-    (λ c. search needs)  -- enum-told
-    (λ c. search needs)  -- enum-told-2
-    (λ c. search needs)  -- enum-known-list
-    (λ c κs. search needs)  -- list-begun-requires
-    (λ c. search needs)  -- enum-known-field
-    (λ c κs. search needs)  -- field-past-requires
+    (λ c κs. search needs) (λ c. search needs) (λ c. search needs) (λ c. search needs)  -- due-at-requires, enum-told, enum-told-2, enum-known-list
+    (λ c κs. search needs) (λ c. search needs) (λ c κs. search needs)  -- list-begun-requires, enum-known-field, field-past-requires
     (λ c κs. search needs)  -- field-credential-requires
     (λ c. search beginning depth 12)  -- returns
     (λ c κs. search needs)  -- field-signatures-requires

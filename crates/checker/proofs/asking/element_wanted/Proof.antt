@@ -9,9 +9,7 @@ pub element-wanted-spec : {M : Type 1} → statement M
 element-wanted-spec =
     tie.close
     (tie.spec
-    (λ c κs. search needs)  -- asking-past-requires
-    (λ c. search needs)  -- enum-known-signatures
-    (λ c. search needs)  -- enum-told
+    (λ c κs. search needs) (λ c. search needs) (λ c. search needs)  -- asking-past-requires, enum-known-signatures, enum-told
     (λ c. search (element-unread, element-wanted) depth 12)  -- returns
     (λ c. search needs)  -- sub-t6
     (λ c. search (element-unread, element-wanted) depth 12))  -- returns-2

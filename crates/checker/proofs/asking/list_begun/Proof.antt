@@ -8,13 +8,9 @@ pub list-begun-spec : {M : Type 1} → statement M
 list-begun-spec =
     tie.close
     (tie.spec
-    (λ c κs. search needs)  -- u32-at-requires
-    (λ c. search needs)  -- enum-known-count
-    (λ c. search needs)  -- enum-told
+    (λ c κs. search needs) (λ c. search needs) (λ c. search needs)  -- u32-at-requires, enum-known-count, enum-told
     (λ c. search listing depth 12)  -- returns
-    (λ c κs. search needs)  -- credential-of-requires
-    (λ c κs. search needs)  -- elements-past-requires
-    (λ c. search needs)  -- enum-told-2
+    (λ c κs. search needs) (λ c κs. search needs) (λ c. search needs)  -- credential-of-requires, elements-past-requires, enum-told-2
     (λ c. search needs)  -- enum-known-next
     (λ c. search listing depth 12)  -- returns-2
     (λ c. search listing depth 12)  -- returns-3

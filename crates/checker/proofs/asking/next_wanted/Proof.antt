@@ -21,8 +21,7 @@ next-wanted-spec =
     Inv-loop
     μ-loop
     (λ c most ws w. w)  -- loop-holds
-    (λ c κs. search needs)  -- begun-at-requires
-    (λ c. search needs)  -- enum-told
+    (λ c κs. search needs) (λ c. search needs)  -- begun-at-requires, enum-told
     (λ c.
     let a = c .before .before .before .before .before .before .args in
     let l = c .before .before .before .before .loop in

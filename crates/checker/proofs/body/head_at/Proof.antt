@@ -11,29 +11,20 @@ unfolding head constant
 head-at-spec =
     tie.close
     (tie.spec
-    (λ c κs. search needs)  -- u16-at-requires
-    (λ c. search needs)  -- enum-known-codec
-    (λ c. search needs)  -- enum-told
+    (λ c κs. search needs) (λ c. search needs) (λ c. search needs)  -- u16-at-requires, enum-known-codec, enum-told
     (λ c κs. search needs)  -- cut-requires
     (λ c. search heading depth 12)  -- returns
     (λ c κs. search needs)  -- refuse-requires
     (λ c. search heading depth 12)  -- returns-2
-    (λ c κs. search needs)  -- u32-at-requires
-    (λ c. search needs)  -- enum-known-number
-    (λ c. search needs)  -- enum-told-2
+    (λ c κs. search needs) (λ c. search needs) (λ c. search needs)  -- u32-at-requires, enum-known-number, enum-told-2
     (λ c κs. search needs)  -- cut-requires-2
     (λ c. search heading depth 12)  -- returns-3
-    (λ c κs. search needs)  -- is-type-requires
-    (λ c κs. search needs)  -- refuse-requires-2
+    (λ c κs. search needs) (λ c κs. search needs)  -- is-type-requires, refuse-requires-2
     (λ c. search heading depth 12)  -- returns-4
-    (λ c κs. search needs)  -- u32-at-requires-2
-    (λ c. search needs)  -- enum-known-c
-    (λ c. search needs)  -- enum-told-3
+    (λ c κs. search needs) (λ c. search needs) (λ c. search needs)  -- u32-at-requires-2, enum-known-c, enum-told-3
     (λ c κs. search needs)  -- cut-requires-3
     (λ c. search heading depth 12)  -- returns-5
-    (λ c κs. search needs)  -- field-at-requires
-    (λ c. search needs)  -- enum-known-next
-    (λ c. search needs)  -- enum-told-4
+    (λ c κs. search needs) (λ c. search needs) (λ c. search needs)  -- field-at-requires, enum-known-next, enum-told-4
     (λ c κs. search needs)  -- cut-requires-4
     (λ c. search heading depth 12)  -- returns-6
     (λ c. search heading depth 12))  -- returns-7

@@ -25,8 +25,7 @@ plan-at-spec =
     Inv-loop
     μ-loop
     (λ c. (omega arith, refl))  -- loop-holds
-    (λ c κs. search needs)  -- segment-at-requires
-    (λ c. search needs)  -- enum-told
+    (λ c κs. search needs) (λ c. search needs)  -- segment-at-requires, enum-told
     (λ c. search turn-end)  -- returns
     (λ c. search needs)  -- enum-known-refusal
     (λ c. search turn-refused)  -- returns-2

@@ -8,21 +8,12 @@ pub segment-at-spec : {M : Type 1} → statement M
 segment-at-spec =
     tie.close
     (tie.spec
-    (λ c κs. search needs)  -- due-at-requires
-    (λ c. search needs)  -- enum-told
-    (λ c. search needs)  -- enum-told-2
-    (λ c. search needs)  -- enum-known-field
-    (λ c κs. search needs)  -- field-end-requires
-    (λ c. search needs)  -- enum-known-refusal
-    (λ c. search needs)  -- enum-known-next
+    (λ c κs. search needs) (λ c. search needs) (λ c. search needs) (λ c. search needs)  -- due-at-requires, enum-told, enum-told-2, enum-known-field
+    (λ c κs. search needs) (λ c. search needs) (λ c. search needs)  -- field-end-requires, enum-known-refusal, enum-known-next
     (λ c κs. search needs)  -- field-credential-requires
     (λ c. search passing depth 12)  -- returns
-    (λ c. search needs)  -- enum-known-list
-    (λ c. search needs)  -- cast-list-at
-    (λ c κs. search needs)  -- list-at-requires
-    (λ c. search needs)  -- enum-known-refusal-2
-    (λ c. search needs)  -- enum-known-count
-    (λ c κs. search needs)  -- credential-of-requires
+    (λ c. search needs) (λ c. search needs) (λ c κs. search needs)  -- enum-known-list, cast-list-at, list-at-requires
+    (λ c. search needs) (λ c. search needs) (λ c κs. search needs)  -- enum-known-refusal-2, enum-known-count, credential-of-requires
     (λ c. search passing depth 12)  -- returns-2
     (λ c. search passing depth 12)  -- returns-3
     (λ c. search passing depth 12)  -- returns-4

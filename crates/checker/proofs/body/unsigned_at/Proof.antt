@@ -11,13 +11,9 @@ unfolding unsigned
 unsigned-at-spec =
     tie.close
     (tie.spec
-    (λ c κs. search needs)  -- head-at-requires
-    (λ c. search needs)  -- enum-known-refusal
-    (λ c. search needs)  -- enum-known-number
+    (λ c κs. search needs) (λ c. search needs) (λ c. search needs)  -- head-at-requires, enum-known-refusal, enum-known-number
     (λ c. omega (arith, head-small _ _ _ _ (c .before .before .before .head-at .ensures) (c .before .number .given .1)))  -- cast-kind
-    (λ c κs. search needs)  -- outputs-at-requires
-    (λ c. search needs)  -- enum-known-refusal-2
-    (λ c. search needs)  -- enum-known-inputs-at
+    (λ c κs. search needs) (λ c. search needs) (λ c. search needs)  -- outputs-at-requires, enum-known-refusal-2, enum-known-inputs-at
     (λ c κs. search needs)  -- plan-at-requires
     (λ c. search unsigning depth 12)  -- returns
     (λ c. search unsigning depth 12)  -- returns-2

@@ -10,9 +10,7 @@ check-within-spec =
     (tie.spec
     (λ c κs. search needs)  -- refuse-requires
     (λ c. search checking depth 12)  -- returns
-    (λ c κs. search needs)  -- unsigned-at-requires
-    (λ c. search needs)  -- enum-known-refusal
-    (λ c. search needs)  -- enum-known-layout
+    (λ c κs. search needs) (λ c. search needs) (λ c. search needs)  -- unsigned-at-requires, enum-known-refusal, enum-known-layout
     (λ c κs. search needs)  -- signed-at-requires
     (λ c. search checking depth 12)  -- returns-2
     (λ c. search checking depth 12))  -- returns-3

@@ -8,9 +8,7 @@ pub signed-at-spec : {M : Type 1} → statement M
 signed-at-spec =
     tie.close
     (tie.spec
-    (λ c κs. search needs)  -- credentials-at-requires
-    (λ c. search needs)  -- enum-known-refusal
-    (λ c. search needs)  -- enum-known-end
+    (λ c κs. search needs) (λ c. search needs) (λ c. search needs)  -- credentials-at-requires, enum-known-refusal, enum-known-end
     (λ c κs. search needs)  -- refuse-requires
     (λ c. search signing depth 12)  -- returns
     (λ c. search signing depth 12)  -- returns-2

@@ -19,15 +19,10 @@ beside-spec =
     Inv-loop
     μ-loop
     (λ c. search onward)  -- loop-holds
-    (λ c κs. search needs)  -- next-wanted-requires
-    (λ c. search needs)  -- enum-known-credential
-    (λ c. search needs)  -- enum-told
+    (λ c κs. search needs) (λ c. search needs) (λ c. search needs)  -- next-wanted-requires, enum-known-credential, enum-told
     (λ c. search onward)  -- returns
-    (λ c κs. search needs)  -- credential-at-requires
-    (λ c. search needs)  -- enum-known-refusal
+    (λ c κs. search needs) (λ c. search needs)  -- credential-at-requires, enum-known-refusal
     (λ c. search onward)  -- returns-2
-    (λ c. search needs)  -- enum-known-m
-    (λ c. search needs)  -- sub-left
-    (λ c. search needs)  -- loop-less
+    (λ c. search needs) (λ c. search needs) (λ c. search needs)  -- enum-known-m, sub-left, loop-less
     (λ c. search onward)  -- loop-again
     (λ c. search onward))  -- returns-3

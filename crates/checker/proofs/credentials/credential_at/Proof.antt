@@ -12,16 +12,12 @@ unfolding pieces constant
 credential-at-spec =
     tie.close
     (tie.spec
-    (λ c κs. search needs)  -- u32-at-requires
-    (λ c. search needs)  -- enum-known-found
-    (λ c. search needs)  -- enum-told
+    (λ c κs. search needs) (λ c. search needs) (λ c. search needs)  -- u32-at-requires, enum-known-found, enum-told
     (λ c κs. search needs)  -- cut-requires
     (λ c. search piecewise depth 12)  -- returns
     (λ c κs. search needs)  -- refuse-requires
     (λ c. search piecewise depth 12)  -- returns-2
-    (λ c κs. search needs)  -- u32-at-requires-2
-    (λ c. search needs)  -- enum-known-count
-    (λ c. search needs)  -- enum-told-2
+    (λ c κs. search needs) (λ c. search needs) (λ c. search needs)  -- u32-at-requires-2, enum-known-count, enum-told-2
     (λ c κs. search needs)  -- cut-requires-2
     (λ c. search piecewise depth 12)  -- returns-3
     (λ c κs. search needs)  -- refuse-requires-2

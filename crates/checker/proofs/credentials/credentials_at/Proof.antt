@@ -10,13 +10,10 @@ pub credentials-at-spec : {M : Type 1} → statement M
 credentials-at-spec =
     tie.close
     (tie.spec
-    (λ c κs. search needs)  -- u32-at-requires
-    (λ c. search needs)  -- enum-known-count
-    (λ c. search needs)  -- enum-told
+    (λ c κs. search needs) (λ c. search needs) (λ c. search needs)  -- u32-at-requires, enum-known-count, enum-told
     (λ c κs. search needs)  -- cut-requires
     (λ c. search (counted-short, counted-other, counted-same) depth 12)  -- returns
     (λ c κs. search needs)  -- refuse-requires
     (λ c. search (counted-short, counted-other, counted-same) depth 12)  -- returns-2
-    (λ c κs. search needs)  -- first-wanting-requires
-    (λ c κs. search needs)  -- beside-requires
+    (λ c κs. search needs) (λ c κs. search needs)  -- first-wanting-requires, beside-requires
     (λ c. search (counted-short, counted-other, counted-same) depth 12))  -- returns-3

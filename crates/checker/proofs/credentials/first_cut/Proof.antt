@@ -21,13 +21,10 @@ first-cut-spec =
     Inv-loop
     μ-loop
     (λ c. refl)  -- loop-holds
-    (λ c κs. search needs)  -- field-at-requires
-    (λ c. search needs)  -- enum-known-next
-    (λ c. search needs)  -- enum-told
+    (λ c κs. search needs) (λ c. search needs) (λ c. search needs)  -- field-at-requires, enum-known-next, enum-told
     (λ c κs. search needs)  -- cut-requires
     (λ c. search (cut-on, on-part, on-cut) depth 8)  -- returns
-    (λ c. search needs)  -- sub-left
-    (λ c. search needs)  -- loop-less
+    (λ c. search needs) (λ c. search needs)  -- sub-left, loop-less
     (λ c. search (cut-on, on-part) depth 8)  -- loop-again
     (λ c κs. search needs)  -- cut-requires-2
     (λ c. search cut-end))  -- returns-2

@@ -9,9 +9,7 @@ signatures-at-spec =
     tie.close
     (tie.spec
     (λ c. search signatures-fit)  -- mul-part-at
-    (λ c κs. search needs)  -- field-at-requires
-    (λ c. search needs)  -- enum-known-next
-    (λ c. search needs)  -- enum-told
+    (λ c κs. search needs) (λ c. search needs) (λ c. search needs)  -- field-at-requires, enum-known-next, enum-told
     (λ c κs. search needs)  -- first-cut-requires
     (λ c. search signatures-all)  -- returns
     (λ c. search signatures-cut))  -- returns-2

@@ -9,6 +9,5 @@ is-blank-spec =
     tie.close
     (tie.spec
     (λ c. search slotted)  -- returns
-    (λ c. search needs)  -- slice-aggregate-same-run
-    (λ c κs. search needs)  -- same-block-requires
+    (λ c. search needs) (λ c κs. search needs)  -- slice-aggregate-same-run, same-block-requires
     (λ c. search slotted))  -- returns-2

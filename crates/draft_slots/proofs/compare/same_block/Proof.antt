@@ -22,9 +22,7 @@ same-block-spec =
     Inv-loop
     μ-loop
     (λ c. same-all _ _)  -- loop-holds
-    (λ c. search needs)  -- shared-slice-read-all
-    (λ c. search needs)  -- shared-slice-read-all-2
-    (λ c. search needs)  -- add-i
+    (λ c. search needs) (λ c. search needs) (λ c. search needs)  -- shared-slice-read-all, shared-slice-read-all-2, add-i
     (λ c. search needs)  -- loop-less
     (λ c. search same-on)  -- loop-again
     (λ c. search same-end))  -- returns

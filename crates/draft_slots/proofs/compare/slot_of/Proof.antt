@@ -10,13 +10,8 @@ slot-of-spec =
     (tie.spec
     (λ c. search needs)  -- slice-aggregate-result
     (λ c. search slotted)  -- returns
-    (λ c. search needs)  -- sub-if2
-    (λ c. search needs)  -- sub-result
-    (λ c. search needs)  -- part-result-start
-    (λ c. search needs)  -- part-result-end
+    (λ c. search needs) (λ c. search needs) (λ c. search needs) (λ c. search needs)  -- sub-if2, sub-result, part-result-start, part-result-end
     (λ c. search slotted)  -- returns-2
-    (λ c. search needs)  -- add-result
-    (λ c. search needs)  -- sub-result-2
-    (λ c. search needs)  -- part-result-start-2
+    (λ c. search needs) (λ c. search needs) (λ c. search needs)  -- add-result, sub-result-2, part-result-start-2
     (λ c. search needs)  -- part-result-end-2
     (λ c. search slotted))  -- returns-3

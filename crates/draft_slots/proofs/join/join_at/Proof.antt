@@ -11,14 +11,11 @@ join-at-spec =
     tie.close
     (tie.spec
     (λ c. search joining-slot)  -- returns
-    (λ c κs. search needs)  -- slot-of-requires
-    (λ c κs. search needs)  -- is-blank-requires
+    (λ c κs. search needs) (λ c κs. search needs)  -- slot-of-requires, is-blank-requires
     (λ c. omega (arith, blank-fits _ _ _ _ (c .before .before .slot-of .ensures) (c .before .is-blank .ensures) (c .if2 .taken)))  -- add-put-bytes
-    (λ c. search needs)  -- sub-put-bytes
-    (λ c. search needs)  -- part-put-bytes-start
+    (λ c. search needs) (λ c. search needs)  -- sub-put-bytes, part-put-bytes-start
     (λ c. omega (arith, blank-fits _ _ _ _ (c .before .before .slot-of .ensures) (c .before .is-blank .ensures) (c .if2 .taken)))  -- part-put-bytes-end
-    (λ c κs. search needs)  -- put-bytes-requires
-    (λ c. search needs)  -- same-length
+    (λ c κs. search needs) (λ c. search needs)  -- put-bytes-requires, same-length
     (λ c. search joining-slot)  -- returns-2
     (λ c. search needs)  -- same-length-2
     (λ c. search joining-slot))  -- returns-3

@@ -23,10 +23,7 @@ join-range-spec =
     Inv-loop
     μ-loop
     (λ c. (refl, omega arith, refl))  -- loop-holds
-    (λ c κs. search needs)  -- slot-of-requires
-    (λ c κs. search needs)  -- join-at-requires
-    (λ c. search needs)  -- add-p
-    (λ c. search needs)  -- sub-left
+    (λ c κs. search needs) (λ c κs. search needs) (λ c. search needs) (λ c. search needs)  -- slot-of-requires, join-at-requires, add-p, sub-left
     (λ c. search needs)  -- loop-less
     (λ c. (search join-on, omega arith, search needs))  -- loop-again
     (λ c. search needs)  -- same-length

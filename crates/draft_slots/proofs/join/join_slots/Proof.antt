@@ -20,19 +20,13 @@ join-slots-spec =
     (tie.spec
     Inv-loop
     μ-loop
-    (λ c κs. search needs)  -- u32-at-requires
-    (λ c. search needs)  -- enum-known-count
-    (λ c. search needs)  -- enum-told
+    (λ c κs. search needs) (λ c. search needs) (λ c. search needs)  -- u32-at-requires, enum-known-count, enum-told
     (λ c. search joins-absent)  -- returns
     (λ c. (search joins-start, refl))  -- loop-holds
-    (λ c κs. search needs)  -- range-at-requires
-    (λ c. search needs)  -- enum-known-p
-    (λ c. search needs)  -- enum-told-2
-    (λ c. search needs)  -- same-length
+    (λ c κs. search needs) (λ c. search needs) (λ c. search needs) (λ c. search needs)  -- range-at-requires, enum-known-p, enum-told-2, same-length
     (λ c. search joining-walk)  -- returns-2
     (λ c κs. search range-fits)  -- join-range-requires
-    (λ c. search needs)  -- sub-left
-    (λ c. search needs)  -- loop-less
+    (λ c. search needs) (λ c. search needs)  -- sub-left, loop-less
     (λ c. (search joining-walk, search needs))  -- loop-again
     (λ c. search needs)  -- same-length-2
     (λ c. search joining-walk))  -- returns-3

@@ -23,13 +23,8 @@ clash-in-spec =
     Inv-loop
     μ-loop
     (λ c. (refl, omega arith, omega arith))  -- loop-holds
-    (λ c κs. search needs)  -- slot-of-requires
-    (λ c κs. search needs)  -- slot-of-requires-2
-    (λ c κs. search needs)  -- clash-requires
+    (λ c κs. search needs) (λ c κs. search needs) (λ c κs. search needs)  -- slot-of-requires, slot-of-requires-2, clash-requires
     (λ c. search (clash-is, clashing-range))  -- returns
-    (λ c. search needs)  -- add-p
-    (λ c. search needs)  -- add-n
-    (λ c. search needs)  -- sub-left
-    (λ c. search needs)  -- loop-less
+    (λ c. search needs) (λ c. search needs) (λ c. search needs) (λ c. search needs)  -- add-p, add-n, sub-left, loop-less
     (λ c. (search clashing-range, omega arith, omega arith))  -- loop-again
     (λ c. search (clash-is, clashing-range)))  -- returns-2

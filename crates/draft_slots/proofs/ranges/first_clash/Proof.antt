@@ -22,21 +22,16 @@ first-clash-spec =
     (tie.spec
     Inv-loop
     μ-loop
-    (λ c κs. search needs)  -- u32-at-requires
-    (λ c. search needs)  -- enum-known-count
-    (λ c. search needs)  -- enum-told
+    (λ c κs. search needs) (λ c. search needs) (λ c. search needs)  -- u32-at-requires, enum-known-count, enum-told
     (λ c. search (clash-is, clash-absent))  -- returns
     (λ c. (search clash-start, omega arith))  -- loop-holds
-    (λ c κs. search needs)  -- range-at-requires
-    (λ c. search needs)  -- enum-known-p
-    (λ c. search needs)  -- enum-told-2
+    (λ c κs. search needs) (λ c. search needs) (λ c. search needs)  -- range-at-requires, enum-known-p, enum-told-2
     (λ c. search (clash-is, clashing-walk))  -- returns-2
     (λ c κs. search (range-fits, range-starts))  -- clash-in-requires
     (λ c. search needs)  -- enum-known-slot
     (λ c. search (clash-is, clashing-walk))  -- returns-3
     (λ c. search needs)  -- enum-told-3
     (λ c. search slots-counted)  -- add-k
-    (λ c. search needs)  -- sub-left
-    (λ c. search needs)  -- loop-less
+    (λ c. search needs) (λ c. search needs)  -- sub-left, loop-less
     (λ c. (search clashing-walk, search range-ends))  -- loop-again
     (λ c. search (clash-is, clashing-walk)))  -- returns-4

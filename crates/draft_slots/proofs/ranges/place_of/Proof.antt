@@ -18,20 +18,14 @@ place-of-spec =
     (tie.spec
     Inv-loop
     μ-loop
-    (λ c κs. search needs)  -- u32-at-requires
-    (λ c. search needs)  -- enum-known-count
-    (λ c. search needs)  -- enum-told
+    (λ c κs. search needs) (λ c. search needs) (λ c. search needs)  -- u32-at-requires, enum-known-count, enum-told
     (λ c. search (place-is, place-absent))  -- returns
     (λ c. search place-start)  -- loop-holds
-    (λ c κs. search needs)  -- range-at-requires
-    (λ c. search needs)  -- enum-known-p
-    (λ c. search needs)  -- enum-told-2
+    (λ c κs. search needs) (λ c. search needs) (λ c. search needs)  -- range-at-requires, enum-known-p, enum-told-2
     (λ c. search (place-is, placing-walk))  -- returns-2
     (λ c. search slot-offset)  -- mul-t16
     (λ c. search slot-start)  -- add-t17
     (λ c. search (place-is, placing-walk))  -- returns-3
-    (λ c. search needs)  -- sub-before
-    (λ c. search needs)  -- sub-left
-    (λ c. search needs)  -- loop-less
+    (λ c. search needs) (λ c. search needs) (λ c. search needs)  -- sub-before, sub-left, loop-less
     (λ c. search placing-walk)  -- loop-again
     (λ c. search (place-is, placing-walk)))  -- returns-4

@@ -9,17 +9,11 @@ pub range-at-spec : {M : Type 1} → statement M
 range-at-spec =
     tie.close
     (tie.spec
-    (λ c κs. search needs)  -- field-at-requires
-    (λ c. search needs)  -- enum-known-i
-    (λ c. search needs)  -- enum-told
+    (λ c κs. search needs) (λ c. search needs) (λ c. search needs)  -- field-at-requires, enum-known-i, enum-told
     (λ c. search running depth 10)  -- returns
-    (λ c κs. search needs)  -- u32-at-requires
-    (λ c. search needs)  -- enum-known-count
-    (λ c. search needs)  -- enum-told-2
+    (λ c κs. search needs) (λ c. search needs) (λ c. search needs)  -- u32-at-requires, enum-known-count, enum-told-2
     (λ c. search running depth 10)  -- returns-2
     (λ c. search (slots-fit, value-small))  -- mul-part-at
-    (λ c κs. search needs)  -- field-at-requires-2
-    (λ c. search needs)  -- enum-known-next
-    (λ c. search needs)  -- enum-told-3
+    (λ c κs. search needs) (λ c. search needs) (λ c. search needs)  -- field-at-requires-2, enum-known-next, enum-told-3
     (λ c. search running depth 10)  -- returns-3
     (λ c. search running depth 10))  -- returns-4

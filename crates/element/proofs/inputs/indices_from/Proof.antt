@@ -29,14 +29,10 @@ indices-from-spec =
     Inv-loop
     μ-loop
     (λ c. (search needs, refl))  -- loop-holds
-    (λ c κs. search needs)  -- u32-at-requires
-    (λ c. search needs)  -- enum-known-index
-    (λ c. search needs)  -- enum-told
+    (λ c κs. search needs) (λ c. search needs) (λ c. search needs)  -- u32-at-requires, enum-known-index, enum-told
     (λ c κs. search needs)  -- cut-requires
     (λ c. search turn depth 10)  -- returns
-    (λ c κs. search needs)  -- integer-follows-requires
-    (λ c. search needs)  -- sub-left
-    (λ c. search needs)  -- loop-less
+    (λ c κs. search needs) (λ c. search needs) (λ c. search needs)  -- integer-follows-requires, sub-left, loop-less
     (λ c. search (turn, value-small, if-integer-follows) depth 10)  -- loop-again
     (λ c κs. search needs)  -- refuse-requires
     (λ c. search (turn, value-small, if-integer-not) depth 10)  -- returns-2

@@ -10,24 +10,15 @@ unfolding spend
 spend-at-spec =
     tie.close
     (tie.spec
-    (λ c κs. search needs)  -- field-at-requires
-    (λ c. search needs)  -- enum-known-k
-    (λ c. search needs)  -- enum-told
-    (λ c κs. search needs)  -- cut-requires
+    (λ c κs. search needs) (λ c. search needs) (λ c. search needs) (λ c κs. search needs)  -- field-at-requires, enum-known-k, enum-told, cut-requires
     (λ c. search reading depth 12)  -- returns
-    (λ c κs. search needs)  -- u32-at-requires
-    (λ c. search needs)  -- enum-known-kind
-    (λ c. search needs)  -- enum-told-2
+    (λ c κs. search needs) (λ c. search needs) (λ c. search needs)  -- u32-at-requires, enum-known-kind, enum-told-2
     (λ c κs. search needs)  -- cut-requires-2
     (λ c. search reading depth 12)  -- returns-2
     (λ c κs. search needs)  -- refuse-requires
     (λ c. search reading depth 12)  -- returns-3
-    (λ c κs. search needs)  -- amount-at-requires
-    (λ c. search needs)  -- enum-known-refusal
-    (λ c. search needs)  -- enum-known-n
-    (λ c κs. search needs)  -- u32-at-requires-2
-    (λ c. search needs)  -- enum-known-count
-    (λ c. search needs)  -- enum-told-3
+    (λ c κs. search needs) (λ c. search needs) (λ c. search needs)  -- amount-at-requires, enum-known-refusal, enum-known-n
+    (λ c κs. search needs) (λ c. search needs) (λ c. search needs)  -- u32-at-requires-2, enum-known-count, enum-told-3
     (λ c κs. search needs)  -- cut-requires-3
     (λ c. search reading depth 12)  -- returns-4
     (λ c κs. search needs)  -- indices-from-requires

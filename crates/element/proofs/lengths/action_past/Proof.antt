@@ -11,17 +11,11 @@ unfolding andThen
 action-past-spec =
     tie.close
     (tie.spec
-    (λ c κs. search needs)  -- u32-at-requires
-    (λ c. search needs)  -- enum-known-kind
-    (λ c. search needs)  -- enum-told
+    (λ c κs. search needs) (λ c. search needs) (λ c. search needs)  -- u32-at-requires, enum-known-kind, enum-told
     (λ c κs. search needs)  -- cut-requires
     (λ c. action-told _ _ (search needs) _ (search passing depth 8))  -- returns
-    (λ c κs. search needs)  -- terms-past-requires
-    (λ c. search needs)  -- enum-known-refusal
-    (λ c. search needs)  -- enum-known-asked
-    (λ c κs. search needs)  -- recipients-past-requires
-    (λ c. search needs)  -- enum-known-refusal-2
-    (λ c. search needs)  -- enum-known-next
+    (λ c κs. search needs) (λ c. search needs) (λ c. search needs)  -- terms-past-requires, enum-known-refusal, enum-known-asked
+    (λ c κs. search needs) (λ c. search needs) (λ c. search needs)  -- recipients-past-requires, enum-known-refusal-2, enum-known-next
     (λ c. action-told _ _ (search needs) _ (search passing depth 8))  -- returns-2
     (λ c. action-told _ _ (search needs) _ (search passing depth 8))  -- returns-3
     (λ c. action-told _ _ (search needs) _ (search passing depth 8)))  -- returns-4

@@ -12,22 +12,14 @@ unfolding andThen
 input-past-spec =
     tie.close
     (tie.spec
-    (λ c. search needs)  -- add-part-at
-    (λ c κs. search needs)  -- field-at-requires
-    (λ c. search needs)  -- enum-known-first
-    (λ c. search needs)  -- enum-told
-    (λ c. search needs)  -- add-cut
-    (λ c κs. search needs)  -- cut-requires
+    (λ c. search needs) (λ c κs. search needs) (λ c. search needs) (λ c. search needs)  -- add-part-at, field-at-requires, enum-known-first, enum-told
+    (λ c. search needs) (λ c κs. search needs)  -- add-cut, cut-requires
     (λ c. input-told _ _ (search needs) _ (search passing depth 8))  -- returns
     (λ c. search front-fits)  -- add-count-at
-    (λ c κs. search needs)  -- u32-at-requires
-    (λ c. search needs)  -- enum-known-count
-    (λ c. search needs)  -- enum-told-2
+    (λ c κs. search needs) (λ c. search needs) (λ c. search needs)  -- u32-at-requires, enum-known-count, enum-told-2
     (λ c κs. search needs)  -- cut-requires-2
     (λ c. input-told _ _ (search needs) _ (search passing depth 8))  -- returns-2
     (λ c. search (indices-fit, value-small))  -- mul-part-at
-    (λ c κs. search needs)  -- field-at-requires-2
-    (λ c. search needs)  -- enum-known-refusal
-    (λ c. search needs)  -- enum-known-next
+    (λ c κs. search needs) (λ c. search needs) (λ c. search needs)  -- field-at-requires-2, enum-known-refusal, enum-known-next
     (λ c. input-told _ _ (search needs) _ (search passing depth 8))  -- returns-3
     (λ c. input-told _ _ (search needs) _ (search passing depth 8)))  -- returns-4

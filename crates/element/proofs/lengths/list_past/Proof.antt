@@ -12,14 +12,10 @@ unfolding byCount
 list-past-spec =
     tie.close
     (tie.spec
-    (λ c κs. search needs)  -- u32-at-requires
-    (λ c. search needs)  -- enum-known-count
-    (λ c. search needs)  -- enum-told
+    (λ c κs. search needs) (λ c. search needs) (λ c. search needs)  -- u32-at-requires, enum-known-count, enum-told
     (λ c κs. search needs)  -- cut-requires
     (λ c. list-told _ _ _ _ (search passing depth 8))  -- returns
     (λ c. search (product-fits, value-small))  -- mul-part-at
-    (λ c κs. search needs)  -- field-at-requires
-    (λ c. search needs)  -- enum-known-refusal
-    (λ c. search needs)  -- enum-known-next
+    (λ c κs. search needs) (λ c. search needs) (λ c. search needs)  -- field-at-requires, enum-known-refusal, enum-known-next
     (λ c. list-told _ _ _ _ (search passing depth 8))  -- returns-2
     (λ c. list-told _ _ _ _ (search passing depth 8)))  -- returns-3

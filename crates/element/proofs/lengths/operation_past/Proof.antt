@@ -11,14 +11,10 @@ unfolding andThen
 operation-past-spec =
     tie.close
     (tie.spec
-    (λ c κs. search needs)  -- field-at-requires
-    (λ c. search needs)  -- enum-known-pairs
-    (λ c. search needs)  -- enum-told
+    (λ c κs. search needs) (λ c. search needs) (λ c. search needs)  -- field-at-requires, enum-known-pairs, enum-told
     (λ c κs. search needs)  -- cut-requires
     (λ c. operation-told _ _ (search needs) _ (search passing depth 8))  -- returns
-    (λ c κs. search needs)  -- list-past-requires
-    (λ c. search needs)  -- enum-known-refusal
-    (λ c. search needs)  -- enum-known-action
+    (λ c κs. search needs) (λ c. search needs) (λ c. search needs)  -- list-past-requires, enum-known-refusal, enum-known-action
     (λ c κs. search needs)  -- action-past-requires
     (λ c. operation-told _ _ (search needs) _ (search passing depth 8))  -- returns-2
     (λ c. operation-told _ _ (search needs) _ (search passing depth 8)))  -- returns-3

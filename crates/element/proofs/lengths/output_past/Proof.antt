@@ -9,9 +9,7 @@ pub output-past-spec : {M : Type 1} → statement M
 output-past-spec =
     tie.close
     (tie.spec
-    (λ c κs. search needs)  -- u32-at-requires
-    (λ c. search needs)  -- enum-known-kind
-    (λ c. search needs)  -- enum-told
+    (λ c κs. search needs) (λ c. search needs) (λ c. search needs)  -- u32-at-requires, enum-known-kind, enum-told
     (λ c κs. search needs)  -- cut-requires
     (λ c. search typed)  -- returns
     (λ c κs. search needs)  -- owners-past-requires

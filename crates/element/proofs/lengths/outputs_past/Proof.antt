@@ -22,11 +22,8 @@ outputs-past-spec =
     Inv-loop
     μ-loop
     (λ c. search looping-outputs)  -- loop-holds
-    (λ c κs. search needs)  -- output-past-requires
-    (λ c. search needs)  -- enum-known-refusal
+    (λ c κs. search needs) (λ c. search needs)  -- output-past-requires, enum-known-refusal
     (λ c fx. passes (nondecreasing (output (fxOutputs fx)) _) _ _ _ (search looping-outputs))  -- returns
-    (λ c. search needs)  -- enum-known-next
-    (λ c. search needs)  -- sub-left
-    (λ c. search needs)  -- loop-less
+    (λ c. search needs) (λ c. search needs) (λ c. search needs)  -- enum-known-next, sub-left, loop-less
     (λ c. search looping-outputs)  -- loop-again
     (λ c fx. passes (nondecreasing (output (fxOutputs fx)) _) _ _ _ (search looping-outputs)))  -- returns-2

@@ -11,9 +11,7 @@ unfolding andThen
 owners-behind-spec =
     tie.close
     (tie.spec
-    (λ c κs. search needs)  -- field-at-requires
-    (λ c. search needs)  -- enum-known-next
-    (λ c. search needs)  -- enum-told
+    (λ c κs. search needs) (λ c. search needs) (λ c. search needs)  -- field-at-requires, enum-known-next, enum-told
     (λ c κs. search needs)  -- cut-requires
     (λ c. behind-passed _ _ _ _ (search passing depth 8))  -- returns
     (λ c κs. search needs)  -- owners-past-requires

@@ -21,11 +21,8 @@ owners-list-past-spec =
     Inv-loop
     μ-loop
     (λ c. search looping)  -- loop-holds
-    (λ c κs. search needs)  -- owners-past-requires
-    (λ c. search needs)  -- enum-known-refusal
+    (λ c κs. search needs) (λ c. search needs)  -- owners-past-requires, enum-known-refusal
     (λ c. passes (unordered owners _) _ _ _ (search looping))  -- returns
-    (λ c. search needs)  -- enum-known-next
-    (λ c. search needs)  -- sub-left
-    (λ c. search needs)  -- loop-less
+    (λ c. search needs) (λ c. search needs) (λ c. search needs)  -- enum-known-next, sub-left, loop-less
     (λ c. search looping)  -- loop-again
     (λ c. passes (unordered owners _) _ _ _ (search looping)))  -- returns-2

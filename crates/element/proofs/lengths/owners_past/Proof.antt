@@ -11,13 +11,9 @@ unfolding andThen
 owners-past-spec =
     tie.close
     (tie.spec
-    (λ c κs. search needs)  -- field-at-requires
-    (λ c. search needs)  -- enum-known-addresses
-    (λ c. search needs)  -- enum-told
+    (λ c κs. search needs) (λ c. search needs) (λ c. search needs)  -- field-at-requires, enum-known-addresses, enum-told
     (λ c κs. search needs)  -- cut-requires
     (λ c. owners-passed _ _ (search needs) _ (search passing depth 8))  -- returns
-    (λ c κs. search needs)  -- list-past-requires
-    (λ c. search needs)  -- enum-known-refusal
-    (λ c. search needs)  -- enum-known-next
+    (λ c κs. search needs) (λ c. search needs) (λ c. search needs)  -- list-past-requires, enum-known-refusal, enum-known-next
     (λ c. owners-passed _ _ (search needs) _ (search passing depth 8))  -- returns-2
     (λ c. owners-passed _ _ (search needs) _ (search passing depth 8)))  -- returns-3

@@ -11,14 +11,10 @@ unfolding andThen
 payload-past-spec =
     tie.close
     (tie.spec
-    (λ c κs. search needs)  -- field-at-requires
-    (λ c. search needs)  -- enum-known-payload
-    (λ c. search needs)  -- enum-told
+    (λ c κs. search needs) (λ c. search needs) (λ c. search needs)  -- field-at-requires, enum-known-payload, enum-told
     (λ c κs. search needs)  -- cut-requires
     (λ c. payload-passed _ _ _ (search passing depth 8))  -- returns
-    (λ c κs. search needs)  -- string-past-requires
-    (λ c. search needs)  -- enum-known-refusal
-    (λ c. search needs)  -- enum-known-next
+    (λ c κs. search needs) (λ c. search needs) (λ c. search needs)  -- string-past-requires, enum-known-refusal, enum-known-next
     (λ c κs. search needs)  -- owners-past-requires
     (λ c. payload-passed _ _ _ (search passing depth 8))  -- returns-2
     (λ c. payload-passed _ _ _ (search passing depth 8)))  -- returns-3

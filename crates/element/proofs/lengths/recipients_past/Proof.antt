@@ -9,9 +9,7 @@ pub recipients-past-spec : {M : Type 1} → statement M
 recipients-past-spec =
     tie.close
     (tie.spec
-    (λ c κs. search needs)  -- u32-at-requires
-    (λ c. search needs)  -- enum-known-count
-    (λ c. search needs)  -- enum-told
+    (λ c κs. search needs) (λ c. search needs) (λ c. search needs)  -- u32-at-requires, enum-known-count, enum-told
     (λ c κs. search needs)  -- cut-requires
     (λ c. search typed)  -- returns
     (λ c κs. search needs)  -- owners-list-past-requires

@@ -11,14 +11,10 @@ unfolding andThen
 state-past-spec =
     tie.close
     (tie.spec
-    (λ c κs. search needs)  -- field-at-requires
-    (λ c. search needs)  -- enum-known-outputs
-    (λ c. search needs)  -- enum-told
+    (λ c κs. search needs) (λ c. search needs) (λ c. search needs)  -- field-at-requires, enum-known-outputs, enum-told
     (λ c κs. search needs)  -- cut-requires
     (λ c. state-passed _ _ (search needs) _ (search passing depth 8))  -- returns
-    (λ c κs. search needs)  -- u32-at-requires
-    (λ c. search needs)  -- enum-known-count
-    (λ c. search needs)  -- enum-told-2
+    (λ c κs. search needs) (λ c. search needs) (λ c. search needs)  -- u32-at-requires, enum-known-count, enum-told-2
     (λ c. search needs)  -- cut-requires-2
     (λ c. state-passed _ _ (search needs) _ (search passing depth 8))  -- returns-2
     (λ c κs. search needs)  -- outputs-past-requires

@@ -11,17 +11,11 @@ unfolding andThen
 terms-past-spec =
     tie.close
     (tie.spec
-    (λ c κs. search needs)  -- list-past-requires
-    (λ c. search needs)  -- enum-known-refusal
-    (λ c. search needs)  -- enum-known-count
-    (λ c κs. search needs)  -- field-at-requires
-    (λ c. search needs)  -- enum-known-payload
-    (λ c. search needs)  -- enum-told
+    (λ c κs. search needs) (λ c. search needs) (λ c. search needs)  -- list-past-requires, enum-known-refusal, enum-known-count
+    (λ c κs. search needs) (λ c. search needs) (λ c. search needs)  -- field-at-requires, enum-known-payload, enum-told
     (λ c κs. search needs)  -- cut-requires
     (λ c. terms-told _ _ (search needs) _ (search passing depth 8))  -- returns
-    (λ c κs. search needs)  -- string-past-requires
-    (λ c. search needs)  -- enum-known-refusal-2
-    (λ c. search needs)  -- enum-known-next
+    (λ c κs. search needs) (λ c. search needs) (λ c. search needs)  -- string-past-requires, enum-known-refusal-2, enum-known-next
     (λ c. terms-told _ _ (search needs) _ (search passing depth 8))  -- returns-2
     (λ c. terms-told _ _ (search needs) _ (search passing depth 8))  -- returns-3
     (λ c. terms-told _ _ (search needs) _ (search passing depth 8)))  -- returns-4

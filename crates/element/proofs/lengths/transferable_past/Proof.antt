@@ -11,9 +11,7 @@ unfolding andThen
 transferable-past-spec =
     tie.close
     (tie.spec
-    (λ c κs. search needs)  -- field-at-requires
-    (λ c. search needs)  -- enum-known-next
-    (λ c. search needs)  -- enum-told
+    (λ c κs. search needs) (λ c. search needs) (λ c. search needs)  -- field-at-requires, enum-known-next, enum-told
     (λ c κs. search needs)  -- cut-requires
     (λ c. transferable-passed _ _ (search needs) _ (search passing depth 8))  -- returns
     (λ c κs. search needs)  -- output-past-requires

@@ -10,19 +10,12 @@ unfolding operation
 operation-at-spec =
     tie.close
     (tie.spec
-    (λ c κs. search needs)  -- field-at-requires
-    (λ c. search needs)  -- enum-known-p
-    (λ c. search needs)  -- enum-told
-    (λ c κs. search needs)  -- cut-requires
+    (λ c κs. search needs) (λ c. search needs) (λ c. search needs) (λ c κs. search needs)  -- field-at-requires, enum-known-p, enum-told, cut-requires
     (λ c. search reading depth 12)  -- returns
-    (λ c κs. search needs)  -- u32-at-requires
-    (λ c. search needs)  -- enum-known-count
-    (λ c. search needs)  -- enum-told-2
+    (λ c κs. search needs) (λ c. search needs) (λ c. search needs)  -- u32-at-requires, enum-known-count, enum-told-2
     (λ c κs. search needs)  -- cut-requires-2
     (λ c. search reading depth 12)  -- returns-2
-    (λ c κs. search needs)  -- pairs-from-requires
-    (λ c. search needs)  -- enum-known-refusal
-    (λ c. search needs)  -- enum-known-t
+    (λ c κs. search needs) (λ c. search needs) (λ c. search needs)  -- pairs-from-requires, enum-known-refusal, enum-known-t
     (λ c κs. search needs)  -- action-at-requires
     (λ c. search reading depth 12)  -- returns-3
     (λ c. search reading depth 12))  -- returns-4

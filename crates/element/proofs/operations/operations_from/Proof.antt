@@ -24,11 +24,8 @@ operations-from-spec =
     Inv-loop
     μ-loop
     (λ c. refl)  -- loop-holds
-    (λ c κs. search needs)  -- operation-at-requires
-    (λ c. search needs)  -- enum-known-refusal
+    (λ c κs. search needs) (λ c. search needs)  -- operation-at-requires, enum-known-refusal
     (λ c. search (list-on, on-operation-refused) depth 6)  -- returns
-    (λ c. search needs)  -- enum-known-next
-    (λ c. search needs)  -- sub-left
-    (λ c. search needs)  -- loop-less
+    (λ c. search needs) (λ c. search needs) (λ c. search needs)  -- enum-known-next, sub-left, loop-less
     (λ c. search (list-on, on-operation, unordered-again operation) depth 6)  -- loop-again
     (λ c. search list-end))  -- returns-2

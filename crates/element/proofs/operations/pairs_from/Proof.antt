@@ -32,20 +32,12 @@ pairs-from-spec =
     Inv-loop
     μ-loop
     (λ c. (refl, search needs, refl))  -- loop-holds
-    (λ c κs. search needs)  -- field-at-requires
-    (λ c. search needs)  -- enum-known-i
-    (λ c. search needs)  -- enum-told
-    (λ c κs. search needs)  -- cut-requires
+    (λ c κs. search needs) (λ c. search needs) (λ c. search needs) (λ c κs. search needs)  -- field-at-requires, enum-known-i, enum-told, cut-requires
     (λ c. search key-cut depth 10)  -- returns
-    (λ c κs. search needs)  -- id-at-requires
-    (λ c κs. search needs)  -- u32-at-requires
-    (λ c. search needs)  -- enum-known-index
-    (λ c. search needs)  -- enum-told-2
-    (λ c κs. search needs)  -- cut-requires-2
+    (λ c κs. search needs) (λ c κs. search needs) (λ c. search needs)  -- id-at-requires, u32-at-requires, enum-known-index
+    (λ c. search needs) (λ c κs. search needs)  -- enum-told-2, cut-requires-2
     (λ c. search key-cut depth 10)  -- returns-2
-    (λ c κs. search needs)  -- key-follows-requires
-    (λ c. search needs)  -- sub-left
-    (λ c. search needs)  -- loop-less
+    (λ c κs. search needs) (λ c. search needs) (λ c. search needs)  -- key-follows-requires, sub-left, loop-less
     (λ c. search (key-above, key-again) depth 10)  -- loop-again
     (λ c κs. search needs)  -- refuse-requires
     (λ c. search key-not-above depth 10)  -- returns-3

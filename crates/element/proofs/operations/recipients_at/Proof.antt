@@ -11,9 +11,7 @@ unfolding countPrefixed
 recipients-at-spec =
     tie.close
     (tie.spec
-    (λ c κs. search needs)  -- u32-at-requires
-    (λ c. search needs)  -- enum-known-count
-    (λ c. search needs)  -- enum-told
+    (λ c κs. search needs) (λ c. search needs) (λ c. search needs)  -- u32-at-requires, enum-known-count, enum-told
     (λ c κs. search needs)  -- cut-requires
     (λ c. search (reading, if-mint, if-transfer) depth 12)  -- returns
     (λ c κs. search needs)  -- owners-list-at-requires

@@ -12,9 +12,7 @@ unfolding stateOutputs
 state-outputs-at-spec =
     tie.close
     (tie.spec
-    (λ c κs. search needs)  -- u32-at-requires
-    (λ c. search needs)  -- enum-known-count
-    (λ c. search needs)  -- enum-told
+    (λ c κs. search needs) (λ c. search needs) (λ c. search needs)  -- u32-at-requires, enum-known-count, enum-told
     (λ c κs. search needs)  -- cut-requires
     (λ c. search (on-value, on-short) depth 8)  -- returns
     (λ c κs. search needs)  -- secp-from-requires

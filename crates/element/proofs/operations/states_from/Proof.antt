@@ -31,20 +31,13 @@ states-from-spec =
     Inv-loop
     μ-loop
     (λ c. (search needs, states-are _ (c .shared-slice-known .given) _ _))  -- loop-holds
-    (λ c κs. search needs)  -- u32-at-requires
-    (λ c. search needs)  -- enum-known-fx
-    (λ c. search needs)  -- enum-told
-    (λ c κs. search needs)  -- cut-requires
+    (λ c κs. search needs) (λ c. search needs) (λ c. search needs) (λ c κs. search needs)  -- u32-at-requires, enum-known-fx, enum-told, cut-requires
     (λ c. search (list-on, on-fx, on-fx-unknown, on-fx-short) depth 10)  -- returns
     (λ c κs. search needs)  -- refuse-requires
     (λ c. search (list-on, on-fx, on-fx-unknown) depth 10)  -- returns-2
-    (λ c κs. search needs)  -- integer-follows-requires
-    (λ c κs. search needs)  -- state-outputs-at-requires
-    (λ c. search needs)  -- enum-known-refusal
+    (λ c κs. search needs) (λ c κs. search needs) (λ c. search needs)  -- integer-follows-requires, state-outputs-at-requires, enum-known-refusal
     (λ c. search (list-on, on-fx, on-fx-unknown, on-fx-short, if-fx-follows, if-fx-not, on-state-outputs-refused) depth 10)  -- returns-3
-    (λ c. search needs)  -- enum-known-next
-    (λ c. search needs)  -- sub-left
-    (λ c. search needs)  -- loop-less
+    (λ c. search needs) (λ c. search needs) (λ c. search needs)  -- enum-known-next, sub-left, loop-less
     (λ c. (search needs, search (list-on, on-fx, if-fx-follows, on-state-outputs, fx-again) depth 10))  -- loop-again
     (λ c κs. search needs)  -- refuse-requires-2
     (λ c. search (list-on, on-fx, on-fx-unknown, on-fx-short, if-fx-follows, if-fx-not) depth 10)  -- returns-4

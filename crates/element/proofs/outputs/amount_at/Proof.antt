@@ -10,9 +10,7 @@ unfolding amount
 amount-at-spec =
     tie.close
     (tie.spec
-    (λ c κs. search needs)  -- u64-at-requires
-    (λ c. search needs)  -- enum-known-amount
-    (λ c. search needs)  -- enum-told
+    (λ c κs. search needs) (λ c. search needs) (λ c. search needs)  -- u64-at-requires, enum-known-amount, enum-told
     (λ c κs. search needs)  -- cut-requires
     (λ c. search reading depth 12)  -- returns
     (λ c κs. search needs)  -- refuse-requires

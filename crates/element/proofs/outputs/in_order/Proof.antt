@@ -9,9 +9,7 @@ pub in-order-spec : {M : Type 1} → statement M
 in-order-spec =
     tie.close
     (tie.spec
-    (λ c. search needs)  -- enum-known-refusal
-    (λ c. search needs)  -- enum-known-next
-    (λ c κs. search needs)  -- next-below-requires
+    (λ c. search needs) (λ c. search needs) (λ c κs. search needs)  -- enum-known-refusal, enum-known-next, next-below-requires
     (λ c κs. search needs)  -- refuse-requires
     (λ c. search comparing)  -- returns
     (λ c. search comparing)  -- returns-2

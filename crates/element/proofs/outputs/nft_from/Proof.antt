@@ -26,12 +26,8 @@ nft-from-spec =
     Inv-loop
     μ-loop
     (λ c. search list-start)  -- loop-holds
-    (λ c κs. search needs)  -- nft-at-requires
-    (λ c κs. search needs)  -- in-order-requires
-    (λ c. search needs)  -- enum-known-refusal
+    (λ c κs. search needs) (λ c κs. search needs) (λ c. search needs)  -- nft-at-requires, in-order-requires, enum-known-refusal
     (λ c. search ordering depth 8)  -- returns
-    (λ c. search needs)  -- enum-known-next
-    (λ c. search needs)  -- sub-left
-    (λ c. search needs)  -- loop-less
+    (λ c. search needs) (λ c. search needs) (λ c. search needs)  -- enum-known-next, sub-left, loop-less
     (λ c. search ordering depth 8)  -- loop-again
     (λ c. search list-end))  -- returns-2

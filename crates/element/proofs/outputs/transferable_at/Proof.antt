@@ -11,14 +11,9 @@ unfolding transferableOutput
 transferable-at-spec =
     tie.close
     (tie.spec
-    (λ c κs. search needs)  -- field-at-requires
-    (λ c. search needs)  -- enum-known-k
-    (λ c. search needs)  -- enum-told
-    (λ c κs. search needs)  -- cut-requires
+    (λ c κs. search needs) (λ c. search needs) (λ c. search needs) (λ c κs. search needs)  -- field-at-requires, enum-known-k, enum-told, cut-requires
     (λ c. search reading depth 12)  -- returns
-    (λ c κs. search needs)  -- u32-at-requires
-    (λ c. search needs)  -- enum-known-kind
-    (λ c. search needs)  -- enum-told-2
+    (λ c κs. search needs) (λ c. search needs) (λ c. search needs)  -- u32-at-requires, enum-known-kind, enum-told-2
     (λ c κs. search needs)  -- cut-requires-2
     (λ c. search reading depth 12)  -- returns-2
     (λ c κs. search needs)  -- refuse-requires

@@ -50,28 +50,18 @@ addresses-from-spec =
     Inv-loop
     μ-loop
     (λ c. search no-address)  -- returns
-    (λ c κs. search needs)  -- field-at-requires
-    (λ c. search needs)  -- enum-told
-    (λ c. search needs)  -- enum-told-2
-    (λ c κs. search needs)  -- cut-requires
+    (λ c κs. search needs) (λ c. search needs) (λ c. search needs) (λ c κs. search needs)  -- field-at-requires, enum-told, enum-told-2, cut-requires
     (λ c. search first-gone)  -- returns-2
     (λ c. search needs)  -- sub-left
     (λ c. search address-first)  -- loop-holds
-    (λ c κs. search needs)  -- field-at-requires-2
-    (λ c. search needs)  -- enum-known-at
-    (λ c. search needs)  -- enum-told-3
+    (λ c κs. search needs) (λ c. search needs) (λ c. search needs)  -- field-at-requires-2, enum-known-at, enum-told-3
     (λ c κs. search needs)  -- cut-requires-2
     (λ c. search address-gone)  -- returns-3
-    (λ c κs. search needs)  -- field-at-requires-3
-    (λ c. search needs)  -- enum-told-4
-    (λ c. search needs)  -- enum-told-5
+    (λ c κs. search needs) (λ c. search needs) (λ c. search needs)  -- field-at-requires-3, enum-told-4, enum-told-5
     (λ c κs. search needs)  -- cut-requires-3
     (λ c. search address-cut)  -- returns-4
-    (λ c κs. search needs)  -- address-at-requires
-    (λ c κs. search needs)  -- address-at-requires-2
-    (λ c κs. search needs)  -- address-below-requires
-    (λ c. search needs)  -- sub-left-2
-    (λ c. search needs)  -- loop-less
+    (λ c κs. search needs) (λ c κs. search needs) (λ c κs. search needs)  -- address-at-requires, address-at-requires-2, address-below-requires
+    (λ c. search needs) (λ c. search needs)  -- sub-left-2, loop-less
     (λ c. turn (c .before) .again (c .if2 .taken))  -- loop-again
     (λ c κs. search needs)  -- refuse-requires
     (λ c. turn (c .before .before) .out-of-order (c .before .if2 .left) _ (c .refuse .ensures))  -- returns-5

@@ -11,23 +11,15 @@ unfolding owners
 owners-at-spec =
     tie.close
     (tie.spec
-    (λ c κs. search needs)  -- u64-at-requires
-    (λ c. search needs)  -- enum-known-t
-    (λ c. search needs)  -- enum-told
-    (λ c κs. search needs)  -- cut-requires
+    (λ c κs. search needs) (λ c. search needs) (λ c. search needs) (λ c κs. search needs)  -- u64-at-requires, enum-known-t, enum-told, cut-requires
     (λ c. search reading depth 12)  -- returns
-    (λ c κs. search needs)  -- u32-at-requires
-    (λ c. search needs)  -- enum-known-threshold
-    (λ c. search needs)  -- enum-told-2
+    (λ c κs. search needs) (λ c. search needs) (λ c. search needs)  -- u32-at-requires, enum-known-threshold, enum-told-2
     (λ c κs. search needs)  -- cut-requires-2
     (λ c. search reading depth 12)  -- returns-2
-    (λ c κs. search needs)  -- u32-at-requires-2
-    (λ c. search needs)  -- enum-known-count
-    (λ c. search needs)  -- enum-told-3
+    (λ c κs. search needs) (λ c. search needs) (λ c. search needs)  -- u32-at-requires-2, enum-known-count, enum-told-3
     (λ c κs. search needs)  -- cut-requires-3
     (λ c. search reading depth 12)  -- returns-3
-    (λ c κs. search needs)  -- threshold-fits-requires
-    (λ c κs. search needs)  -- refuse-requires
+    (λ c κs. search needs) (λ c κs. search needs)  -- threshold-fits-requires, refuse-requires
     (λ c. search (reading, if-unfit) depth 12)  -- returns-4
     (λ c κs. search needs)  -- addresses-from-requires
     (λ c. search (reading, if-fits) depth 12))  -- returns-5

@@ -24,11 +24,8 @@ owners-list-at-spec =
     Inv-loop
     μ-loop
     (λ c. refl)  -- loop-holds
-    (λ c κs. search needs)  -- owners-at-requires
-    (λ c. search needs)  -- enum-known-refusal
+    (λ c κs. search needs) (λ c. search needs)  -- owners-at-requires, enum-known-refusal
     (λ c. search (list-on, on-owners-refused) depth 6)  -- returns
-    (λ c. search needs)  -- enum-known-next
-    (λ c. search needs)  -- sub-left
-    (λ c. search needs)  -- loop-less
+    (λ c. search needs) (λ c. search needs) (λ c. search needs)  -- enum-known-next, sub-left, loop-less
     (λ c. search (list-on, on-owners, unordered-again owners) depth 6)  -- loop-again
     (λ c. search list-end))  -- returns-2

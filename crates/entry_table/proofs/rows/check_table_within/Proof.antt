@@ -8,13 +8,8 @@ pub check-table-within-spec : {M : Type 1} → statement M
 check-table-within-spec =
     tie.close
     (tie.spec
-    (λ c κs. search needs)  -- check-within-requires
-    (λ c. search needs)  -- enum-known-refusal
-    (λ c. search needs)  -- enum-known-layout
-    (λ c κs. search needs)  -- count-requires
-    (λ c. search needs)  -- enum-told
-    (λ c κs. search needs)  -- refuse-requires
-    (λ c. search needs)  -- enum-known-n
+    (λ c κs. search needs) (λ c. search needs) (λ c. search needs)  -- check-within-requires, enum-known-refusal, enum-known-layout
+    (λ c κs. search needs) (λ c. search needs) (λ c κs. search needs) (λ c. search needs)  -- count-requires, enum-told, refuse-requires, enum-known-n
     (λ c κs. search rows-fit)  -- put-rows-requires
     (λ c. search on-refused)  -- returns
     (λ c. search on-too-many)  -- returns-2

@@ -21,8 +21,7 @@ count-spec =
     μ-loop
     (λ c κs. search needs)  -- first-requires
     (λ c. (search needs, search counting))  -- loop-holds
-    (λ c κs. search needs)  -- advance-requires
-    (λ c. search needs)  -- enum-told
+    (λ c κs. search needs) (λ c. search needs)  -- advance-requires, enum-told
     (λ c. search counting)  -- returns
     (λ c. search needs)  -- enum-known-next
     (λ c. search moved-less)  -- loop-less

@@ -19,8 +19,7 @@ find-spec =
     μ-loop
     (λ c κs. search needs)  -- first-requires
     (λ c. search finding)  -- loop-holds
-    (λ c κs. search needs)  -- advance-requires
-    (λ c. search needs)  -- enum-told
+    (λ c κs. search needs) (λ c. search needs)  -- advance-requires, enum-told
     (λ c. search finding)  -- returns
     (λ c. search needs)  -- enum-known-next
     (λ c. search moved-less)  -- loop-less

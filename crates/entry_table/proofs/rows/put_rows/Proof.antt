@@ -23,15 +23,12 @@ put-rows-spec =
     μ-loop
     (λ c κs. search needs)  -- first-requires
     (λ c. (search needs, refl, search putting))  -- loop-holds
-    (λ c κs. search needs)  -- advance-requires
-    (λ c. search needs)  -- enum-told
-    (λ c. search needs)  -- same-length
+    (λ c κs. search needs) (λ c. search needs) (λ c. search needs)  -- advance-requires, enum-told, same-length
     (λ c. search putting)  -- returns
     (λ c. search needs)  -- enum-known-next
     (λ c. search moved-less)  -- loop-less
     (λ c. (search needs, search needs, search putting))  -- loop-again
-    (λ c. search needs)  -- enum-known-row
-    (λ c. search needs)  -- same-length-2
+    (λ c. search needs) (λ c. search needs)  -- enum-known-row, same-length-2
     (λ c. search putting)  -- returns-2
     (λ c κs. omega arith)  -- put-row-requires
     (λ c. search needs)  -- add-i

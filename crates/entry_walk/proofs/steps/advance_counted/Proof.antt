@@ -8,8 +8,6 @@ pub advance-counted-spec : {M : Type 1} → statement M
 advance-counted-spec =
     tie.close
     (tie.spec
-    (λ c κs. search needs)  -- u32-at-requires
-    (λ c. search needs)  -- enum-known-left
-    (λ c. search needs)  -- enum-told
+    (λ c κs. search needs) (λ c. search needs) (λ c. search needs)  -- u32-at-requires, enum-known-left, enum-told
     (λ c. (search counted-short, tt))  -- returns
     (λ c. (search counted-into, search counted-entered)))  -- returns-2

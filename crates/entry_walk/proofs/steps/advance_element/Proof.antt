@@ -9,12 +9,8 @@ pub advance-element-spec : {M : Type 1} → statement M
 advance-element-spec =
     tie.close
     (tie.spec
-    (λ c κs. search needs)  -- entry-of-requires
-    (λ c κs. search needs)  -- advance-state-requires
+    (λ c κs. search needs) (λ c κs. search needs)  -- entry-of-requires, advance-state-requires
     (λ c. (search entering, search needs))  -- returns
-    (λ c κs. search needs)  -- element-past-requires
-    (λ c. search needs)  -- enum-told
-    (λ c. search needs)  -- enum-known-end
-    (λ c. search needs)  -- sub-t10
+    (λ c κs. search needs) (λ c. search needs) (λ c. search needs) (λ c. search needs)  -- element-past-requires, enum-told, enum-known-end, sub-t10
     (λ c. (search entering, tt))  -- returns-2
     (λ c. (search entering, omega arith)))  -- returns-3

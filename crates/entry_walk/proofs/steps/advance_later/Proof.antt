@@ -10,15 +10,9 @@ advance-later-spec =
     tie.close
     (tie.spec
     (λ c. (search leading, tt))  -- returns
-    (λ c. search needs)  -- add-phase
-    (λ c κs. search needs)  -- due-at-requires
-    (λ c. search needs)  -- enum-told
-    (λ c. search needs)  -- enum-told-2
-    (λ c κs. search needs)  -- advance-counted-requires
-    (λ c. search needs)  -- enum-told-3
-    (λ c κs. search needs)  -- advance-counted-requires-2
-    (λ c. search needs)  -- enum-known-field
-    (λ c κs. search needs)  -- field-past-requires
+    (λ c. search needs) (λ c κs. search needs) (λ c. search needs) (λ c. search needs)  -- add-phase, due-at-requires, enum-told, enum-told-2
+    (λ c κs. search needs) (λ c. search needs) (λ c κs. search needs)  -- advance-counted-requires, enum-told-3, advance-counted-requires-2
+    (λ c. search needs) (λ c κs. search needs)  -- enum-known-field, field-past-requires
     (λ c. (search leading, tt))  -- returns-2
     (λ c. (search leading, search later-shorter))  -- returns-3
     (λ c. (search leading, search later-shorter))  -- returns-4

@@ -8,13 +8,9 @@ pub advance-state-spec : {M : Type 1} → statement M
 advance-state-spec =
     tie.close
     (tie.spec
-    (λ c κs. search needs)  -- u32-at-requires
-    (λ c. search needs)  -- enum-known-outputs
-    (λ c. search needs)  -- enum-told
+    (λ c κs. search needs) (λ c. search needs) (λ c. search needs)  -- u32-at-requires, enum-known-outputs, enum-told
     (λ c. (search entering, tt))  -- returns
-    (λ c κs. search needs)  -- u32-at-requires-2
-    (λ c. search needs)  -- enum-known-inner
-    (λ c. search needs)  -- enum-told-2
+    (λ c κs. search needs) (λ c. search needs) (λ c. search needs)  -- u32-at-requires-2, enum-known-inner, enum-told-2
     (λ c. (search entering, tt))  -- returns-2
     (λ c. search needs)  -- sub-t8
     (λ c. (search entering, search state-shorter)))  -- returns-3

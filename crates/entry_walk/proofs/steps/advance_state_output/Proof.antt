@@ -9,9 +9,6 @@ pub advance-state-output-spec : {M : Type 1} → statement M
 advance-state-output-spec =
     tie.close
     (tie.spec
-    (λ c κs. search needs)  -- output-past-requires
-    (λ c. search needs)  -- enum-told
-    (λ c. search needs)  -- enum-known-end
-    (λ c. search needs)  -- sub-t7
+    (λ c κs. search needs) (λ c. search needs) (λ c. search needs) (λ c. search needs)  -- output-past-requires, enum-told, enum-known-end, sub-t7
     (λ c. (search crediting, tt))  -- returns
     (λ c. (search crediting, omega arith)))  -- returns-2

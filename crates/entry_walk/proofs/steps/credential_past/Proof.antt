@@ -12,14 +12,10 @@ unfolding andThen signatureWidth
 credential-past-spec =
     tie.close
     (tie.spec
-    (λ c κs. search needs)  -- u32-at-requires
-    (λ c. search needs)  -- enum-known-count-at
-    (λ c. search needs)  -- enum-told
+    (λ c κs. search needs) (λ c. search needs) (λ c. search needs)  -- u32-at-requires, enum-known-count-at, enum-told
     (λ c κs. search needs)  -- cut-requires
     (λ c. search (on-value, on-short))  -- returns
-    (λ c κs. search needs)  -- u32-at-requires-2
-    (λ c. search needs)  -- enum-known-signatures
-    (λ c. search needs)  -- enum-told-2
+    (λ c κs. search needs) (λ c. search needs) (λ c. search needs)  -- u32-at-requires-2, enum-known-signatures, enum-told-2
     (λ c κs. search needs)  -- cut-requires-2
     (λ c. search (on-value, on-short))  -- returns-2
     (λ c.

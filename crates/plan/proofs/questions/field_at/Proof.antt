@@ -10,13 +10,8 @@ pub field-at-spec : {M : Type 1} → statement M
 field-at-spec =
     tie.close
     (tie.spec
-    (λ c κs. search needs)  -- due-at-requires
-    (λ c. search needs)  -- enum-told
-    (λ c. search needs)  -- enum-told-2
-    (λ c. search needs)  -- enum-told-3
-    (λ c. search needs)  -- enum-known-name
-    (λ c κs. search needs)  -- code-of-requires
-    (λ c κs. search needs)  -- code-of-requires-2
+    (λ c κs. search needs) (λ c. search needs) (λ c. search needs) (λ c. search needs)  -- due-at-requires, enum-told, enum-told-2, enum-told-3
+    (λ c. search needs) (λ c κs. search needs) (λ c κs. search needs)  -- enum-known-name, code-of-requires, code-of-requires-2
     (λ c. on-due _ _ (c .before .before .due-at .ensures) (isField (c .before .before .before .args .field)) _ _ (c .enum-told .given .1) refl)  -- returns
     (λ c. on-due _ _ (c .before .before .due-at .ensures) (isField (c .before .before .before .args .field)) _ _ (c .enum-told2 .given .1) refl)  -- returns-2
     (λ c. on-due _ _ (c .before .before .due-at .ensures) (isField (c .before .before .before .args .field)) _ _ (c .enum-told3 .given .1) refl)  -- returns-3

@@ -10,10 +10,7 @@ pub list-at-spec : {M : Type 1} → statement M
 list-at-spec =
     tie.close
     (tie.spec
-    (λ c κs. search needs)  -- due-at-requires
-    (λ c. search needs)  -- enum-told
-    (λ c. search needs)  -- enum-told-2
-    (λ c. search needs)  -- enum-told-3
+    (λ c κs. search needs) (λ c. search needs) (λ c. search needs) (λ c. search needs)  -- due-at-requires, enum-told, enum-told-2, enum-told-3
     (λ c. search needs)  -- enum-told-4
     (λ c. on-due _ _ (c .before .before .due-at .ensures) isList _ _ (c .enum-told .given .1) refl)  -- returns
     (λ c. on-due _ _ (c .before .before .due-at .ensures) isList _ _ (c .enum-told2 .given .1) refl)  -- returns-2

@@ -8,21 +8,11 @@ pub element-past-spec : {M : Type 1} → statement M
 element-past-spec =
     tie.close
     (tie.spec
-    (λ c. search needs)  -- enum-told
-    (λ c κs. search needs)  -- transferable-past-requires
-    (λ c κs. search needs)  -- silent-requires
-    (λ c. search needs)  -- enum-told-2
-    (λ c κs. search needs)  -- input-past-requires
-    (λ c. search needs)  -- enum-told-3
-    (λ c κs. search needs)  -- state-past-requires
-    (λ c κs. search needs)  -- silent-requires-2
-    (λ c. search needs)  -- enum-told-4
-    (λ c κs. search needs)  -- operation-past-requires
-    (λ c. search needs)  -- enum-told-5
-    (λ c κs. search needs)  -- input-past-requires-2
-    (λ c. search needs)  -- enum-told-6
-    (λ c κs. search needs)  -- transferable-past-requires-2
-    (λ c κs. search needs)  -- silent-requires-3
+    (λ c. search needs) (λ c κs. search needs) (λ c κs. search needs)  -- enum-told, transferable-past-requires, silent-requires
+    (λ c. search needs) (λ c κs. search needs) (λ c. search needs)  -- enum-told-2, input-past-requires, enum-told-3
+    (λ c κs. search needs) (λ c κs. search needs) (λ c. search needs)  -- state-past-requires, silent-requires-2, enum-told-4
+    (λ c κs. search needs) (λ c. search needs) (λ c κs. search needs)  -- operation-past-requires, enum-told-5, input-past-requires-2
+    (λ c. search needs) (λ c κs. search needs) (λ c κs. search needs)  -- enum-told-6, transferable-past-requires-2, silent-requires-3
     (λ c. search element-passing depth 12)  -- returns
     (λ c. search element-passing depth 12)  -- returns-2
     (λ c. search element-passing depth 12)  -- returns-3

@@ -8,18 +8,10 @@ pub elements-from-spec : {M : Type 1} → statement M
 elements-from-spec =
     tie.close
     (tie.spec
-    (λ c. search needs)  -- enum-told
-    (λ c κs. search needs)  -- outputs-from-requires
-    (λ c. search needs)  -- enum-told-2
-    (λ c κs. search needs)  -- inputs-from-requires
-    (λ c. search needs)  -- enum-told-3
-    (λ c κs. search needs)  -- states-from-requires
-    (λ c. search needs)  -- enum-told-4
-    (λ c κs. search needs)  -- operations-from-requires
-    (λ c. search needs)  -- enum-told-5
-    (λ c κs. search needs)  -- inputs-from-requires-2
-    (λ c. search needs)  -- enum-told-6
-    (λ c κs. search needs)  -- outputs-from-requires-2
+    (λ c. search needs) (λ c κs. search needs) (λ c. search needs)  -- enum-told, outputs-from-requires, enum-told-2
+    (λ c κs. search needs) (λ c. search needs) (λ c κs. search needs)  -- inputs-from-requires, enum-told-3, states-from-requires
+    (λ c. search needs) (λ c κs. search needs) (λ c. search needs)  -- enum-told-4, operations-from-requires, enum-told-5
+    (λ c κs. search needs) (λ c. search needs) (λ c κs. search needs)  -- inputs-from-requires-2, enum-told-6, outputs-from-requires-2
     (λ c. search by-list)  -- returns
     (λ c. search by-list)  -- returns-2
     (λ c. search by-list)  -- returns-3

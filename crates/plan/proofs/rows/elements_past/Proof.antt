@@ -20,17 +20,14 @@ elements-past-spec =
     Inv-loop
     μ-loop
     (λ c r h. h)  -- loop-holds
-    (λ c κs. search needs)  -- element-past-requires
-    (λ c. search needs)  -- enum-known-refusal
+    (λ c κs. search needs) (λ c. search needs)  -- element-past-requires, enum-known-refusal
     (λ c.
     let l = c .before .before .before .before .before .loop in
     let a = c .before .before .before .before .before .before .before .args in
     l .inv (P.Refused (c .before .refusal .given .0 .0))
     (elements-unread (a .list) (a .s .now) (l .at) _ (c .before .before .before .element-past .ensures) (l .left) _ _
     (c .before .before .before .before .loop-test .taken) (c .before .refusal .given .1)))  -- returns
-    (λ c. search needs)  -- enum-known-next
-    (λ c. search needs)  -- sub-left
-    (λ c. search needs)  -- loop-less
+    (λ c. search needs) (λ c. search needs) (λ c. search needs)  -- enum-known-next, sub-left, loop-less
     (λ c r h.
     let l = c .before .before .before .before .before .loop in
     let a = c .before .before .before .before .before .before .before .args in

@@ -8,10 +8,7 @@ pub field-signatures-spec : {M : Type 1} → statement M
 field-signatures-spec =
     tie.close
     (tie.spec
-    (λ c. search needs)  -- enum-told
-    (λ c. search needs)  -- enum-told-2
-    (λ c. search needs)  -- enum-told-3
-    (λ c. search needs)  -- enum-told-4
+    (λ c. search needs) (λ c. search needs) (λ c. search needs) (λ c. search needs)  -- enum-told, enum-told-2, enum-told-3, enum-told-4
     (λ c. search needs)  -- enum-told-5
     (λ c. search by-signs depth 12)  -- returns
     (λ c. search by-signs depth 12)  -- returns-2

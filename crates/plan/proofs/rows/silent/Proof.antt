@@ -9,7 +9,6 @@ pub silent-spec : {M : Type 1} → statement M
 silent-spec =
     tie.close
     (tie.spec
-    (λ c. search needs)  -- enum-known-read
-    (λ c. search needs)  -- enum-known-read-2
+    (λ c. search needs) (λ c. search needs)  -- enum-known-read, enum-known-read-2
     (λ c. sym (ap silentOf (c .before .read .given .1)))  -- returns
     (λ c. sym (ap silentOf (c .before .read2 .given .1))))  -- returns-2

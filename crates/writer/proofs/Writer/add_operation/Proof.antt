@@ -11,18 +11,13 @@ unfolding integersBytes
 add-operation-spec =
     tie.close
     (tie.spec
-    (λ c κs. search needs)  -- is-element-due-requires
-    (λ c κs. search needs)  -- not-due-requires
+    (λ c κs. search needs) (λ c κs. search needs)  -- is-element-due-requires, not-due-requires
     (λ c. search element-not)  -- returns
     (λ c κs. search needs)  -- no-room-requires
     (λ c. search element-short)  -- returns-2
-    (λ c κs. search needs)  -- operation-rules-requires
-    (λ c. search needs)  -- enum-known-refusal
-    (λ c κs. search needs)  -- refused-requires
+    (λ c κs. search needs) (λ c. search needs) (λ c κs. search needs)  -- operation-rules-requires, enum-known-refusal, refused-requires
     (λ c. search operation-barred)  -- returns-3
-    (λ c. search needs)  -- enum-told
-    (λ c. search needs)  -- slice-aggregate-put-element
-    (λ c. search needs)  -- array-share-prefix-none
+    (λ c. search needs) (λ c. search needs) (λ c. search needs)  -- enum-told, slice-aggregate-put-element, array-share-prefix-none
     (λ c. search needs)  -- slice-aggregate-put-element-2
     (λ c κs. search element-sane)  -- put-element-requires
     (λ c. search needs)  -- same-length

@@ -11,23 +11,18 @@ unfolding integersBytes
 add-output-spec =
     tie.close
     (tie.spec
-    (λ c κs. search needs)  -- is-element-due-requires
-    (λ c κs. search needs)  -- not-due-requires
+    (λ c κs. search needs) (λ c κs. search needs)  -- is-element-due-requires, not-due-requires
     (λ c. search element-not)  -- returns
     (λ c κs. search needs)  -- no-room-requires
     (λ c. search element-short)  -- returns-2
-    (λ c κs. search needs)  -- last-of-requires
-    (λ c κs. search needs)  -- output-rules-requires
-    (λ c. search needs)  -- enum-known-rules
-    (λ c κs. search needs)  -- refused-requires
-    (λ c. search needs)  -- same-length
+    (λ c κs. search needs) (λ c κs. search needs) (λ c. search needs)  -- last-of-requires, output-rules-requires, enum-known-rules
+    (λ c κs. search needs) (λ c. search needs)  -- refused-requires, same-length
     (λ c. search output-barred)  -- returns-3
     (λ c. search needs)  -- enum-told
     (λ c.
     let start : tie.Start = search in
     search (needs, output-head-wide, start .good))  -- slice-aggregate-put-element
-    (λ c. search needs)  -- array-share-prefix-none
-    (λ c. search needs)  -- slice-aggregate-put-element-2
+    (λ c. search needs) (λ c. search needs)  -- array-share-prefix-none, slice-aggregate-put-element-2
     (λ c κs. search element-sane)  -- put-element-requires
     (λ c. search needs)  -- same-length-2
     (λ c. search output-is))  -- returns-4

@@ -9,13 +9,11 @@ pub chain-spec : {M : Type 1} → statement M
 chain-spec =
     tie.close
     (tie.spec
-    (λ c κs. search needs)  -- field-at-requires
-    (λ c κs. search needs)  -- not-due-requires
+    (λ c κs. search needs) (λ c κs. search needs)  -- field-at-requires, not-due-requires
     (λ c. search field-not)  -- returns
     (λ c κs. search needs)  -- no-room-requires
     (λ c. search field-short)  -- returns-2
-    (λ c. search needs)  -- array-share-prefix-none
-    (λ c. search needs)  -- slice-aggregate-put-segment
+    (λ c. search needs) (λ c. search needs)  -- array-share-prefix-none, slice-aggregate-put-segment
     (λ c. search needs)  -- slice-aggregate-put-segment-2
     (λ c κs. search field-small)  -- put-segment-requires
     (λ c. search needs)  -- same-length

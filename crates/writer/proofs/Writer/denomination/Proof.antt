@@ -9,20 +9,14 @@ pub denomination-spec : {M : Type 1} → statement M
 denomination-spec =
     tie.close
     (tie.spec
-    (λ c κs. search needs)  -- field-at-requires
-    (λ c κs. search needs)  -- not-due-requires
+    (λ c κs. search needs) (λ c κs. search needs)  -- field-at-requires, not-due-requires
     (λ c. search field-not)  -- returns
     (λ c κs. search needs)  -- no-room-requires
     (λ c. search field-short)  -- returns-2
-    (λ c κs. search needs)  -- denomination-rules-requires
-    (λ c. search needs)  -- enum-known-refusal
-    (λ c κs. search needs)  -- refused-requires
+    (λ c κs. search needs) (λ c. search needs) (λ c κs. search needs)  -- denomination-rules-requires, enum-known-refusal, refused-requires
     (λ c. search denomination-barred)  -- returns-3
-    (λ c. search needs)  -- enum-told
-    (λ c. search needs)  -- slice-aggregate-put-integer
-    (λ c κs. search needs)  -- put-integer-requires
-    (λ c. search needs)  -- slice-aggregate-put-segment
-    (λ c. search needs)  -- array-share-prefix-none
+    (λ c. search needs) (λ c. search needs) (λ c κs. search needs)  -- enum-told, slice-aggregate-put-integer, put-integer-requires
+    (λ c. search needs) (λ c. search needs)  -- slice-aggregate-put-segment, array-share-prefix-none
     (λ c. search needs)  -- slice-aggregate-put-segment-2
     (λ c κs. search field-small)  -- put-segment-requires
     (λ c. search needs)  -- same-length

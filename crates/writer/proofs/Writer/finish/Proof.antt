@@ -11,8 +11,7 @@ pub finish-spec : {M : Type 1} → statement M
 finish-spec =
     tie.close
     (tie.spec
-    (λ c κs. search needs)  -- end-at-requires
-    (λ c κs. search needs)  -- not-due-requires
+    (λ c κs. search needs) (λ c κs. search needs)  -- end-at-requires, not-due-requires
     (λ c.
     let start : tie.Start = search in
     let a = start .args in
@@ -22,12 +21,8 @@ finish-spec =
     let start : tie.Start = search in
     let a = start .args in
     omega (arith, finish-small (a .self) (a .buf .now) _ (c .before .before .end-at .ensures) (not-false _ (c .before .if1 .left))))  -- add-phase
-    (λ c κs. search needs)  -- append-requires
-    (λ c. search needs)  -- enum-known-refusal
-    (λ c κs. search needs)  -- refused-requires
-    (λ c. search needs)  -- enum-known-end
-    (λ c κs. search needs)  -- stored-requires
-    (λ c. search needs)  -- same-length
+    (λ c κs. search needs) (λ c. search needs) (λ c κs. search needs)  -- append-requires, enum-known-refusal, refused-requires
+    (λ c. search needs) (λ c κs. search needs) (λ c. search needs)  -- enum-known-end, stored-requires, same-length
     (λ c.
     let at-append : tie.After-append = search in
     let else1 : tie.Else1 = search in

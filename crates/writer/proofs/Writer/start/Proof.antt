@@ -16,21 +16,13 @@ start-spec =
     (λ c. search start-not)  -- returns
     (λ c κs. search needs)  -- no-room-requires
     (λ c. search start-short)  -- returns-2
-    (λ c κs. search needs)  -- type-rules-requires
-    (λ c. search needs)  -- enum-known-refusal
-    (λ c κs. search needs)  -- refused-requires
+    (λ c κs. search needs) (λ c. search needs) (λ c κs. search needs)  -- type-rules-requires, enum-known-refusal, refused-requires
     (λ c.
     let start : tie.Start = search in
     search (start-barred, start .good))  -- returns-3
-    (λ c. search needs)  -- enum-told
-    (λ c. search needs)  -- slice-aggregate-put-integer
-    (λ c. search needs)  -- mul-put-integer
-    (λ c. search needs)  -- add-put-integer
-    (λ c κs. search needs)  -- put-integer-requires
-    (λ c. search needs)  -- slice-aggregate-settle
-    (λ c. search needs)  -- slice-aggregate-settle-2
-    (λ c κs. search needs)  -- settle-requires
-    (λ c. search needs)  -- same-length
+    (λ c. search needs) (λ c. search needs) (λ c. search needs)  -- enum-told, slice-aggregate-put-integer, mul-put-integer
+    (λ c. search needs) (λ c κs. search needs) (λ c. search needs)  -- add-put-integer, put-integer-requires, slice-aggregate-settle
+    (λ c. search needs) (λ c κs. search needs) (λ c. search needs)  -- slice-aggregate-settle-2, settle-requires, same-length
     (λ c.
     let b : tie.Start = search in
     let k : b .args .type-id < 256 ^ 4 = omega (arith, b .fits) in

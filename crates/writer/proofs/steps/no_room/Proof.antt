@@ -9,6 +9,5 @@ pub no-room-spec : {M : Type 1} → statement M
 no-room-spec =
     tie.close
     (tie.spec
-    (λ c κs. search needs)  -- refuse-requires
-    (λ c κs. search needs)  -- refused-requires
+    (λ c κs. search needs) (λ c κs. search needs)  -- refuse-requires, refused-requires
     (λ c. c .refused .ensures ∙ ap (refusedStep (c .before .before .args .w)) (c .before .refuse .ensures)))  -- returns

@@ -9,16 +9,12 @@ pub put-element-spec : {M : Type 1} → statement M
 put-element-spec =
     tie.close
     (tie.spec
-    (λ c κs. search needs)  -- store-requires
-    (λ c. search needs)  -- enum-known-refusal
-    (λ c κs. search needs)  -- refused-requires
+    (λ c κs. search needs) (λ c. search needs) (λ c κs. search needs)  -- store-requires, enum-known-refusal, refused-requires
     (λ c. search needs)  -- enum-known-end
     (λ c.
     let start : tie.Start = search in
     omega (arith, sane-inv (start .args .w) (start .pre) .1))  -- add-count
-    (λ c. search needs)  -- cast-put-u32
-    (λ c κs. search needs)  -- put-u32-requires
-    (λ c κs. search needs)  -- stored-requires
+    (λ c. search needs) (λ c κs. search needs) (λ c κs. search needs)  -- cast-put-u32, put-u32-requires, stored-requires
     (λ c. search needs)  -- same-length
     (λ c. search element-refused)  -- returns
     (λ c. search needs)  -- same-length-2

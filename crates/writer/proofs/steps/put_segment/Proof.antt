@@ -8,8 +8,6 @@ pub put-segment-spec : {M : Type 1} → statement M
 put-segment-spec =
     tie.close
     (tie.spec
-    (λ c. search needs)  -- add-phase
-    (λ c κs. search needs)  -- list-at-requires
-    (λ c κs. search needs)  -- settle-requires
+    (λ c. search needs) (λ c κs. search needs) (λ c κs. search needs)  -- add-phase, list-at-requires, settle-requires
     (λ c. search needs)  -- same-length
     (λ c. search segment-settled))  -- returns

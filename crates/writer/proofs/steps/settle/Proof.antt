@@ -18,9 +18,7 @@ settle-spec =
     let start : tie.Start = search in
     let f = counts-few (start .args .opens) _ (c .before .before .counts-of .ensures) in
     simp length-take (omega (arith, f)))  -- slice-aggregate-store
-    (λ c κs. search needs)  -- store-requires
-    (λ c. search needs)  -- enum-known-refusal
-    (λ c κs. search needs)  -- refused-requires
+    (λ c κs. search needs) (λ c. search needs) (λ c κs. search needs)  -- store-requires, enum-known-refusal, refused-requires
     (λ c. search needs)  -- enum-known-end
     (λ c.
     let counted : tie.After-counts-of = search in
@@ -36,8 +34,7 @@ settle-spec =
       settle-place (a .w) (a .buf .now) (a .first .now) (a .second .now) (a .opens) (a .from) _ (counted .counts-of .ensures) _ _
           (at-store .store .ensures) _ (c .before .end .given .1),
     ))  -- sub-t18
-    (λ c κs. search needs)  -- stored-requires
-    (λ c. search needs)  -- same-length
+    (λ c κs. search needs) (λ c. search needs)  -- stored-requires, same-length
     (λ c. search settle-refused)  -- returns
     (λ c. search needs)  -- same-length-2
     (λ c. search settle-done))  -- returns-2

@@ -11,9 +11,7 @@ unfolding judged
 operation-rules-spec =
     tie.close
     (tie.spec
-    (λ c κs. search needs)  -- operation-at-requires
-    (λ c. search needs)  -- enum-known-refusal
-    (λ c κs. search needs)  -- without-place-requires
+    (λ c κs. search needs) (λ c. search needs) (λ c κs. search needs)  -- operation-at-requires, enum-known-refusal, without-place-requires
     (λ c. search needs)  -- enum-known-end
     (λ c. search (on-operation, on-operation-refused, tests) depth 10)  -- returns
     (λ c κs. search needs)  -- refuse-step-requires

@@ -18,9 +18,7 @@ unfolding judged initialStateAfter named andThen guard
 state-rules-spec =
     tie.close
     (tie.spec
-    (λ c κs. search needs)  -- u32-at-requires
-    (λ c. search needs)  -- enum-known-fx
-    (λ c. search needs)  -- enum-told
+    (λ c κs. search needs) (λ c. search needs) (λ c. search needs)  -- u32-at-requires, enum-known-fx, enum-told
     (λ c κs. search needs)  -- refuse-step-requires
     (λ c.
     let start : tie.Start = search in
@@ -34,12 +32,8 @@ state-rules-spec =
     on-fx-unknown (start .args .bytes .now) 0 _ _ _ _
     (at-u32-at .u32-at .ensures) _ _ (c .before .before .before .fx .given .1) (c .before .if1 .taken)
     (c .refuse-step2 .ensures))  -- returns-2
-    (λ c κs. search needs)  -- between-requires
-    (λ c κs. search needs)  -- between-requires-2
-    (λ c κs. search needs)  -- is-below-requires
-    (λ c κs. search needs)  -- state-outputs-at-requires
-    (λ c. search needs)  -- enum-known-refusal
-    (λ c κs. search needs)  -- without-place-requires
+    (λ c κs. search needs) (λ c κs. search needs) (λ c κs. search needs)  -- between-requires, between-requires-2, is-below-requires
+    (λ c κs. search needs) (λ c. search needs) (λ c κs. search needs)  -- state-outputs-at-requires, enum-known-refusal, without-place-requires
     (λ c.
     let outputs : tie.After-state-outputs-at = search in
     let tested : tie.Then2 = search in

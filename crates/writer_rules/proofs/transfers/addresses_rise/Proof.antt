@@ -8,8 +8,6 @@ pub addresses-rise-spec : {M : Type 1} → statement M
 addresses-rise-spec =
     tie.close
     (tie.spec
-    (λ c κs. search needs)  -- addresses-from-requires
-    (λ c. search needs)  -- enum-told
-    (λ c. search needs)  -- enum-told-2
+    (λ c κs. search needs) (λ c. search needs) (λ c. search needs)  -- addresses-from-requires, enum-told, enum-told-2
     (λ c. search addresses-rise)  -- returns
     (λ c. search addresses-fall))  -- returns-2

@@ -23,13 +23,9 @@ indices-rise-spec =
     Inv-loop
     μ-loop
     (λ c. (omega arith, refl))  -- loop-holds
-    (λ c. search needs)  -- mul-if1
-    (λ c. search needs)  -- shared-slice-read-if1
-    (λ c. search needs)  -- sub-if1
-    (λ c. search needs)  -- mul-if1-2
+    (λ c. search needs) (λ c. search needs) (λ c. search needs) (λ c. search needs)  -- mul-if1, shared-slice-read-if1, sub-if1, mul-if1-2
     (λ c. search needs)  -- shared-slice-read-if1-2
     (λ c. search rise)  -- returns
-    (λ c. search needs)  -- add-i
-    (λ c. search needs)  -- loop-less
+    (λ c. search needs) (λ c. search needs)  -- add-i, loop-less
     (λ c. (omega arith, search rise))  -- loop-again
     (λ c. search rise))  -- returns-2

@@ -38,18 +38,11 @@ pub input-head-spec : {M : Type 1} → statement M
 input-head-spec =
     tie.close
     (tie.spec
-    (λ c. search needs)  -- slice-aggregate-put-bytes-after
-    (λ c. search needs)  -- slice-aggregate-put-bytes-after-2
-    (λ c κs. search needs)  -- put-bytes-after-requires
-    (λ c. search needs)  -- slice-aggregate-put-integer-after
-    (λ c κs. search needs)  -- put-integer-after-requires
-    (λ c. search needs)  -- slice-aggregate-put-bytes-after-3
-    (λ c. search needs)  -- slice-aggregate-put-bytes-after-4
-    (λ c κs. search needs)  -- put-bytes-after-requires-2
-    (λ c. search needs)  -- slice-aggregate-put-integer-after-2
-    (λ c κs. search needs)  -- put-integer-after-requires-2
-    (λ c. search needs)  -- slice-aggregate-put-integer-after-3
-    (λ c κs. search needs)  -- put-integer-after-requires-3
-    (λ c. search needs)  -- slice-aggregate-put-integer-after-4
-    (λ c κs. search needs)  -- put-integer-after-requires-4
+    (λ c. search needs) (λ c. search needs)  -- slice-aggregate-put-bytes-after, slice-aggregate-put-bytes-after-2
+    (λ c κs. search needs) (λ c. search needs)  -- put-bytes-after-requires, slice-aggregate-put-integer-after
+    (λ c κs. search needs) (λ c. search needs)  -- put-integer-after-requires, slice-aggregate-put-bytes-after-3
+    (λ c. search needs) (λ c κs. search needs)  -- slice-aggregate-put-bytes-after-4, put-bytes-after-requires-2
+    (λ c. search needs) (λ c κs. search needs)  -- slice-aggregate-put-integer-after-2, put-integer-after-requires-2
+    (λ c. search needs) (λ c κs. search needs)  -- slice-aggregate-put-integer-after-3, put-integer-after-requires-3
+    (λ c. search needs) (λ c κs. search needs)  -- slice-aggregate-put-integer-after-4, put-integer-after-requires-4
     returns)  -- returns

@@ -8,15 +8,11 @@ pub input-rules-spec : {M : Type 1} → statement M
 input-rules-spec =
     tie.close
     (tie.spec
-    (λ c κs. search needs)  -- input-head-requires
-    (λ c κs. search needs)  -- between-requires
-    (λ c κs. search needs)  -- between-requires-2
-    (λ c κs. search needs)  -- is-below-requires
-    (λ c κs. search needs)  -- refuse-step-requires
+    (λ c κs. search needs) (λ c κs. search needs) (λ c κs. search needs)  -- input-head-requires, between-requires, between-requires-2
+    (λ c κs. search needs) (λ c κs. search needs)  -- is-below-requires, refuse-step-requires
     (λ c. search of-input depth 12)  -- returns
     (λ c κs. search needs)  -- refuse-step-requires-2
     (λ c. search of-input depth 12)  -- returns-2
-    (λ c κs. search needs)  -- indices-rise-requires
-    (λ c κs. search needs)  -- refuse-step-requires-3
+    (λ c κs. search needs) (λ c κs. search needs)  -- indices-rise-requires, refuse-step-requires-3
     (λ c. search of-input depth 12)  -- returns-3
     (λ c. search of-input depth 12))  -- returns-4

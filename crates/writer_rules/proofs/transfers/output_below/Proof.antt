@@ -8,9 +8,7 @@ pub output-below-spec : {M : Type 1} → statement M
 output-below-spec =
     tie.close
     (tie.spec
-    (λ c κs. search needs)  -- output-head-requires
-    (λ c κs. search needs)  -- between-requires
-    (λ c κs. search needs)  -- between-requires-2
+    (λ c κs. search needs) (λ c κs. search needs) (λ c κs. search needs)  -- output-head-requires, between-requires, between-requires-2
     (λ c κs. search needs)  -- is-below-requires
     (λ c. search output-many)  -- returns
     (λ c κs. search needs)  -- pieces-below-requires

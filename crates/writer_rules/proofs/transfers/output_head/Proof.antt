@@ -38,17 +38,11 @@ pub output-head-spec : {M : Type 1} → statement M
 output-head-spec =
     tie.close
     (tie.spec
-    (λ c. search needs)  -- slice-aggregate-put-bytes-after
-    (λ c. search needs)  -- slice-aggregate-put-bytes-after-2
-    (λ c κs. search needs)  -- put-bytes-after-requires
-    (λ c. search needs)  -- slice-aggregate-put-integer-after
-    (λ c κs. search needs)  -- put-integer-after-requires
-    (λ c. search needs)  -- slice-aggregate-put-integer-after-2
-    (λ c κs. search needs)  -- put-integer-after-requires-2
-    (λ c. search needs)  -- slice-aggregate-put-integer-after-3
-    (λ c κs. search needs)  -- put-integer-after-requires-3
-    (λ c. search needs)  -- slice-aggregate-put-integer-after-4
-    (λ c κs. search needs)  -- put-integer-after-requires-4
-    (λ c. search needs)  -- slice-aggregate-put-integer-after-5
+    (λ c. search needs) (λ c. search needs)  -- slice-aggregate-put-bytes-after, slice-aggregate-put-bytes-after-2
+    (λ c κs. search needs) (λ c. search needs)  -- put-bytes-after-requires, slice-aggregate-put-integer-after
+    (λ c κs. search needs) (λ c. search needs)  -- put-integer-after-requires, slice-aggregate-put-integer-after-2
+    (λ c κs. search needs) (λ c. search needs)  -- put-integer-after-requires-2, slice-aggregate-put-integer-after-3
+    (λ c κs. search needs) (λ c. search needs)  -- put-integer-after-requires-3, slice-aggregate-put-integer-after-4
+    (λ c κs. search needs) (λ c. search needs)  -- put-integer-after-requires-4, slice-aggregate-put-integer-after-5
     (λ c κs. search needs)  -- put-integer-after-requires-5
     returns)

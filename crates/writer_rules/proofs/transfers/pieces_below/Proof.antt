@@ -8,12 +8,8 @@ pub pieces-below-spec : {M : Type 1} → statement M
 pieces-below-spec =
     tie.close
     (tie.spec
-    (λ c κs. search needs)  -- between-requires
-    (λ c κs. search needs)  -- order-of-requires
-    (λ c. search needs)  -- enum-told
-    (λ c. search needs)  -- enum-told-2
-    (λ c κs. search needs)  -- between-requires-2
-    (λ c κs. search needs)  -- is-below-requires
+    (λ c κs. search needs) (λ c κs. search needs) (λ c. search needs)  -- between-requires, order-of-requires, enum-told
+    (λ c. search needs) (λ c κs. search needs) (λ c κs. search needs)  -- enum-told-2, between-requires-2, is-below-requires
     (λ c. search needs)  -- enum-told-3
     (λ c. search pieces-below)  -- returns
     (λ c. search pieces-equal)  -- returns-2

@@ -11,12 +11,8 @@ pub put-bytes-after-spec : {M : Type 1} → statement M
 put-bytes-after-spec =
     tie.close
     (tie.spec
-    (λ c. search needs)  -- add-put-bytes
-    (λ c. search needs)  -- sub-put-bytes
-    (λ c. search needs)  -- part-put-bytes-start
-    (λ c. search needs)  -- part-put-bytes-end
-    (λ c κs. search needs)  -- put-bytes-requires
-    (λ c. search needs)  -- same-length
+    (λ c. search needs) (λ c. search needs) (λ c. search needs)  -- add-put-bytes, sub-put-bytes, part-put-bytes-start
+    (λ c. search needs) (λ c κs. search needs) (λ c. search needs)  -- part-put-bytes-end, put-bytes-requires, same-length
     (λ c.
     let start : tie.Start = search in
     let a = start .args in

@@ -9,12 +9,8 @@ pub put-integer-after-spec : {M : Type 1} → statement M
 put-integer-after-spec =
     tie.close
     (tie.spec
-    (λ c. search needs)  -- add-put-integer
-    (λ c. search needs)  -- sub-put-integer
-    (λ c. search needs)  -- part-put-integer-start
-    (λ c. search needs)  -- part-put-integer-end
-    (λ c κs. search needs)  -- put-integer-requires
-    (λ c. search needs)  -- same-length
+    (λ c. search needs) (λ c. search needs) (λ c. search needs)  -- add-put-integer, sub-put-integer, part-put-integer-start
+    (λ c. search needs) (λ c κs. search needs) (λ c. search needs)  -- part-put-integer-end, put-integer-requires, same-length
     (λ c.
     let start : tie.Start = search in
     let a = start .args in
