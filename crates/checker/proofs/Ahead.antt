@@ -1,5 +1,5 @@
 -- Laws of the steps from one wanted credential to the next, in an unsigned part that was read. Assumes nothing.
-use Prim.Native.Nat.{ℕ, suc, _+_, _-_, _≤_, _<_}
+use Prim.Native.Nat.{ℕ, suc, _+_, _-_, _^_, _<_}
 use mathlib.Core.Path.{_≡_, refl, sym, ap, _∙_, subst, subst₂}
 use mathlib.Core.List.{List, [], _∷_, _++_}
 use mathlib.Core.Option.{Option, none, some}
@@ -49,8 +49,8 @@ one-want (some c) t n i z = (record { type = c; signatures = n }, refl, i, refl)
 -- ---- the current element
 
 module _ (s : List ℕ) (from : Wanting) (x : Integer) (h : AskingTells (from .asks) s (from .at) x) where
-  told : (most «type_id» : ℕ) (ws : List Want) (w : Wants most s «type_id» from ws) → 0 < from .left → ElementTells (w .list) s (from .at) x
-  told most «type_id» ws w o = h (w .list) (w .type o) (w .asking o)
+  answered : (most «type_id» : ℕ) (ws : List Want) (w : Wants most s «type_id» from ws) → 0 < from .left → ElementTells (w .list) s (from .at) x
+  answered most «type_id» ws w o = h (w .list) (w .type o) (w .asking o)
 
   firstly : (most «type_id» c : ℕ) (ws : List Want) (w : Wants most s «type_id» from ws) → from .left ≡ suc c
       → FirstOf (w .list) c (w .prev) s (from .at) (w .elements) (w .next)
@@ -62,7 +62,7 @@ module _ (s : List ℕ) (from : Wanting) (x : Integer) (h : AskingTells (from .a
   pub element-unread : (e : Refusal) → 0 < from .left → x ≡ N.Refused e → ElementWants s from X.Nothing
   element-unread e o q «type_id» most ws w =
       let f = firstly most «type_id» (from .left - 1) ws w (omega arith) in
-      let g = told most «type_id» ws w o (w .prev) (f .element) (f .next) (f .first) in
+      let g = answered most «type_id» ws w o (w .prev) (f .element) (f .next) (f .first) in
       let z : _≡_ {A = ℕ} 0 1 = cc in absurd (omega arith)
 
   pub element-wanted : (k m : ℕ) → 0 < from .left → x ≡ N.Value k m
@@ -71,7 +71,7 @@ module _ (s : List ℕ) (from : Wanting) (x : Integer) (h : AskingTells (from .a
   element-wanted k m o q «type_id» most ws w =
       let l : ListName = w .list in
       let f = firstly most «type_id» (from .left - 1) ws w (omega arith) in
-      let g = told most «type_id» ws w o (w .prev) (f .element) (f .next) (f .first) in
+      let g = answered most «type_id» ws w o (w .prev) (f .element) (f .next) (f .first) in
       let next : f .next ≡ m = cc in
       let signs : elementsOf l .signatures (f .element) ≡ k = cc in
       let (d, asks, type, count) = one-want (elementsOf l .credential) (from .asks) (elementsOf l .signatures (f .element)) (w .type o) (w .asking o) in
@@ -85,7 +85,7 @@ module _ (s : List ℕ) (from : Wanting) (x : Integer) (h : AskingTells (from .a
             ∙ ap (λ (us : List Want). (us ++ asked (elementAsks l) (f .others)) ++ w .later) asks;
         type = type;
         signatures = sym signs ∙ count;
-        behind =
+        after =
             record {
               list = l;
               type = λ h. w .type o;
@@ -96,7 +96,7 @@ module _ (s : List ℕ) (from : Wanting) (x : Integer) (h : AskingTells (from .a
               later = w .later;
               stands =
                   subst (λ (i : ℕ). read (seriesFrom E (E (w .prev) .write (f .element)) (from .left - 1)) s i ≡ took (f .others) (w .next)) next (f .rest);
-              behind = w .behind;
+              after = w .after;
               wants = refl;
             };
       }
@@ -111,7 +111,7 @@ list-done most s asks p at ws w =
     let none : [] ≡ w .elements = cc in
     let here : w .next ≡ at = cc in
     subst₂ (λ (j : ℕ) (us : List Want). WantsFrom most s p j us) here
-    (sym (w .wants ∙ ap (λ (v : List (elementsOf l .Element)). asked (elementAsks l) v ++ w .later) (sym none))) (w .behind)
+    (sym (w .wants ∙ ap (λ (v : List (elementsOf l .Element)). asked (elementAsks l) v ++ w .later) (sym none))) (w .after)
 
 -- the converse, for any list
 pub list-over : (most : ℕ) (s : List ℕ) (asks : ℕ) (p : Plan) (at : ℕ) (ws : List Want) → WantsFrom most s p at ws → WantsIn most s asks 0 p at ws
@@ -126,7 +126,7 @@ list-over most s asks p at ws w =
       next = at;
       later = ws;
       stands = refl;
-      behind = w;
+      after = w;
       wants = refl;
     }
 
@@ -187,7 +187,7 @@ module _ (most : ℕ) (s : List ℕ) (at : ℕ) (ws : List Want) where
     next : ℕ
     later : List Want
     stands : read (seriesFrom (elementsOf l .element) [] c) s m ≡ took elements next
-    behind : WantsFrom most s p next later
+    after : WantsFrom most s p next later
     wants : ws ≡ asked (elementAsks l) elements ++ later
 
   list-entered : (l : ListName) (least : ℕ) (p : Plan) (y : Integer) (c m : ℕ) → y ≡ valued (integer 4) s at → WantsFrom most s (many l least p) at ws
@@ -207,7 +207,7 @@ module _ (most : ℕ) (s : List ℕ) (at : ℕ) (ws : List Want) where
         next = r .next;
         later = wanted p (r .others);
         stands = subst₂ (λ (d k : ℕ). read (seriesFrom E [] d) s k ≡ took (r .between) (r .next)) dc km e₂;
-        behind = record { value = r .others; next = w .next; stands = r .rest; wants = refl };
+        after = record { value = r .others; next = w .next; stands = r .rest; wants = refl };
         wants = w .wants ∙ ap (λ (v : List (elementsOf l .Element) × Value p). asked (elementAsks l) (v .0) ++ wanted p (v .1)) (r .all);
       }
 
@@ -230,7 +230,7 @@ module _ (s : List ℕ) (at : ℕ) (l : ListName) (y : Integer) (g : y ≡ value
           next = r .next;
           later = r .later;
           stands = r .stands;
-          behind = r .behind;
+          after = r .after;
           wants = r .wants;
         }
 
@@ -248,7 +248,7 @@ module _ (s : List ℕ) (at : ℕ) (l : ListName) (y : Integer) (g : y ≡ value
           let next : r .next ≡ n = cc in
           let same : r .later ≡ ws =
           sym (r .wants ∙ ap (λ (us : List Want). us ++ r .later) (none-asked (elementsOf l .credential) (elementsOf l .signatures) t ht z (r .elements))) in
-          list-over most s 0 p n ws (subst₂ (λ (j : ℕ) (us : List Want). WantsFrom most s p j us) next same (r .behind))
+          list-over most s 0 p n ws (subst₂ (λ (j : ℕ) (us : List Want). WantsFrom most s p j us) next same (r .after))
 
 pub ruleset listing = (list-uncounted, list-asking, list-unread, list-passed)
 
@@ -288,7 +288,7 @@ module _ (s : List ℕ) (p : Plan) (at : ℕ) (x : Due) (h : x ≡ dueOf p) wher
           all = i ∙ ap (λ (vs : List Want). vs ++ us) asks;
           type = type;
           signatures = signs most v y e ∙ count;
-          behind = b;
+          after = b;
         })
 
   field-live : (f : FieldName) → x ≡ D.Field f → Live p
@@ -309,45 +309,66 @@ pub ruleset beginning = (begun-nothing, begun-end, begun-list, begun-field, begu
 
 -- ---- the next credential: what is wanted from the start on is what is wanted from the current state on
 
-abbrev pub Onward : ℕ → List ℕ → Wanting → ℕ → ℕ → ℕ → ℕ → Type 0
-Onward «type_id» s from phase asks at left =
-    (most : ℕ) (ws : List Want) → Wants most s «type_id» from ws → WantsIn most s asks left (due phase (planOf «type_id»)) at ws
+module _ («type_id» : ℕ) (s : List ℕ) (from : Wanting) where
+  unfoldable pub Onward : ℕ → ℕ → ℕ → ℕ → Type 0
+  Onward phase asks at left =
+      (most : ℕ) (ws : List Want) → Wants most s «type_id» from ws → WantsIn most s asks left (due phase (planOf «type_id»)) at ws
 
-module _ (s : List ℕ) («type_id» : ℕ) (from : Wanting) (phase asks at left : ℕ) (o : Onward «type_id» s from phase asks at left) (over : left ≡ 0) (r : Begun)
-    (h : Begins (due phase (planOf «type_id»)) s at r) (l : BegunLive (due phase (planOf «type_id»)) r) where
-  begun : (most : ℕ) (ws : List Want) → Wants most s «type_id» from ws → BegunAs most s (tail (due phase (planOf «type_id»))) ws r
-  begun most ws w =
-      h most ws (list-done most s asks (due phase (planOf «type_id»)) at ws
-      (subst (λ (c : ℕ). WantsIn most s asks c (due phase (planOf «type_id»)) at ws) over (o most ws w)))
+  pub next-start : Onward (from .phase) (from .asks) (from .at) (from .left)
+  unfolding Onward
+  next-start most ws w = w
 
-  pub next-end : r ≡ B.Nothing → NextWants «type_id» s from X.Nothing
-  next-end q most ws w = subst (λ (r : Begun). BegunAs most s (tail (due phase (planOf «type_id»))) ws r) q (begun most ws w)
+  pub next-element : (phase asks at left : ℕ) → Onward phase asks at left → (r : Wanted)
+      → ElementWants s record { phase = phase; asks = asks; at = at; left = left } r → NextWants «type_id» s from r
+  unfolding Onward
+  next-element phase asks at left o r h most ws w = h «type_id» most ws (o most ws w)
 
-  pub into-phase : (a c m : ℕ) → r ≡ B.Into a c m → phase ≤ lastPhase
-  into-phase a c m q = live-phase «type_id» phase (subst (BegunLive (due phase (planOf «type_id»))) q l)
+module _ («type_id» phase : ℕ) (r : Begun) (l : BegunLive (due phase (planOf «type_id»)) r) where
+  abbrev rest : Plan
+  rest = tail (due phase (planOf «type_id»))
 
-  pub asks-phase : (t n m : ℕ) → r ≡ B.Asks t n m → phase ≤ lastPhase
-  asks-phase t n m q = live-phase «type_id» phase (subst (BegunLive (due phase (planOf «type_id»))) q l)
+  -- a segment is entered only if one is due, so only in the phases up to the last
+  into-live : (a c m : ℕ) → r ≡ B.Into a c m → Live (due phase (planOf «type_id»))
+  into-live a c m q = subst (BegunLive (due phase (planOf «type_id»))) q l
 
-  pub next-into : (a c m : ℕ) → r ≡ B.Into a c m → Onward «type_id» s from (phase + 1) a m c
-  next-into a c m q most ws w =
-      rw (live-next «type_id» phase (subst (BegunLive (due phase (planOf «type_id»))) q l))
-      (subst (λ (r : Begun). BegunAs most s (tail (due phase (planOf «type_id»))) ws r) q (begun most ws w))
+  asks-live : (t n m : ℕ) → r ≡ B.Asks t n m → Live (due phase (planOf «type_id»))
+  asks-live t n m q = subst (BegunLive (due phase (planOf «type_id»))) q l
 
-  pub next-asks : (t n m : ℕ) → r ≡ B.Asks t n m → NextWants «type_id» s from (X.Credential t n record { phase = phase + 1; asks = t; at = m; left = 0 })
-  next-asks t n m q most ws w =
-      let f = subst (λ (r : Begun). BegunAs most s (tail (due phase (planOf «type_id»))) ws r) q (begun most ws w) in
-      record {
-        want = f .want;
-        others = f .others;
-        all = f .all;
-        type = f .type;
-        signatures = f .signatures;
-        behind =
-            rw (live-next «type_id» phase (subst (BegunLive (due phase (planOf «type_id»))) q l))
-            (list-over most s t (tail (due phase (planOf «type_id»))) m (f .others) (f .behind));
-      }
+  pub into-fits : (a c m : ℕ) → r ≡ B.Into a c m → phase + 1 < 2 ^ 32
+  into-fits a c m q = omega (arith, live-phase «type_id» phase (into-live a c m q))
 
-pub next-element : (s : List ℕ) («type_id» : ℕ) (from : Wanting) (phase asks at left : ℕ) → Onward «type_id» s from phase asks at left → (r : Wanted)
-    → ElementWants s record { phase = phase; asks = asks; at = at; left = left } r → NextWants «type_id» s from r
-next-element s «type_id» from phase asks at left o r h most ws w = h «type_id» most ws (o most ws w)
+  pub into-less : (a c m : ℕ) → r ≡ B.Into a c m → lastPhase + 1 - (phase + 1) < lastPhase + 1 - phase
+  into-less a c m q = omega (arith, live-phase «type_id» phase (into-live a c m q))
+
+  pub asks-fits : (t n m : ℕ) → r ≡ B.Asks t n m → phase + 1 < 2 ^ 32
+  asks-fits t n m q = omega (arith, live-phase «type_id» phase (asks-live t n m q))
+
+  module _ (s : List ℕ) (from : Wanting) (asks at left : ℕ) (o : Onward «type_id» s from phase asks at left) (over : left ≡ 0)
+      (h : Begins (due phase (planOf «type_id»)) s at r) where
+    begun : (most : ℕ) (ws : List Want) → Wants most s «type_id» from ws → (d : Begun) → r ≡ d → BegunAs most s rest ws d
+    unfolding Onward
+    begun most ws w d q =
+        let p : Plan = due phase (planOf «type_id») in
+        subst (λ (r : Begun). BegunAs most s rest ws r) q
+        (h most ws (list-done most s asks p at ws (subst (λ (c : ℕ). WantsIn most s asks c p at ws) over (o most ws w))))
+
+    pub next-end : r ≡ B.Nothing → NextWants «type_id» s from X.Nothing
+    next-end q most ws w = begun most ws w B.Nothing q
+
+    pub next-into : (a c m : ℕ) → r ≡ B.Into a c m → Onward «type_id» s from (phase + 1) a m c
+    unfolding Onward
+    next-into a c m q most ws w = rw (live-next «type_id» phase (into-live a c m q)) (begun most ws w (B.Into a c m) q)
+
+    pub next-asks : (t n m : ℕ) → r ≡ B.Asks t n m → NextWants «type_id» s from (X.Credential t n record { phase = phase + 1; asks = t; at = m; left = 0 })
+    next-asks t n m q most ws w =
+        let f = begun most ws w (B.Asks t n m) q in
+        record {
+          want = f .want;
+          others = f .others;
+          all = f .all;
+          type = f .type;
+          signatures = f .signatures;
+          after = rw (live-next «type_id» phase (asks-live t n m q)) (list-over most s t rest m (f .others) (f .after));
+        }
+
+pub ruleset nexts = (next-start, next-element, into-fits, into-less, asks-fits, next-end, next-into, next-asks)

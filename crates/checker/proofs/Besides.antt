@@ -66,7 +66,7 @@ module _ (s : List ℕ) («type_id» : ℕ) (c : Wanting) (n at : ℕ) (x : Want
     beside-past r m i b most ws w l =
         let f = first most ws w in
         let left : length (f .others) ≡ n - 1 = omega (arith, ap length (f .all)) in
-        W.ends (pieces (credentialPieces t k [])) End s at r Q.Refused _ y m g i (λ v. b most (f .others) (f .behind) left) ∙ sym (split most ws f)
+        W.ends (pieces (credentialPieces t k [])) End s at r Q.Refused _ y m g i (λ v. b most (f .others) (f .after) left) ∙ sym (split most ws f)
 
 beside-done : (s : List ℕ) («type_id» : ℕ) (c : Wanting) (n at : ℕ) → n ≤ 0 → Beside «type_id» s c n at (Q.At at)
 unfolding each pieces

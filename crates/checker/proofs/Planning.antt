@@ -1,5 +1,5 @@
 -- The loop over a plan: each turn reads the segment that is due, and the rest of the plan gives the same answer as the whole. Assumes nothing.
-use Prim.Native.Nat.{ℕ, _+_, _^_, _≤_, _<_}
+use Prim.Native.Nat.{ℕ, _+_, _-_, _*_, _^_, _≤_, _<_}
 use mathlib.Core.Path.{_≡_, refl, sym, ap, _∙_}
 use mathlib.Core.Option.{Option, none, some}
 use mathlib.Core.List.{List, [], _∷_}
@@ -203,11 +203,19 @@ module _ (most «type_id» phase : ℕ) (s : List ℕ) (at : ℕ) (x : Passed) (
   live : Live (due phase (planOf «type_id»))
   live = past-live most s at x c n q (due phase (planOf «type_id»)) h
 
-  pub past-phase : phase ≤ lastPhase
-  past-phase = live-phase «type_id» phase live
+  pub past-fits : phase + 1 < 2 ^ 32
+  past-fits = omega (arith, live-phase «type_id» phase live)
 
-  pub past-few : Slice s → c < 2 ^ 32
-  past-few b = few most s at x c n b q (due phase (planOf «type_id»)) h
+  pub past-less : lastPhase + 1 - (phase + 1) < lastPhase + 1 - phase
+  past-less = omega (arith, live-phase «type_id» phase live)
+
+  -- the segments of each phase up to this one want fewer than 2 ^ 32 credentials
+  module _ (w : ℕ) (before : w ≤ phase * 4294967296) (b : Slice s) where
+    pub past-count : w + c < 2 ^ 64
+    past-count = omega (arith, live-phase «type_id» phase live, few most s at x c n b q (due phase (planOf «type_id»)) h)
+
+    pub past-few : w + c ≤ (phase + 1) * 4294967296
+    past-few = omega (arith, few most s at x c n b q (due phase (planOf «type_id»)) h)
 
   past-next : due (phase + 1) (planOf «type_id») ≡ tail (due phase (planOf «type_id»))
   past-next = live-next «type_id» phase live
@@ -224,3 +232,5 @@ module _ (most «type_id» inputs phase w : ℕ) (s : List ℕ) (at : ℕ) (x : 
   pub turn-past : (c n : ℕ) → x ≡ P.Past c n → planAt most «type_id» inputs (w + c) (due (phase + 1) (planOf «type_id»)) s n ≡ y
   turn-past c n q =
       rw (past-next most «type_id» phase s at x c n h q) (plan-past most «type_id» inputs w s at x (due phase (planOf «type_id»)) c n h q ∙ i)
+
+pub ruleset turns = (past-fits, past-less, past-count, past-few, turn-end, turn-refused, turn-past)

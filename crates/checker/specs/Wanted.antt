@@ -38,7 +38,7 @@ module _ (most : ℕ) (s : List ℕ) where
     pub next : ℕ
     pub later : List Want
     pub stands : read (seriesFrom (elementsOf list .element) prev c) s at ≡ took elements next
-    pub behind : WantsFrom p next later
+    pub after : WantsFrom p next later
     pub wants : ws ≡ asked (elementAsks list) elements ++ later
 
   -- the first of ws is wanted by what was just passed and has type t and n signatures; `others-are` holds of the others
@@ -48,7 +48,7 @@ module _ (most : ℕ) (s : List ℕ) where
     pub all : ws ≡ want ∷ others
     pub type : t ≡ credentialCode (want .type)
     pub signatures : n ≡ want .signatures
-    pub behind : others-are others
+    pub after : others-are others
 
   -- what r says of ws, if it enters a segment that p follows
   abbrev pub BegunAs : Plan → List Want → Begun → Type 0

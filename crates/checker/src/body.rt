@@ -20,23 +20,23 @@ use wire::Rule;
 fn head_at(s: &[u8], at: usize) -> Integer
     ensures { λ r. ⌜ r ≡ headAt (now (s .entry)) at ⌝ }
 {
-    let Integer::Value(codec, t) = wire::u16_at(s, at) else {
+    let Integer::Value(codec, type_at) = wire::u16_at(s, at) else {
         return Integer::Refused(wire::cut(s, at, 2));
     };
     if codec != 0 {
         return Integer::Refused(wire::refuse(Rule::WrongCodec, at));
     }
-    let Integer::Value(number, n) = wire::u32_at(s, t) else {
-        return Integer::Refused(wire::cut(s, t, 4));
+    let Integer::Value(number, network_at) = wire::u32_at(s, type_at) else {
+        return Integer::Refused(wire::cut(s, type_at, 4));
     };
     if !rows::is_type(number) {
-        return Integer::Refused(wire::refuse(Rule::UnknownType, t));
+        return Integer::Refused(wire::refuse(Rule::UnknownType, type_at));
     }
-    let Integer::Value(_, c) = wire::u32_at(s, n) else {
-        return Integer::Refused(wire::cut(s, n, 4));
+    let Integer::Value(_, chain_at) = wire::u32_at(s, network_at) else {
+        return Integer::Refused(wire::cut(s, network_at, 4));
     };
-    let End::At(next) = wire::field_at(s, c, 32) else {
-        return Integer::Refused(wire::cut(s, c, 32));
+    let End::At(next) = wire::field_at(s, chain_at, 32) else {
+        return Integer::Refused(wire::cut(s, chain_at, 32));
     };
     Integer::Value(number, next)
 }

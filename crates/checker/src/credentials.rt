@@ -48,17 +48,17 @@ fn signatures_at(s: &[u8], start: usize, count: u64) -> End
 fn credential_at(s: &[u8], at: usize, type_id: u64, wanted: u64) -> End
     ensures { λ r. ⌜ r ≡ ended (pieces (credentialPieces «type_id» wanted [])) (now (s .entry)) at ⌝ }
 {
-    let Integer::Value(found, n) = wire::u32_at(s, at) else {
+    let Integer::Value(found, count_at) = wire::u32_at(s, at) else {
         return End::Refused(wire::cut(s, at, 4));
     };
     if found != type_id {
         return End::Refused(wire::refuse(Rule::UnknownType, at));
     }
-    let Integer::Value(count, first) = wire::u32_at(s, n) else {
-        return End::Refused(wire::cut(s, n, 4));
+    let Integer::Value(count, first) = wire::u32_at(s, count_at) else {
+        return End::Refused(wire::cut(s, count_at, 4));
     };
     if count != wanted {
-        return End::Refused(wire::refuse(Rule::WrongCount, n));
+        return End::Refused(wire::refuse(Rule::WrongCount, count_at));
     }
     signatures_at(s, first, wanted)
 }
@@ -81,31 +81,34 @@ fn beside(s: &[u8], type_id: u32, from: Wanting, count: u64, start: usize) -> En
 {
     let mut phase = from.phase;
     let mut asks = from.asks;
-    let mut q = from.at;
+    let mut asks_at = from.at;
     let mut elements = from.left;
     let mut left = count;
     let mut at = start;
     while 0 < left {
-        let c = Wanting {
+        let cursor = Wanting {
             phase,
             asks,
-            at: q,
+            at: asks_at,
             left: elements,
         };
-        let Wanted::Credential(credential, signatures, next) = asking::next_wanted(s, type_id, c)
-        else {
+        let Wanted::Credential(credential, signatures, next) = asking::next_wanted(
+            s,
+            type_id,
+            cursor,
+        ) else {
             return End::At(at);
         };
         match credential_at(s, at, credential, signatures) {
             End::Refused(refusal) => {
                 return End::Refused(refusal);
             }
-            End::At(m) => {
+            End::At(end) => {
                 phase = next.phase;
                 asks = next.asks;
-                q = next.at;
+                asks_at = next.at;
                 elements = next.left;
-                at = m;
+                at = end;
                 left -= 1;
             }
         }

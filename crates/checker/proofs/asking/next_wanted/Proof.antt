@@ -3,7 +3,7 @@ use borrow.Author.Needs.{needs}
 use Prim.Native.Nat.{_+_, _-_}
 use native.Mathlib.Omega.{arith}
 use Rattle.plan.specs.Due.{lastPhase}
-use Rattle.checker.proofs.Ahead.{Onward, next-end, into-phase, asks-phase, next-into, next-asks, next-element}
+use Rattle.checker.proofs.Ahead.{Onward, nexts}
 use Rattle.checker.proofs.asking.next_wanted.Statement.{statement}
 use Rattle.checker.proofs.asking.next_wanted.Tie as tie
 
@@ -20,58 +20,15 @@ next-wanted-spec =
     (tie.spec
     Inv-loop
     μ-loop
-    (λ c most ws w. w)  -- loop-holds
+    (λ c. search nexts)  -- loop-holds
     (λ c κs. search needs) (λ c. search needs)  -- begun-at-requires, enum-told
-    (λ c.
-    let a = c .before .before .before .before .before .before .args in
-    let l = c .before .before .before .before .loop in
-    let b = c .before .before .begun-at .ensures in
-    next-end (a .s .now) (a .type-id) (a .from) (l .phase) (l .asks) (l .at) (l .left) (l .inv) (c .before .before .before .loop-test .taken) _ (b .0)
-    (b .1) (c .enum-told .given .1))  -- returns
+    (λ c. search nexts)  -- returns
     (λ c. search needs)  -- enum-known-credential
-    (λ c.
-    let a = c .before .before .before .before .before .before .before .args in
-    let l = c .before .before .before .before .before .loop in
-    let b = c .before .before .before .begun-at .ensures in
-    omega (
-      arith,
-      asks-phase (a .s .now) (a .type-id) (a .from) (l .phase) (l .asks) (l .at) (l .left) (l .inv)
-          (c .before .before .before .before .loop-test .taken) _ (b .0) (b .1) _ _ _ (c .before .credential .given .1),
-    ))  -- add-t16
-    (λ c.
-    let a = c .before .before .before .before .before .before .before .args in
-    let l = c .before .before .before .before .before .loop in
-    let b = c .before .before .before .begun-at .ensures in
-    next-asks (a .s .now) (a .type-id) (a .from) (l .phase) (l .asks) (l .at) (l .left) (l .inv) (c .before .before .before .before .loop-test .taken) _
-    (b .0) (b .1) _ _ _ (c .before .credential .given .1))  -- returns-2
+    (λ c. search nexts)  -- add-t16
+    (λ c. search nexts)  -- returns-2
     (λ c. search needs)  -- enum-known-credential-2
-    (λ c.
-    let a = c .before .before .before .before .before .before .before .args in
-    let l = c .before .before .before .before .before .loop in
-    let b = c .before .before .before .begun-at .ensures in
-    omega (
-      arith,
-      into-phase (a .s .now) (a .type-id) (a .from) (l .phase) (l .asks) (l .at) (l .left) (l .inv)
-          (c .before .before .before .before .loop-test .taken) _ (b .0) (b .1) _ _ _ (c .before .credential2 .given .1),
-    ))  -- add-phase
-    (λ c.
-    let a = c .before .before .before .before .before .before .before .args in
-    let l = c .before .before .before .before .before .loop in
-    let b = c .before .before .before .begun-at .ensures in
-    omega (
-      arith,
-      into-phase (a .s .now) (a .type-id) (a .from) (l .phase) (l .asks) (l .at) (l .left) (l .inv)
-          (c .before .before .before .before .loop-test .taken) _ (b .0) (b .1) _ _ _ (c .before .credential2 .given .1),
-    ))  -- loop-less
-    (λ c.
-    let a = c .before .before .before .before .before .before .before .args in
-    let l = c .before .before .before .before .before .loop in
-    let b = c .before .before .before .begun-at .ensures in
-    next-into (a .s .now) (a .type-id) (a .from) (l .phase) (l .asks) (l .at) (l .left) (l .inv) (c .before .before .before .before .loop-test .taken) _
-    (b .0) (b .1) _ _ _ (c .before .credential2 .given .1))  -- loop-again
+    (λ c. search nexts)  -- add-phase
+    (λ c. search nexts)  -- loop-less
+    (λ c. search nexts)  -- loop-again
     (λ c κs. omega (arith, c .loop-test .left))  -- element-wanted-requires
-    (λ c.
-    let a = c .before .before .before .before .args in
-    let l = c .before .before .loop in
-    next-element (a .s .now) (a .type-id) (a .from) (l .phase) (l .asks) (l .at) (l .left) (l .inv) (c .element-wanted .result)
-    (c .element-wanted .ensures)))  -- returns-3
+    (λ c. search nexts))  -- returns-3

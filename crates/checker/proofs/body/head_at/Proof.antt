@@ -21,7 +21,7 @@ head-at-spec =
     (λ c. search heading depth 12)  -- returns-3
     (λ c κs. search needs) (λ c κs. search needs)  -- is-type-requires, refuse-requires-2
     (λ c. search heading depth 12)  -- returns-4
-    (λ c κs. search needs) (λ c. search needs) (λ c. search needs)  -- u32-at-requires-2, enum-known-c, enum-told-3
+    (λ c κs. search needs) (λ c. search needs) (λ c. search needs)  -- u32-at-requires-2, enum-known-chain-at, enum-told-3
     (λ c κs. search needs)  -- cut-requires-3
     (λ c. search heading depth 12)  -- returns-5
     (λ c κs. search needs) (λ c. search needs) (λ c. search needs)  -- field-at-requires, enum-known-next, enum-told-4

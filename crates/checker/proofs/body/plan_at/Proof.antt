@@ -6,7 +6,7 @@ use native.Mathlib.Omega.{arith}
 use Rattle.transaction.specs.Plan.{planOf}
 use Rattle.plan.specs.Due.{due, lastPhase}
 use Rattle.checker.specs.Segments.{planAt}
-use Rattle.checker.proofs.Planning.{turn-end, turn-refused, turn-past, past-phase, past-few}
+use Rattle.checker.proofs.Planning.{turns}
 use Rattle.checker.proofs.body.plan_at.Statement.{statement}
 use Rattle.checker.proofs.body.plan_at.Tie as tie
 
@@ -26,44 +26,11 @@ plan-at-spec =
     μ-loop
     (λ c. (omega arith, refl))  -- loop-holds
     (λ c κs. search needs) (λ c. search needs)  -- segment-at-requires, enum-told
-    (λ c. search turn-end)  -- returns
+    (λ c. search turns)  -- returns
     (λ c. search needs)  -- enum-known-refusal
-    (λ c. search turn-refused)  -- returns-2
+    (λ c. search turns)  -- returns-2
     (λ c. search needs)  -- enum-known-count
-    (λ c. omega (
-      arith,
-      past-phase (c .before .before .before .before .before .before .args .most)
-          (c .before .before .before .before .before .before .args .type-id) (c .before .before .before .before .loop .phase)
-          (c .before .before .before .before .before .before .args .s .now) (c .before .before .before .before .loop .at) _ _ _
-          (c .before .before .before .segment-at .ensures) (c .before .count .given .1),
-      past-few
-          (c .before .before .before .before .before .before .args .most) (c .before .before .before .before .before .before .args .type-id)
-          (c .before .before .before .before .loop .phase) (c .before .before .before .before .before .before .args .s .now)
-          (c .before .before .before .before .loop .at) _ _ _ (c .before .before .before .segment-at .ensures)
-          (c .before .count .given .1) (c .before .before .before .before .before .shared-slice-known .given),
-    ))  -- add-wanted
-    (λ c. omega (
-      arith,
-      past-phase (c .before .before .before .before .before .before .args .most)
-          (c .before .before .before .before .before .before .args .type-id) (c .before .before .before .before .loop .phase)
-          (c .before .before .before .before .before .before .args .s .now) (c .before .before .before .before .loop .at) _ _ _
-          (c .before .before .before .segment-at .ensures) (c .before .count .given .1),
-    ))  -- add-phase
-    (λ c. omega (
-      arith,
-      past-phase (c .before .before .before .before .before .before .args .most)
-          (c .before .before .before .before .before .before .args .type-id) (c .before .before .before .before .loop .phase)
-          (c .before .before .before .before .before .before .args .s .now) (c .before .before .before .before .loop .at) _ _ _
-          (c .before .before .before .segment-at .ensures) (c .before .count .given .1),
-    ))  -- loop-less
-    (λ c. (
-      omega (
-        arith,
-        past-few (c .before .before .before .before .before .before .args .most)
-            (c .before .before .before .before .before .before .args .type-id) (c .before .before .before .before .loop .phase)
-            (c .before .before .before .before .before .before .args .s .now) (c .before .before .before .before .loop .at) _ _ _
-            (c .before .before .before .segment-at .ensures) (c .before .count .given .1)
-            (c .before .before .before .before .before .shared-slice-known .given),
-      ),
-      search turn-past,
-    )))  -- loop-again
+    (λ c. search turns)  -- add-wanted
+    (λ c. search turns)  -- add-phase
+    (λ c. search turns)  -- loop-less
+    (λ c. (search turns, search turns)))  -- loop-again

@@ -5,12 +5,12 @@ use Rattle.checker.proofs.credentials.beside.Statement.{statement}
 use Rattle.checker.proofs.credentials.beside.Tie as tie
 
 abbrev Inv-loop : tie.InvT-loop
-Inv-loop s «type_id» count start phase₀ asks₀ q₀ elements₀ left₀ at₀ phase asks q elements left at =
-    BesideOnward s «type_id» record { phase = phase₀; asks = asks₀; at = q₀; left = elements₀ } count start
-    record { phase = phase; asks = asks; at = q; left = elements } left at
+Inv-loop s «type_id» count start phase₀ asks₀ asks-at₀ elements₀ left₀ at₀ phase asks asks-at elements left at =
+    BesideOnward s «type_id» record { phase = phase₀; asks = asks₀; at = asks-at₀; left = elements₀ } count start
+    record { phase = phase; asks = asks; at = asks-at; left = elements } left at
 
 abbrev μ-loop : tie.MeasureT-loop
-μ-loop s «type_id» count start phase₀ asks₀ q₀ elements₀ left₀ at₀ phase asks q elements left at = left
+μ-loop s «type_id» count start phase₀ asks₀ asks-at₀ elements₀ left₀ at₀ phase asks asks-at elements left at = left
 
 pub beside-spec : {M : Type 1} → statement M
 beside-spec =
@@ -23,6 +23,6 @@ beside-spec =
     (λ c. search onward)  -- returns
     (λ c κs. search needs) (λ c. search needs)  -- credential-at-requires, enum-known-refusal
     (λ c. search onward)  -- returns-2
-    (λ c. search needs) (λ c. search needs) (λ c. search needs)  -- enum-known-m, sub-left, loop-less
+    (λ c. search needs) (λ c. search needs) (λ c. search needs)  -- enum-known-end, sub-left, loop-less
     (λ c. search onward)  -- loop-again
     (λ c. search onward))  -- returns-3
