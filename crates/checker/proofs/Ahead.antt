@@ -146,7 +146,7 @@ front-of most G p s at v n e =
     let (a, i, ea, e₁) = parse-inv G s at (λ a i. form most p .parse s i refused (λ u k. took (a, u) k)) v n e in
     let (u, k, eu, e₂) = parse-inv (form most p) s i (λ u k. took (a, u) k) v n e₁ in
     let j : k ≡ n = cc in
-    record { between = a; others = u; next = i; all = cc; first = ea; rest = eu ∙ ap (took u) j }
+    record { between = a; others = u; next = i; all = cc; first = ea; rest = subst (λ (k : ℕ). read (form most p) s i ≡ took u k) j eu }
 
 module _ (most : ℕ) (s : List ℕ) (at : ℕ) (ws : List Want) where
   -- a field that was read, and what comes after it

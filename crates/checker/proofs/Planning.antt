@@ -27,7 +27,7 @@ use Rattle.transaction.specs.declared.ListName.{ListName}
 use Rattle.transaction.specs.declared.Layout.{Layout}
 use Rattle.transaction.specs.declared.UnsignedRead.{UnsignedRead}
 use Rattle.transaction.specs.declared.UnsignedRead.the-variants as U
-use Rattle.transaction.proofs.Reading.{on-told, on-told-refused}
+use Rattle.transaction.proofs.Reading.{on-answered, on-answered-refused}
 use Rattle.plan.specs.declared.Due.{Due}
 use Rattle.plan.specs.declared.Due.the-variants as D
 use Rattle.plan.specs.Due.{tail, due, lastPhase, Live, dueOf, credentialAsked}
@@ -98,7 +98,7 @@ module _ (most : ℕ) (p : Plan) (s : List ℕ) (at : ℕ) (x : Due) (h : x ≡ 
   module _ (l : ListName) (least : ℕ) (q : x ≡ D.List l least) (y : Integer) (w : y ≡ listAt l least s at) where
     counting : (c n : ℕ) (z : Passed) → y ≡ N.Value c n
         → ((v : List (elementsOf l .Element)) → c ≡ length v → z ≡ P.Past (length (asked (elementAsks l) v)) n) → z ≡ passedAt most p s at
-    counting c n z i j = if-list x (Passes z) p h l least q (λ q. on-told (listOf l least) length s at z P.Refused _ y w c n i (λ v e t. j v e))
+    counting c n z i j = if-list x (Passes z) p h l least q (λ q. on-answered (listOf l least) length s at z P.Refused _ y w c n i (λ v e t. j v e))
 
     pub passed-silent : (c n t : ℕ) → y ≡ N.Value c n → t ≡ credentialAsked (elementsOf l .credential) → t ≡ 0 → P.Past 0 n ≡ passedAt most p s at
     passed-silent c n t i j o =
@@ -112,7 +112,7 @@ module _ (most : ℕ) (p : Plan) (s : List ℕ) (at : ℕ) (x : Due) (h : x ≡ 
 
     pub passed-list-refused : (e : Refusal) → y ≡ N.Refused e → P.Refused e ≡ passedAt most p s at
     passed-list-refused e i =
-        if-list x (Passes (P.Refused e)) p h l least q (λ q. on-told-refused (listOf l least) length s at _ P.Refused _ y w e i refl)
+        if-list x (Passes (P.Refused e)) p h l least q (λ q. on-answered-refused (listOf l least) length s at _ P.Refused _ y w e i refl)
 
 pub ruleset passing =
     (passed-nothing, passed-end, passed-field-silent, passed-field-asking, passed-field-refused, passed-silent, passed-asking, passed-list-refused)

@@ -40,10 +40,6 @@ module _ (s : List ℕ) (at : ℕ) where
 
 -- ---- all at once
 
--- the length of n signatures fits in 64 bits if n fits in 32
-pub signatures-fit : (n : ℕ) → n < 256 ^ 4 → 65 * n < 2 ^ 64
-signatures-fit n h = omega arith
-
 -- the number of signatures wanted fits in 32 bits: it equals a count that was read
 pub wanted-fit : (n w : ℕ) → n ≡ w → (x : Integer) (m : ℕ) → x ≡ N.Value n m → (s : List ℕ) (at : ℕ) → x ≡ valued (integer 4) s at → Slice s → w < 256 ^ 4
 wanted-fit n w e x m q s at p b = rw (← e) (value-small 4 s at x n m p q b)

@@ -21,12 +21,12 @@ use Rattle.transaction.specs.Avm.{avm}
 use Rattle.transaction.specs.Family.{Head, head}
 use Rattle.transaction.specs.Answer.{memoMost, headAt, layout}
 use Rattle.transaction.specs.declared.TransactionType.{TransactionType}
-use Rattle.transaction.specs.declared.TransactionType.the-variants as K
 use Rattle.transaction.specs.declared.ListName.the-variants as L
 use Rattle.transaction.specs.declared.Layout.{Layout}
 use Rattle.transaction.specs.declared.UnsignedRead.{UnsignedRead}
 use Rattle.transaction.specs.declared.UnsignedRead.the-variants as U
-use Rattle.transaction.proofs.Reading.{on-told, on-told-refused, written-next}
+use Rattle.transaction.proofs.Good.{typeId-fits}
+use Rattle.transaction.proofs.Reading.{on-answered, on-answered-refused, written-next}
 use Rattle.plan.specs.Due.{tail, due}
 use Rattle.checker.specs.Segments.{planAt}
 use Rattle.checker.proofs.Planning.{none-asked}
@@ -35,11 +35,11 @@ module _ {R : Type 0} (most : ℕ) (s : List ℕ) (z : R) (stop : Refusal → R)
   pub on-head : (k n : ℕ) → x ≡ N.Value k n → ((h : Head TransactionType) → k ≡ typeId (h .type) → read (head (avm most)) s 0 ≡ took h n → z ≡ go h n)
       → z ≡ head (avm most) .parse s 0 stop go
   unfolding head
-  on-head = on-told (head (avm most)) (λ h. typeId (h .type)) s 0 z stop go x p
+  on-head = on-answered (head (avm most)) (λ h. typeId (h .type)) s 0 z stop go x p
 
   pub on-head-refused : (e : Refusal) → x ≡ N.Refused e → z ≡ stop e → z ≡ head (avm most) .parse s 0 stop go
   unfolding head
-  on-head-refused = on-told-refused (head (avm most)) (λ h. typeId (h .type)) s 0 z stop go x p
+  on-head-refused = on-answered-refused (head (avm most)) (λ h. typeId (h .type)) s 0 z stop go x p
 
 -- the id of a type fits in 32 bits
 pub head-small : (s : List ℕ) (x : Integer) (k n : ℕ) → x ≡ headAt s 0 → x ≡ N.Value k n → k < 2 ^ 32
@@ -48,14 +48,7 @@ head-small s x k n p q =
     let (h, m, t, i) = answer-took (head (avm memoMost)) s 0 N.Refused (λ h n. N.Value (typeId (h .type)) n) x p (N.Value k n) q
     (λ e i. let z : _≡_ {A = ℕ} 0 1 = cc in omega arith) in
     let e : typeId (h .type) ≡ k = cc in
-    omega (arith, code-small (h .type))
-  where
-    code-small : (k : TransactionType) → typeId k < 2 ^ 32
-    code-small K.Base = omega arith
-    code-small K.CreateAsset = omega arith
-    code-small K.Operation = omega arith
-    code-small K.Import = omega arith
-    code-small K.Export = omega arith
+    omega (arith, typeId-fits (h .type))
 
 -- continuations that agree on every value that is read give the same answer
 parse-read : {A R : Type 0} (F : Format A) (s : List ℕ) (at : ℕ) (stop : Refusal → R) (go on : A → ℕ → R)

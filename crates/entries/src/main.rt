@@ -14,9 +14,9 @@ fn load(fd: i32, buf: &mut [u8]) -> Loaded {
     if got < 0 {
         return Loaded::Failed;
     }
-    let n = io::count(got, buf);
-    let m = io::read_full(fd, &mut buf[n..]);
-    Loaded::Bytes(n + m)
+    let first = io::count(got, buf);
+    let rest = io::read_full(fd, &mut buf[first..]);
+    Loaded::Bytes(first + rest)
 }
 
 fn print_row(kind: u32, start: u32, length: u32) {
@@ -49,13 +49,13 @@ fn print_refusal(refusal: Refusal) {
     io::write_all(STDOUT_FILENO, b"\n");
 }
 
-// Prints the entries of the first `n` bytes. A transaction of 65,536 bytes has at most 3,272.
-fn print_entries(buf: &[u8], n: usize) {
-    if buf.len() < n {
+// Prints the entries of the first `length` bytes. A transaction of 65,536 bytes has at most 3,272.
+fn print_entries(buf: &[u8], length: usize) {
+    if buf.len() < length {
         return;
     }
     let mut rows = [0u32; 9816];
-    match entry_table::rows::check_table(&buf[..n], &mut rows) {
+    match entry_table::rows::check_table(&buf[..length], &mut rows) {
         Tabled::Listed(count, _) => {
             print_rows(&rows, count);
         }
@@ -68,11 +68,11 @@ fn print_entries(buf: &[u8], n: usize) {
 // Prints the entries of an open file. Reads at most one byte more than a transaction may have, enough to see that it is too long.
 fn show(fd: i32, path: &[u8]) {
     let mut buf = [0u8; 65537];
-    let Loaded::Bytes(n) = load(fd, &mut buf) else {
+    let Loaded::Bytes(length) = load(fd, &mut buf) else {
         os::fail(path);
         return;
     };
-    print_entries(&buf, n);
+    print_entries(&buf, length);
 }
 
 fn main() {

@@ -39,14 +39,14 @@ use Rattle.transaction.specs.declared.ListName.the-variants as L
 use Rattle.transaction.specs.Credentials.{Want, credentialCode}
 use Rattle.transaction.proofs.Reading.{written-next}
 use Rattle.entry_walk.specs.Walk.{start, Ahead}
-use Rattle.entry_walk.proofs.Walking.{state-of, Leading}
+use Rattle.entry_walk.proofs.Advancing.{state-of, Leading}
 use Rattle.entry_walk.proofs.Each.{Each, rest-each, plan-each}
 use Rattle.entry_fields.specs.Found.{outputFound, inputFound}
 use Rattle.entry_fields.specs.declared.OutputFound.{OutputFound}
 use Rattle.entry_fields.specs.declared.InputFound.{InputFound}
 use Rattle.entry_fields.specs.declared.InputFound.the-variants as I
 use Rattle.entry_fields.proofs.Finding.{output-found, input-found, operation-found}
-use Rattle.entry.specs.Typed.{onOutput, onInput, onOperation, typedAt, behindKey, assetAt, txidAt}
+use Rattle.entry.specs.Typed.{onOutput, onInput, onOperation, typedAt, afterKey, assetAt, txidAt}
 use Rattle.entry.specs.declared.Typed.the-variants as T
 
 operation-asset : (s : List ℕ) (at : ℕ) (v : Operation) (m : ℕ) → read operation s at ≡ took v m → wholeAt 32 s at ≡ v .asset
@@ -98,13 +98,13 @@ module _ (s : List ℕ) (b : Slice s) where
   output-stands make at v m h =
       let (x, i, ex, e₁) = parse-inv (blob 32) s at _ v m h in
       let (o, k, eo, e₂) = parse-inv (output (secpTransfer ∷ [])) s i (λ out n. took record { asset = x; output = out } n) v m e₁ in
-      let behind : i ≡ at + 32 =
+      let after : i ≡ at + 32 =
       written-next (blob 32) s at x i b ex ∙ ap (λ (j : ℕ). at + j) (W.blob-wide 32 x (blob 32 .sound s at x i (slice-bytes s b) ex .0)) in (
         moved
             (λ w j. blob 32 .parse s at (λ e. T.Missing) (λ asset o. onOutput (outputFound s o) make) ≡ T.Entry
             (make (outputFields (at + 32) j (w .output)))) e₂
             (W.parse-took (blob 32) s at (λ e. T.Missing) _ x i ex ∙ ap (λ (f : OutputFound). onOutput f make) (output-found s b (secpTransfer ∷ []) i o k eo)
-            ∙ ap (λ (j : ℕ). T.Entry (make (outputFields j k o))) behind),
+            ∙ ap (λ (j : ℕ). T.Entry (make (outputFields j k o))) after),
         moved (λ w j. wholeAt 32 s at ≡ w .asset) e₂ (W.whole-part 32 s at x i ex),
       )
 
@@ -123,7 +123,7 @@ module _ (s : List ℕ) (b : Slice s) where
   -- ---- inputs
 
   input-stands : (prev : List ℕ) (at : ℕ) (v : Input) (m : ℕ) → read (input prev) s at ≡ took v m
-      → (inputFound s at ≡ I.Fields (inputFields m v)) × (behindKey s at ≡ v .asset) × (wholeAt 32 s at ≡ v .txid)
+      → (inputFound s at ≡ I.Fields (inputFields m v)) × (afterKey s at ≡ v .asset) × (wholeAt 32 s at ≡ v .txid)
   unfolding inputAfter named andThen guard key
   input-stands prev at v m h =
       let (id, i, ei, e₁) = parse-inv (blob 32) s at _ v m h in
@@ -131,7 +131,7 @@ module _ (s : List ℕ) (b : Slice s) where
       let (_, e₃) = pick-inv (below (take keyWidth prev) (key .write (id, index))) (by outOfOrder at) _ v m e₂ in
       let (w, j, ew, e₄) = parse-inv spend s k (λ w n. took (spent id index w) n) v m e₃ in (
         moved (λ x n. inputFound s at ≡ I.Fields (inputFields n x)) e₄ (input-found s b at id i index k w j ei ek ew),
-        moved (λ x n. behindKey s at ≡ x .asset) e₄
+        moved (λ x n. afterKey s at ≡ x .asset) e₄
             (W.parse-took (blob 32) s at (λ e. noId) _ id i ei ∙ W.parse-took (integer 4) s i (λ e. noId) _ index k ek ∙ spend-asset s k w j ew),
         moved (λ x n. wholeAt 32 s at ≡ x .txid) e₄ (W.whole-part 32 s at id i ei),
       )
@@ -171,7 +171,7 @@ module _ (s : List ℕ) (b : Slice s) where
         next = m;
         later = [];
         stands = f .stands;
-        behind = refl;
+        after = refl;
         entries = sym (append-nil (entriesFrom E stateOutputEntry [] (f .first) (v .outputs)));
       })
 

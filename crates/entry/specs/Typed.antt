@@ -67,12 +67,12 @@ typedAt kind s at =
 
 -- ---- identifiers
 
-abbrev pub behindKey : List ℕ → ℕ → List ℕ
-behindKey s at = blob 32 .parse s at (λ e. noId) λ id i. integer 4 .parse s i (λ e. noId) λ index a. wholeAt 32 s a
+abbrev pub afterKey : List ℕ → ℕ → List ℕ
+afterKey s at = blob 32 .parse s at (λ e. noId) λ id i. integer 4 .parse s i (λ e. noId) λ index a. wholeAt 32 s a
 
 abbrev pub assetAt : ℕ → List ℕ → ℕ → List ℕ
 assetAt kind s at =
-    pick (eqb kind 7) noId (pick (eqb kind 6) noId (pick (eqb kind 2) (behindKey s at) (pick (eqb kind 4) (behindKey s at) (wholeAt 32 s at))))
+    pick (eqb kind 7) noId (pick (eqb kind 6) noId (pick (eqb kind 2) (afterKey s at) (pick (eqb kind 4) (afterKey s at) (wholeAt 32 s at))))
 
 abbrev pub txidAt : ℕ → List ℕ → ℕ → List ℕ
 txidAt kind s at = pick (eqb kind 2) (wholeAt 32 s at) (pick (eqb kind 4) (wholeAt 32 s at) noId)

@@ -3,7 +3,7 @@ ghost use mathlib.Core.Path.{_≡_};
 ghost use Rattle.transaction.specs.Answer.{memoMost};
 ghost use Rattle.entry.specs.Entry.{refusedEntry, missingEntry, entryOf};
 ghost use Rattle.entry.specs.Typed.{outputTyped, stateOutputTyped, inputTyped, operationTyped, credentialTyped};
-ghost use Rattle.entry.specs.Typed.{typedAt, behindKey, assetAt, txidAt, rowEntry};
+ghost use Rattle.entry.specs.Typed.{typedAt, afterKey, assetAt, txidAt, rowEntry};
 use entry_fields::InputFound;
 use entry_fields::OperationFound;
 use entry_fields::OutputFound;
@@ -38,10 +38,10 @@ enum Typed {
 fn output_typed(s: &[u8], kind: u32, at: usize) -> Typed
     ensures { λ r. ⌜ r ≡ outputTyped kind (now (s .entry)) at ⌝ }
 {
-    let End::At(o) = wire::field_at(s, at, 32) else {
+    let End::At(output_at) = wire::field_at(s, at, 32) else {
         return Typed::Missing;
     };
-    match entry_fields::output_at(s, o) {
+    match entry_fields::output_at(s, output_at) {
         OutputFound::Missing => Typed::Missing,
         OutputFound::Fields(fields) => {
             if kind == 1 {
@@ -87,10 +87,10 @@ fn state_output_typed(s: &[u8], at: usize) -> Typed
 fn credential_typed(s: &[u8], at: usize) -> Typed
     ensures { λ r. ⌜ r ≡ credentialTyped (now (s .entry)) at ⌝ }
 {
-    let Integer::Value(type_id, i) = wire::u32_at(s, at) else {
+    let Integer::Value(type_id, count_at) = wire::u32_at(s, at) else {
         return Typed::Missing;
     };
-    let Integer::Value(signatures_count, signatures_at) = wire::u32_at(s, i) else {
+    let Integer::Value(signatures_count, signatures_at) = wire::u32_at(s, count_at) else {
         return Typed::Missing;
     };
     Typed::Entry(Entry::Credential(CredentialFields {
@@ -123,16 +123,16 @@ fn typed_at(s: &[u8], kind: u32, at: usize) -> Typed
 }
 
 // An input's asset id, which follows its key.
-fn behind_key(s: &[u8], at: usize) -> [u8; 32]
-    ensures { λ r. ⌜ r ≡ behindKey (now (s .entry)) at ⌝ }
+fn after_key(s: &[u8], at: usize) -> [u8; 32]
+    ensures { λ r. ⌜ r ≡ afterKey (now (s .entry)) at ⌝ }
 {
-    let End::At(i) = wire::field_at(s, at, 32) else {
+    let End::At(index_at) = wire::field_at(s, at, 32) else {
         return [0u8; 32];
     };
-    let Integer::Value(_, a) = wire::u32_at(s, i) else {
+    let Integer::Value(_, asset_start) = wire::u32_at(s, index_at) else {
         return [0u8; 32];
     };
-    wire::id_at(s, a)
+    wire::id_at(s, asset_start)
 }
 
 // The asset id of an entry of this kind; outputs and operations start with it.
@@ -146,10 +146,10 @@ fn asset_at(s: &[u8], kind: u32, at: usize) -> [u8; 32]
         return [0u8; 32];
     }
     if kind == 2 {
-        return behind_key(s, at);
+        return after_key(s, at);
     }
     if kind == 4 {
-        return behind_key(s, at);
+        return after_key(s, at);
     }
     wire::id_at(s, at)
 }

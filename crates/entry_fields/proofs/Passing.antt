@@ -1,14 +1,7 @@
 -- Laws for functions that find fields by their offsets, by what the code has found. Assumes nothing.
-use Prim.Native.Nat.{ℕ, _*_, _^_, _≤_, _<_}
+use Prim.Native.Nat.{ℕ}
 use mathlib.Core.Path.{_≡_, sym, ap, _∙_}
-use mathlib.Core.List.{List}
-use native.Mathlib.Omega.{arith}
-use native.Mathlib.Nat.{mul-le-mul-right}
-use Rattle.wire.specs.Fields.{integer}
-use Rattle.wire.specs.Answer.{valued}
-use Rattle.wire.specs.declared.Integer.{Integer}
-use Rattle.wire.specs.declared.Integer.the-variants as N
-use Rattle.wire.proofs.Bytes.{Slice, found}
+use Rattle.wire.proofs.Bytes.{found}
 use Rattle.wire.proofs.Reading as L
 use Rattle.element.specs.declared.OwnersFields.{OwnersFields}
 use Rattle.element.specs.declared.OutputFields.{OutputFields}
@@ -16,7 +9,6 @@ use Rattle.element.specs.declared.TermsFields.{TermsFields}
 use Rattle.element.specs.declared.Recipients.{Recipients}
 use Rattle.element.specs.declared.Recipients.the-variants as Q
 use Rattle.element.specs.declared.OperationFields.{OperationFields}
-use Rattle.wire.proofs.Reading.{value-small}
 use Rattle.entry_fields.specs.Found.{outputOf, transferTo, onTerms, onRecipients}
 use Rattle.entry_fields.specs.declared.OwnersFound.{OwnersFound}
 use Rattle.entry_fields.specs.declared.OwnersFound.the-variants as W
@@ -56,13 +48,6 @@ module _ (x y : RecipientsFound) (p : x ≡ y) (make : Recipients → OperationF
 
   pub no-recipients : x ≡ R.Missing → Y.Missing ≡ onRecipients y make
   no-recipients q = sym (ap (λ r. onRecipients r make) (found p q))
-
--- the length of counted elements of k bytes fits in 64 bits, for a count of 32 bits
-pub span-fits : (k : ℕ) (s : List ℕ) (at : ℕ) (x : Integer) (v n : ℕ) → x ≡ valued (integer 4) s at → x ≡ N.Value v n → Slice s → k ≤ 65 → k * v < 2 ^ 64
-span-fits k s at x v n p q b h = le-lt (mul-le-mul-right v h) (omega (arith, value-small 4 s at x v n p q b))
-  where
-    le-lt : {a b c : ℕ} → a ≤ b → b < c → a < c
-    le-lt i j = omega arith
 
 pub ruleset finding = (
   L.on-value,

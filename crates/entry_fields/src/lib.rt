@@ -46,13 +46,13 @@ pub enum OperationFound {
 fn owners_at(s: &[u8], at: usize) -> OwnersFound
     ensures { λ r. ⌜ r ≡ ownersFound (now (s .entry)) at ⌝ }
 {
-    let Integer::Value(locktime, t) = wire::u64_at(s, at) else {
+    let Integer::Value(locktime, threshold_at) = wire::u64_at(s, at) else {
         return OwnersFound::Missing;
     };
-    let Integer::Value(threshold, n) = wire::u32_at(s, t) else {
+    let Integer::Value(threshold, count_at) = wire::u32_at(s, threshold_at) else {
         return OwnersFound::Missing;
     };
-    let Integer::Value(addresses_count, addresses_at) = wire::u32_at(s, n) else {
+    let Integer::Value(addresses_count, addresses_at) = wire::u32_at(s, count_at) else {
         return OwnersFound::Missing;
     };
     OwnersFound::Fields(OwnersFields {
@@ -77,10 +77,10 @@ fn mint_at(s: &[u8], at: usize) -> OutputFound
 fn transfer_at(s: &[u8], at: usize) -> OutputFound
     ensures { λ r. ⌜ r ≡ transferFound (now (s .entry)) at ⌝ }
 {
-    let Integer::Value(amount, o) = wire::u64_at(s, at) else {
+    let Integer::Value(amount, owners_start) = wire::u64_at(s, at) else {
         return OutputFound::Missing;
     };
-    match owners_at(s, o) {
+    match owners_at(s, owners_start) {
         OwnersFound::Missing => OutputFound::Missing,
         OwnersFound::Fields(owners) => OutputFound::Fields(OutputFields::SecpTransfer {
             amount,
@@ -93,10 +93,10 @@ fn transfer_at(s: &[u8], at: usize) -> OutputFound
 fn nft_mint_at(s: &[u8], at: usize) -> OutputFound
     ensures { λ r. ⌜ r ≡ nftMintFound (now (s .entry)) at ⌝ }
 {
-    let Integer::Value(group, o) = wire::u32_at(s, at) else {
+    let Integer::Value(group, owners_start) = wire::u32_at(s, at) else {
         return OutputFound::Missing;
     };
-    match owners_at(s, o) {
+    match owners_at(s, owners_start) {
         OwnersFound::Missing => OutputFound::Missing,
         OwnersFound::Fields(owners) => OutputFound::Fields(OutputFields::NftMint { group, owners }),
     }
@@ -106,16 +106,16 @@ fn nft_mint_at(s: &[u8], at: usize) -> OutputFound
 fn nft_transfer_at(s: &[u8], at: usize) -> OutputFound
     ensures { λ r. ⌜ r ≡ nftTransferFound (now (s .entry)) at ⌝ }
 {
-    let Integer::Value(group, p) = wire::u32_at(s, at) else {
+    let Integer::Value(group, length_at) = wire::u32_at(s, at) else {
         return OutputFound::Missing;
     };
-    let Integer::Value(payload_length, payload_at) = wire::u32_at(s, p) else {
+    let Integer::Value(payload_length, payload_at) = wire::u32_at(s, length_at) else {
         return OutputFound::Missing;
     };
-    let End::At(o) = wire::field_at(s, payload_at, payload_length as usize) else {
+    let End::At(owners_start) = wire::field_at(s, payload_at, payload_length as usize) else {
         return OutputFound::Missing;
     };
-    match owners_at(s, o) {
+    match owners_at(s, owners_start) {
         OwnersFound::Missing => OutputFound::Missing,
         OwnersFound::Fields(owners) => OutputFound::Fields(OutputFields::NftTransfer {
             group,
@@ -130,41 +130,41 @@ fn nft_transfer_at(s: &[u8], at: usize) -> OutputFound
 pub fn output_at(s: &[u8], at: usize) -> OutputFound
     ensures { λ r. ⌜ r ≡ outputFound (now (s .entry)) at ⌝ }
 {
-    let Integer::Value(type_id, b) = wire::u32_at(s, at) else {
+    let Integer::Value(type_id, body_at) = wire::u32_at(s, at) else {
         return OutputFound::Missing;
     };
     if type_id == 6 {
-        return mint_at(s, b);
+        return mint_at(s, body_at);
     }
     if type_id == 7 {
-        return transfer_at(s, b);
+        return transfer_at(s, body_at);
     }
     if type_id == 10 {
-        return nft_mint_at(s, b);
+        return nft_mint_at(s, body_at);
     }
-    nft_transfer_at(s, b)
+    nft_transfer_at(s, body_at)
 }
 
 // An input: transaction id, index, asset id, type, amount, address indices.
 pub fn input_at(s: &[u8], at: usize) -> InputFound
     ensures { λ r. ⌜ r ≡ inputFound (now (s .entry)) at ⌝ }
 {
-    let End::At(i) = wire::field_at(s, at, 32) else {
+    let End::At(index_at) = wire::field_at(s, at, 32) else {
         return InputFound::Missing;
     };
-    let Integer::Value(index, a) = wire::u32_at(s, i) else {
+    let Integer::Value(index, asset_at) = wire::u32_at(s, index_at) else {
         return InputFound::Missing;
     };
-    let End::At(k) = wire::field_at(s, a, 32) else {
+    let End::At(type_at) = wire::field_at(s, asset_at, 32) else {
         return InputFound::Missing;
     };
-    let Integer::Value(_, m) = wire::u32_at(s, k) else {
+    let Integer::Value(_, amount_at) = wire::u32_at(s, type_at) else {
         return InputFound::Missing;
     };
-    let Integer::Value(amount, n) = wire::u64_at(s, m) else {
+    let Integer::Value(amount, count_at) = wire::u64_at(s, amount_at) else {
         return InputFound::Missing;
     };
-    let Integer::Value(indices_count, indices_at) = wire::u32_at(s, n) else {
+    let Integer::Value(indices_count, indices_at) = wire::u32_at(s, count_at) else {
         return InputFound::Missing;
     };
     InputFound::Fields(InputFields {
@@ -182,13 +182,13 @@ fn terms_at(s: &[u8], at: usize) -> TermsFound
     let Integer::Value(indices_count, indices_at) = wire::u32_at(s, at) else {
         return TermsFound::Missing;
     };
-    let End::At(g) = wire::field_at(s, indices_at, 4 * indices_count as usize) else {
+    let End::At(group_at) = wire::field_at(s, indices_at, 4 * indices_count as usize) else {
         return TermsFound::Missing;
     };
-    let Integer::Value(group, p) = wire::u32_at(s, g) else {
+    let Integer::Value(group, length_at) = wire::u32_at(s, group_at) else {
         return TermsFound::Missing;
     };
-    let Integer::Value(payload_length, payload_at) = wire::u32_at(s, p) else {
+    let Integer::Value(payload_length, payload_at) = wire::u32_at(s, length_at) else {
         return TermsFound::Missing;
     };
     let End::At(next) = wire::field_at(s, payload_at, payload_length as usize) else {
@@ -229,12 +229,16 @@ fn recipients_at(s: &[u8], at: usize, type_id: u64) -> RecipientsFound
 fn action_at(s: &[u8], at: usize, outputs_at: usize, outputs_count: u64) -> OperationFound
     ensures { λ r. ⌜ r ≡ actionFound «outputs_at» «outputs_count» (now (s .entry)) at ⌝ }
 {
-    let Integer::Value(type_id, i) = wire::u32_at(s, at) else {
+    let Integer::Value(type_id, terms_start) = wire::u32_at(s, at) else {
         return OperationFound::Missing;
     };
-    match terms_at(s, i) {
+    match terms_at(s, terms_start) {
         TermsFound::Missing => OperationFound::Missing,
-        TermsFound::Fields(terms, o) => match recipients_at(s, o, type_id) {
+        TermsFound::Fields(terms, recipients_start) => match recipients_at(
+            s,
+            recipients_start,
+            type_id,
+        ) {
             RecipientsFound::Missing => OperationFound::Missing,
             RecipientsFound::Fields(recipients) => OperationFound::Fields(OperationFields {
                 outputs_at,
@@ -250,14 +254,14 @@ fn action_at(s: &[u8], at: usize, outputs_at: usize, outputs_count: u64) -> Oper
 pub fn operation_at(s: &[u8], at: usize) -> OperationFound
     ensures { λ r. ⌜ r ≡ operationFound (now (s .entry)) at ⌝ }
 {
-    let End::At(p) = wire::field_at(s, at, 32) else {
+    let End::At(count_at) = wire::field_at(s, at, 32) else {
         return OperationFound::Missing;
     };
-    let Integer::Value(outputs_count, outputs_at) = wire::u32_at(s, p) else {
+    let Integer::Value(outputs_count, outputs_at) = wire::u32_at(s, count_at) else {
         return OperationFound::Missing;
     };
-    let End::At(t) = wire::field_at(s, outputs_at, 36 * outputs_count as usize) else {
+    let End::At(action_start) = wire::field_at(s, outputs_at, 36 * outputs_count as usize) else {
         return OperationFound::Missing;
     };
-    action_at(s, t, outputs_at, outputs_count)
+    action_at(s, action_start, outputs_at, outputs_count)
 }

@@ -16,7 +16,8 @@ use Rattle.element.specs.PlainBytes.{outputBytes, transferableOutputBytes, inpu
 use Rattle.element.proofs.Writing.{output-bytes, transferableOutput-bytes, input-bytes, operation-bytes}
 use Rattle.transaction.specs.Slots.{signatureWidth}
 use Rattle.transaction.specs.Credentials.{Want, each, size, credentials}
-use Rattle.transaction.proofs.CredentialLaws.{size-each, length-credentials, total-cons}
+use Rattle.transaction.proofs.CredentialLaws.{size-each, total-cons}
+use Rattle.entry_table.proofs.Inside.{credentials-length}
 use Rattle.transaction.specs.Entries.{EntryAt, stateOutputEntry, stateEntries, entriesFrom, credentialEntries}
 use Rattle.transaction.specs.Plan.{contentOf, elementsOf, Plan, shut, end, field, many, plan}
 use Rattle.transaction.specs.Form.{atLeast, listOf, Value, form, planEntries}
@@ -154,6 +155,3 @@ entries-few most s (u, l) w =
       plan-few most p (u .1) (length h),
       credentials-few ws (length (h ++ f) + 4),
     )
-  where
-    credentials-length : (ws : List Want) (l : List (List ℕ)) → credentials ws .Good l → length (credentials ws .write l) ≡ 4 + size (each ws)
-    credentials-length ws l g = length-credentials ws l g

@@ -70,14 +70,14 @@ state-inside prev at v =
     (list-inside E stateOutputEntry (λ prev at a. (omega arith, omega arith, tt)) [] (at + 8) (v .outputs))
 
 -- a field or a list, and what comes after it
-behind : (at : ℕ) (a c : List ℕ) (xs : List EntryAt) → Inside (at + length a + length c) xs → Inside (at + length (a ++ c)) xs
-behind at a c xs h = inside-more (at + length a + length c) (at + length (a ++ c)) xs (omega (arith, length-append a c)) h
+after : (at : ℕ) (a c : List ℕ) (xs : List EntryAt) → Inside (at + length a + length c) xs → Inside (at + length (a ++ c)) xs
+after at a c xs h = inside-more (at + length a + length c) (at + length (a ++ c)) xs (omega (arith, length-append a c)) h
 
 both : (at : ℕ) (a c : List ℕ) (xs ys : List EntryAt) → Inside (at + length a) xs → Inside (at + length a + length c) ys
     → Inside (at + length (a ++ c)) (xs ++ ys)
 both at a c xs ys h k =
     inside-append (at + length (a ++ c)) xs ys
-    (inside-more (at + length a) (at + length (a ++ c)) xs (omega (arith, length-append a c)) h) (behind at a c ys k)
+    (inside-more (at + length a) (at + length (a ++ c)) xs (omega (arith, length-append a c)) h) (after at a c ys k)
 
 element-inside : (l : ListName) (prev : List ℕ) (at : ℕ) (a : elementsOf l .Element)
     → Inside (at + length (elementsOf l .element prev .write a)) (elementsOf l .entries at (at + length (elementsOf l .element prev .write a)) a)
@@ -94,7 +94,7 @@ plan-inside most shut v at = tt
 plan-inside most end v at = tt
 plan-inside most (field f q) (x, v) at =
     let w : List ℕ = contentOf most f .write x in
-    behind at w (form most q .write v) (planEntries most q v (at + length w)) (plan-inside most q v (at + length w))
+    after at w (form most q .write v) (planEntries most q v (at + length w)) (plan-inside most q v (at + length w))
 plan-inside most (many l least q) (x, v) at =
     let w : List ℕ = listOf l least .write x in
     both at w (form most q .write v) (entriesFrom (elementsOf l .element) (elementsOf l .entries) [] (at + 4) x) (planEntries most q v (at + length w))
@@ -117,6 +117,10 @@ credentials-inside (w ∷ ws) at =
 
 -- ---- all entries
 
+-- `length-credentials`, for proofs that open the definition of `entries`
+pub credentials-length : (ws : List Want) (l : List (List ℕ)) → credentials ws .Good l → length (credentials ws .write l) ≡ 4 + size (each ws)
+credentials-length ws l g = length-credentials ws l g
+
 pub entries-inside : (most : ℕ) (s : List ℕ) (v : Signed (avm most)) → Writing (avm most) s v → Inside (length s) (entries (avm most) v)
 unfolding entries Any.signed unsigned wants
 entries-inside most s (u, l) w =
@@ -132,6 +136,3 @@ entries-inside most s (u, l) w =
     (plan-inside most p (u .1) (length h)))
     (inside-more (length (h ++ f) + 4 + size (each ws)) (length s) (credentialEntries ws (length (h ++ f) + 4)) (omega (arith, length-append (h ++ f) c))
     (credentials-inside ws (length (h ++ f) + 4)))
-  where
-    credentials-length : (ws : List Want) (l : List (List ℕ)) → credentials ws .Good l → length (credentials ws .write l) ≡ 4 + size (each ws)
-    credentials-length ws l g = length-credentials ws l g

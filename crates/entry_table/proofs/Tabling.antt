@@ -105,14 +105,14 @@ module _ (most : ℕ) (s t : List ℕ) (x : Checked) (p : x ≡ checked most s) 
         }
 
     module _ (y : Count) (d : Counts (length t / 3) (w .«type_id») s y) where
-      abbrev told : y ≡ countedRows (length t / 3) (meets .es)
+      abbrev counted : y ≡ countedRows (length t / 3) (meets .es)
       unfolding Counts
-      told = d most (meets .es) (meets .ahead)
+      counted = d most (meets .es) (meets .ahead)
 
       pub on-too-many : y ≡ N.TooMany → (f : Refusal) → f ≡ refusal noRoom 0 → filled (T.Refused f) t ≡ tabled most s t
       on-too-many e f made =
           let es : List EntryAt = meets .es in
-          let many : length t / 3 < length es = over (length t / 3) (length es) (found told e) in
+          let many : length t / 3 < length es = over (length t / 3) (length es) (found counted e) in
           let few = mod-lt (length t) (zero-lt-suc 2) in
           ap (λ (r : Refusal). filled (T.Refused r) t) made
           ∙ sym (meets .all ∙ rw (lt-leb (length (rows es)) (length t) (omega (arith, length-rows es, div-add-mod' (length t) 3))))
@@ -134,14 +134,14 @@ module _ (most : ℕ) (s t : List ℕ) (x : Checked) (p : x ≡ checked most s) 
       module _ (n : ℕ) (e : y ≡ N.Rows n) where
         pub rows-fit : 3 * n ≤ length t
         rows-fit =
-            let (few, same) = rows-inv (length t / 3) (length (meets .es)) n (found told e) in
+            let (few, same) = rows-inv (length t / 3) (length (meets .es)) n (found counted e) in
             omega (arith, div-add-mod' (length t) 3)
 
         pub on-rows : (u : List ℕ) → Puts n (w .«type_id») s t u → filled (T.Listed n k) u ≡ tabled most s t
         unfolding Puts
         on-rows u h =
             let es : List EntryAt = meets .es in
-            let (few, same) = rows-inv (length t / 3) (length es) n (found told e) in
+            let (few, same) = rows-inv (length t / 3) (length es) n (found counted e) in
             let fit = rows-fit in
             let long = length-rows es in
             let last : 3 * (0 + length es) ≡ length (rows es) = omega arith in

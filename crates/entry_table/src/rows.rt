@@ -20,20 +20,20 @@ fn count(s: &[u8], type_id: u32, room: usize) -> Count
     ensures { λ r. ⌜ Counts room «type_id» (now (s .entry)) r ⌝ }
 {
     let mut cursor = steps::first();
-    let mut n: usize = 0;
+    let mut rows: usize = 0;
     loop {
         match steps::advance(s, type_id, cursor) {
             Advance::Done => {
-                return Count::Rows(n);
+                return Count::Rows(rows);
             }
             Advance::Moved(next) => {
                 cursor = next;
             }
             Advance::Found(_, next) => {
-                if n == room {
+                if rows == room {
                     return Count::TooMany;
                 }
-                n += 1;
+                rows += 1;
                 cursor = next;
             }
         }
@@ -86,10 +86,10 @@ fn put_row(table: &mut [u32], i: usize, row: Row)
     table[at + 2] = (span(row) % 4294967296) as u32;
 }
 
-// Stores the first `n` rows, for which there is room.
-fn put_rows(s: &[u8], type_id: u32, n: usize, table: &mut [u32])
-    requires { ⌜ 3 * n ≤ length (now table) ⌝ }
-    ensures { λ _. ⌜ Puts n «type_id» (now (s .entry)) (now (table .entry)) (now (table .exit)) ⌝ }
+// Stores the first `count` rows, for which there is room.
+fn put_rows(s: &[u8], type_id: u32, count: usize, table: &mut [u32])
+    requires { ⌜ 3 * count ≤ length (now table) ⌝ }
+    ensures { λ _. ⌜ Puts count «type_id» (now (s .entry)) (now (table .entry)) (now (table .exit)) ⌝ }
 {
     let mut cursor = steps::first();
     let mut i: usize = 0;
@@ -102,7 +102,7 @@ fn put_rows(s: &[u8], type_id: u32, n: usize, table: &mut [u32])
                 cursor = next;
             }
             Advance::Found(row, next) => {
-                if i == n {
+                if i == count {
                     return;
                 }
                 put_row(table, i, row);
@@ -125,9 +125,9 @@ fn check_table_within(s: &[u8], table: &mut [u32], most: u64) -> Tabled
             table.len() / ROW_NUMBERS,
         ) {
             Count::TooMany => Tabled::Refused(wire::refuse(Rule::NoRoom, 0)),
-            Count::Rows(n) => {
-                put_rows(s, layout.type_id, n, table);
-                Tabled::Listed(n, end)
+            Count::Rows(rows) => {
+                put_rows(s, layout.type_id, rows, table);
+                Tabled::Listed(rows, end)
             }
         },
     }

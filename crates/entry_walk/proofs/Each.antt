@@ -12,7 +12,7 @@ use Rattle.transaction.specs.Entries.{EntryAt, credentialEntry, credentialEntri
 use Rattle.transaction.specs.Plan.{elementsOf, Plan, shut, end, field, many}
 use Rattle.transaction.specs.declared.ListName.{ListName}
 use Rattle.entry_walk.specs.Walk.{Rest, Credentials, PlanAhead}
-use Rattle.entry_walk.proofs.Walking.{rest-done, one-of, Leading, leading-of}
+use Rattle.entry_walk.proofs.Advancing.{rest-done, one-of, Leading, leading-of}
 
 module _ (P : EntryAt → Type 0) where
   abbrev pub Each : List EntryAt → Type 0
@@ -33,7 +33,7 @@ module _ (P : EntryAt → Type 0) where
           let o = one-of E entry Later s b (suc c) at es (zero-lt-suc c) r in
           subst Each (sym (o .entries))
           (each-append (entry at (o .next) (o .value)) (o .others) (one (o .prev) at (o .value) (o .next) (o .stands))
-          (rest-each c (o .next) (o .others) (subst (λ (k : ℕ). Rest s E entry Later k (o .next) (o .others)) (sub-one (suc c)) (o .behind))))
+          (rest-each c (o .next) (o .others) (subst (λ (k : ℕ). Rest s E entry Later k (o .next) (o .others)) (sub-one (suc c)) (o .after))))
 
     module _ (element : (l : ListName) (prev : List ℕ) (at : ℕ) (v : elementsOf l .Element) (m : ℕ) → read (elementsOf l .element prev) s at ≡ took v m
         → Each (elementsOf l .entries at m v))
@@ -50,7 +50,7 @@ module _ (P : EntryAt → Type 0) where
 
       pub plan-each : (most : ℕ) (p : Plan) (at : ℕ) (es : List EntryAt) → PlanAhead s most p at es → Each es
       plan-each most shut at es h = absurd h
-      plan-each most end at es h = credentials-each (h .value) (h .next) es (h .behind)
-      plan-each most (field f p) at es h = plan-each most p (h .next) es (h .behind)
+      plan-each most end at es h = credentials-each (h .value) (h .next) es (h .after)
+      plan-each most (field f p) at es h = plan-each most p (h .next) es (h .after)
       plan-each most (many l least p) at es h =
-          rest-each (elementsOf l .element) (elementsOf l .entries) (PlanAhead s most p) (element l) (plan-each most p) (h .value) (h .next) es (h .behind)
+          rest-each (elementsOf l .element) (elementsOf l .entries) (PlanAhead s most p) (element l) (plan-each most p) (h .value) (h .next) es (h .after)

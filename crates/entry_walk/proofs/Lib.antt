@@ -1,4 +1,4 @@
 -- The laws that proofs cite
 pub mod Each
 pub mod Starting
-pub mod Walking
+pub mod Advancing

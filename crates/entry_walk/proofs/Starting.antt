@@ -24,7 +24,7 @@ use Rattle.transaction.specs.declared.TransactionType.{TransactionType}
 use Rattle.transaction.specs.declared.TransactionType.the-variants as K
 use Rattle.transaction.proofs.Reading.{written-next}
 use Rattle.entry_walk.specs.Walk.{start, PlanAhead, Ahead}
-use Rattle.entry_walk.proofs.Walking.{integer-next}
+use Rattle.entry_walk.proofs.Advancing.{integer-next}
 
 -- the head has 42 bytes, so the outputs' count starts at 42
 head-long : (most : ℕ) (h : Head TransactionType) → head (avm most) .Good h → length (head (avm most) .write h) ≡ 42
@@ -81,7 +81,7 @@ module _ (s : List ℕ) (b : Slice s) (most : ℕ) where
         value = x;
         next = m;
         stands = ex;
-        behind = subst (λ (j : ℕ). PlanAhead s most p m (planEntries most p w j ++ later)) place
+        after = subst (λ (j : ℕ). PlanAhead s most p m (planEntries most p w j ++ later)) place
             (plan-ahead p d m w n (ew ∙ ap (took w) there) later h);
       }
   plan-ahead (many l least p) d at v n e later h =
@@ -97,14 +97,14 @@ module _ (s : List ℕ) (b : Slice s) (most : ℕ) where
         value = c;
         next = f;
         stands = ec;
-        behind =
+        after =
             record {
               prev = [];
               values = x;
               next = m;
               later = ys ++ later;
               stands = el;
-              behind = plan-ahead p d m w n (ew ∙ ap (took w) there) later h;
+              after = plan-ahead p d m w n (ew ∙ ap (took w) there) later h;
               entries =
                   ap₂ (λ (i j : ℕ). (entriesFrom (elementsOf l .element) (elementsOf l .entries) [] i x ++ planEntries most p w j) ++ later)
                   (sym (integer-next s b at c f ec)) (sym place)
@@ -122,7 +122,7 @@ module _ (s : List ℕ) (b : Slice s) (most : ℕ) where
         value = x;
         next = f;
         stands = ex;
-        behind =
+        after =
             record {
               wants = ws;
               slots = _;

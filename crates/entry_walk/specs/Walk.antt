@@ -35,11 +35,11 @@ credentialBytes = andThen (integer 4) (λ t. andThen (integer 4) (λ n. blob (si
 
 module _ (s : List ℕ) where
   -- a value stands at `at`, and Later holds of it and the offset just past it
-  pub record Behind {A : Type 0} (F : Format A) (at : ℕ) (Later : A → ℕ → Type 0) : Type 0 where
+  pub record Followed {A : Type 0} (F : Format A) (at : ℕ) (Later : A → ℕ → Type 0) : Type 0 where
     pub value : A
     pub next : ℕ
     pub stands : read F s at ≡ took value next
-    pub behind : Later value next
+    pub after : Later value next
 
   -- c elements of a list stand from `at` on; es are their entries and those that Later has after them
   pub record Rest {A : Type 0} (E : List ℕ → Format A) (entry : ℕ → ℕ → A → List EntryAt) (Later : ℕ → List EntryAt → Type 0) (c at : ℕ)
@@ -49,7 +49,7 @@ module _ (s : List ℕ) where
     pub next : ℕ
     pub later : List EntryAt
     pub stands : read (seriesFrom E prev c) s at ≡ took values next
-    pub behind : Later next later
+    pub after : Later next later
     pub entries : es ≡ entriesFrom E entry prev at values ++ later
 
   -- c credentials stand from `at` on; es are their entries
@@ -65,9 +65,9 @@ module _ (s : List ℕ) where
     -- the segments of a plan and the credentials stand from `at` on; es are their entries
     abbrev pub PlanAhead : Plan → ℕ → List EntryAt → Type 0
     PlanAhead shut at es = ⊥
-    PlanAhead end at es = Behind (integer 4) at (λ c n. Credentials c n es)
-    PlanAhead (field f p) at es = Behind (contentOf most f) at (λ v n. PlanAhead p n es)
-    PlanAhead (many l least p) at es = Behind (integer 4) at (λ c n. Rest (elementsOf l .element) (elementsOf l .entries) (PlanAhead p) c n es)
+    PlanAhead end at es = Followed (integer 4) at (λ c n. Credentials c n es)
+    PlanAhead (field f p) at es = Followed (contentOf most f) at (λ v n. PlanAhead p n es)
+    PlanAhead (many l least p) at es = Followed (integer 4) at (λ c n. Rest (elementsOf l .element) (elementsOf l .entries) (PlanAhead p) c n es)
 
     -- c elements of a list, and what follows it
     abbrev pub ListAhead : ListName → ℕ → Plan → ℕ → List EntryAt → Type 0

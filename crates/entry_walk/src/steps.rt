@@ -46,21 +46,21 @@ fn advance_counted(s: &[u8], phase: u32, at: usize) -> Advance
 }
 
 // Enters the next segment, or skips it if it is a field.
-fn advance_later(s: &[u8], type_id: u32, c: Cursor) -> Advance
-    ensures { λ r. ⌜ LaterAdvance «type_id» (now (s .entry)) c r ⌝ }
-    ensures { λ r. ⌜ Shorter c r ⌝ }
+fn advance_later(s: &[u8], type_id: u32, cursor: Cursor) -> Advance
+    ensures { λ r. ⌜ LaterAdvance «type_id» (now (s .entry)) cursor r ⌝ }
+    ensures { λ r. ⌜ Shorter cursor r ⌝ }
 {
-    if plan::LAST_PHASE < c.phase {
+    if plan::LAST_PHASE < cursor.phase {
         return Advance::Done;
     }
-    let phase = c.phase + 1;
+    let phase = cursor.phase + 1;
     match rows::due_at(type_id, phase) {
         Due::Nothing => Advance::Done,
-        Due::Finish => advance_counted(s, phase, c.at),
-        Due::List(_, _) => advance_counted(s, phase, c.at),
+        Due::Finish => advance_counted(s, phase, cursor.at),
+        Due::List(_, _) => advance_counted(s, phase, cursor.at),
         Due::Field(field) => Advance::Moved(Cursor {
             phase,
-            at: rows::field_past(s, c.at, field),
+            at: rows::field_past(s, cursor.at, field),
             left: 0,
             inner: 0,
         }),
@@ -68,71 +68,71 @@ fn advance_later(s: &[u8], type_id: u32, c: Cursor) -> Advance
 }
 
 // Enters an initial state, just past its FxID and the count of its outputs.
-fn advance_state(s: &[u8], c: Cursor) -> Advance
-    requires { ⌜ 0 < c .left ⌝ }
-    ensures { λ r. ⌜ ElementAdvance L.State (now (s .entry)) c r ⌝ }
-    ensures { λ r. ⌜ Shorter c r ⌝ }
+fn advance_state(s: &[u8], cursor: Cursor) -> Advance
+    requires { ⌜ 0 < cursor .left ⌝ }
+    ensures { λ r. ⌜ ElementAdvance L.State (now (s .entry)) cursor r ⌝ }
+    ensures { λ r. ⌜ Shorter cursor r ⌝ }
 {
-    let Integer::Value(_, outputs) = wire::u32_at(s, c.at) else {
+    let Integer::Value(_, outputs) = wire::u32_at(s, cursor.at) else {
         return Advance::Done;
     };
     let Integer::Value(inner, first) = wire::u32_at(s, outputs) else {
         return Advance::Done;
     };
     Advance::Moved(Cursor {
-        phase: c.phase,
+        phase: cursor.phase,
         at: first,
-        left: c.left - 1,
+        left: cursor.left - 1,
         inner,
     })
 }
 
 // Steps over an element, which is an entry; enters an initial state, whose outputs are the entries.
-fn advance_element(s: &[u8], list: ListName, c: Cursor) -> Advance
-    requires { ⌜ 0 < c .left ⌝ }
-    ensures { λ r. ⌜ ElementAdvance list (now (s .entry)) c r ⌝ }
-    ensures { λ r. ⌜ Shorter c r ⌝ }
+fn advance_element(s: &[u8], list: ListName, cursor: Cursor) -> Advance
+    requires { ⌜ 0 < cursor .left ⌝ }
+    ensures { λ r. ⌜ ElementAdvance list (now (s .entry)) cursor r ⌝ }
+    ensures { λ r. ⌜ Shorter cursor r ⌝ }
 {
     let entry_kind = rows::entry_of(list);
     if entry_kind == STATE_OUTPUT {
-        return advance_state(s, c);
+        return advance_state(s, cursor);
     }
-    match rows::element_past(s, c.at, list) {
+    match rows::element_past(s, cursor.at, list) {
         Integer::Refused(_) => Advance::Done,
         Integer::Value(_, end) => Advance::Found(
             Row {
                 kind: entry_kind,
-                start: c.at,
+                start: cursor.at,
                 end,
             },
             Cursor {
-                phase: c.phase,
+                phase: cursor.phase,
                 at: end,
-                left: c.left - 1,
+                left: cursor.left - 1,
                 inner: 0,
             },
         ),
     }
 }
 
-fn advance_state_output(s: &[u8], c: Cursor) -> Advance
-    requires { ⌜ 0 < c .inner ⌝ }
-    ensures { λ r. ⌜ StateOutputAdvance (now (s .entry)) c r ⌝ }
-    ensures { λ r. ⌜ Shorter c r ⌝ }
+fn advance_state_output(s: &[u8], cursor: Cursor) -> Advance
+    requires { ⌜ 0 < cursor .inner ⌝ }
+    ensures { λ r. ⌜ StateOutputAdvance (now (s .entry)) cursor r ⌝ }
+    ensures { λ r. ⌜ Shorter cursor r ⌝ }
 {
-    match element::lengths::output_past(s, c.at) {
+    match element::lengths::output_past(s, cursor.at) {
         End::Refused(_) => Advance::Done,
         End::At(end) => Advance::Found(
             Row {
                 kind: STATE_OUTPUT,
-                start: c.at,
+                start: cursor.at,
                 end,
             },
             Cursor {
-                phase: c.phase,
+                phase: cursor.phase,
                 at: end,
-                left: c.left,
-                inner: c.inner - 1,
+                left: cursor.left,
+                inner: cursor.inner - 1,
             },
         ),
     }
@@ -151,23 +151,23 @@ fn credential_past(s: &[u8], at: usize) -> End
     wire::field_at(s, first, transaction::SIGNATURE_WIDTH * signatures as usize)
 }
 
-fn advance_credential(s: &[u8], c: Cursor) -> Advance
-    requires { ⌜ 0 < c .left ⌝ }
-    ensures { λ r. ⌜ CredentialAdvance (now (s .entry)) c r ⌝ }
-    ensures { λ r. ⌜ Shorter c r ⌝ }
+fn advance_credential(s: &[u8], cursor: Cursor) -> Advance
+    requires { ⌜ 0 < cursor .left ⌝ }
+    ensures { λ r. ⌜ CredentialAdvance (now (s .entry)) cursor r ⌝ }
+    ensures { λ r. ⌜ Shorter cursor r ⌝ }
 {
-    match credential_past(s, c.at) {
+    match credential_past(s, cursor.at) {
         End::Refused(_) => Advance::Done,
         End::At(end) => Advance::Found(
             Row {
                 kind: CREDENTIAL,
-                start: c.at,
+                start: cursor.at,
                 end,
             },
             Cursor {
-                phase: c.phase,
+                phase: cursor.phase,
                 at: end,
-                left: c.left - 1,
+                left: cursor.left - 1,
                 inner: 0,
             },
         ),
@@ -175,27 +175,27 @@ fn advance_credential(s: &[u8], c: Cursor) -> Advance
 }
 
 // The entry at a cursor and the cursor just past it; or, at the end of a segment, the cursor in the next one.
-pub fn advance(s: &[u8], type_id: u32, c: Cursor) -> Advance
-    ensures { λ r. ⌜ AdvanceAhead «type_id» (now (s .entry)) c r ⌝ }
-    ensures { λ r. ⌜ Shorter c r ⌝ }
+pub fn advance(s: &[u8], type_id: u32, cursor: Cursor) -> Advance
+    ensures { λ r. ⌜ AdvanceAhead «type_id» (now (s .entry)) cursor r ⌝ }
+    ensures { λ r. ⌜ Shorter cursor r ⌝ }
 {
-    match rows::due_at(type_id, c.phase) {
-        Due::Nothing => advance_later(s, type_id, c),
-        Due::Field(_) => advance_later(s, type_id, c),
+    match rows::due_at(type_id, cursor.phase) {
+        Due::Nothing => advance_later(s, type_id, cursor),
+        Due::Field(_) => advance_later(s, type_id, cursor),
         Due::Finish => {
-            if c.left == 0 {
+            if cursor.left == 0 {
                 return Advance::Done;
             }
-            advance_credential(s, c)
+            advance_credential(s, cursor)
         }
         Due::List(list, _) => {
-            if 0 < c.inner {
-                return advance_state_output(s, c);
+            if 0 < cursor.inner {
+                return advance_state_output(s, cursor);
             }
-            if 0 < c.left {
-                return advance_element(s, list, c);
+            if 0 < cursor.left {
+                return advance_element(s, list, cursor);
             }
-            advance_later(s, type_id, c)
+            advance_later(s, type_id, cursor)
         }
     }
 }

@@ -121,29 +121,54 @@ first-of l c prev s at v n e =
     let (a, m, ea, e₁) = parse-inv (E prev) s at (λ a m. listParse E (left E) c (left E prev a) s m refused (λ l k. took (a ∷ l) k)) v n e in
     let (u, k, eu, e₂) = list-inv E (left E) c (left E prev a) s m (λ l k. took (a ∷ l) k) v n e₁ in
     let i : k ≡ n = cc in
-    record { element = a; others = u; next = m; all = cc; first = ea; rest = eu ∙ ap (took u) i }
+    record { element = a; others = u; next = m; all = cc; first = ea; rest = subst (λ (k : ℕ). read (seriesFrom E (E prev .write a) c) s m ≡ took u k) i eu }
 
--- ---- c elements: what skips those that are left skips all of them
+-- ---- elements: what skips the n that are left, from `at` on, skips all c from `start` on
 
+-- n elements: the first is refused; it is skipped, and then the others; there are none
 module _ (l : ListName) (s : List ℕ) (at : ℕ) (x : Integer) (h : ElementTells l s at x) where
-  pub elements-unread : (c : ℕ) (r : End) (e : Refusal) → 0 < c → x ≡ N.Refused e → ElementsPast l c s at r
-  elements-unread zero r e o q prev v n i = absurd (not-suc-le-zero o)
-  elements-unread (suc c) r e o q prev v n i =
-      let f = first-of l c prev s at v n i in
+  first-unread : (n : ℕ) (r : End) (e : Refusal) → 0 < n → x ≡ N.Refused e → ElementsPast l n s at r
+  first-unread zero r e o q prev v m i = absurd (not-suc-le-zero o)
+  first-unread (suc n) r e o q prev v m i =
+      let f = first-of l n prev s at v m i in
       let g = h prev (f .element) (f .next) (f .first) in
       let z : _≡_ {A = ℕ} 0 1 = cc in absurd (omega arith)
 
-  pub elements-on : (c k m : ℕ) (r : End) → 0 < c → x ≡ N.Value k m → ElementsPast l (c - 1) s m r → ElementsPast l c s at r
-  elements-on zero k m r o q d prev v n i = absurd (not-suc-le-zero o)
-  elements-on (suc c) k m r o q d prev v n i =
-      let f = first-of l c prev s at v n i in
+  first-past : (n k m : ℕ) (r : End) → 0 < n → x ≡ N.Value k m → ElementsPast l (n - 1) s m r → ElementsPast l n s at r
+  first-past zero k m r o q d prev v end i = absurd (not-suc-le-zero o)
+  first-past (suc n) k m r o q d prev v end i =
+      let f = first-of l n prev s at v end i in
       let g = h prev (f .element) (f .next) (f .first) in
       let next : f .next ≡ m = cc in
-      let d′ : ElementsPast l c s m r = subst (λ (c : ℕ). ElementsPast l c s m r) (sub-one (suc c)) d in
-      d′ _ (f .others) n (subst
-      (λ (j : ℕ). read (seriesFrom (elementsOf l .element) (elementsOf l .element prev .write (f .element)) c) s j ≡ took (f .others) n) next (f .rest))
+      let d′ : ElementsPast l n s m r = subst (λ (n : ℕ). ElementsPast l n s m r) (sub-one (suc n)) d in
+      d′ _ (f .others) end (subst
+      (λ (j : ℕ). read (seriesFrom (elementsOf l .element) (elementsOf l .element prev .write (f .element)) n) s j ≡ took (f .others) end) next (f .rest))
 
-pub elements-end : (l : ListName) (c : ℕ) (s : List ℕ) (at : ℕ) → c ≤ 0 → ElementsPast l c s at (P.At at)
+none-left : (l : ListName) (n : ℕ) (s : List ℕ) (at : ℕ) → n ≤ 0 → ElementsPast l n s at (P.At at)
 unfolding items listParse
-elements-end l zero s at o prev v n i = let e : at ≡ n = cc in ap P.At e
-elements-end l (suc c) s at o prev v n i = absurd (not-suc-le-zero o)
+none-left l zero s at o prev v m i = let e : at ≡ m = cc in ap P.At e
+none-left l (suc n) s at o prev v m i = absurd (not-suc-le-zero o)
+
+module _ (l : ListName) (s : List ℕ) (c start : ℕ) where
+  unfoldable pub ElementsOnward : ℕ → ℕ → Type 0
+  ElementsOnward n at = (r : End) → ElementsPast l n s at r → ElementsPast l c s start r
+
+  pub elements-start : ElementsOnward c start
+  unfolding ElementsOnward
+  elements-start r h = h
+
+  module _ (n at : ℕ) (o : ElementsOnward n at) where
+    pub elements-end : n ≤ 0 → ElementsPast l c s start (P.At at)
+    unfolding ElementsOnward
+    elements-end z = o (P.At at) (none-left l n s at z)
+
+    module _ (x : Integer) (h : ElementTells l s at x) (some-left : 0 < n) where
+      pub elements-unread : (e : Refusal) (r : End) → x ≡ N.Refused e → ElementsPast l c s start r
+      unfolding ElementsOnward
+      elements-unread e r q = o r (first-unread l s at x h n r e some-left q)
+
+      pub elements-on : (k m : ℕ) → x ≡ N.Value k m → ElementsOnward (n - 1) m
+      unfolding ElementsOnward
+      elements-on k m q r d = o r (first-past l s at x h n k m r some-left q d)
+
+pub ruleset elements-passing = (elements-start, elements-end, elements-unread, elements-on)

@@ -19,27 +19,27 @@ use Rattle.transaction.specs.declared.TransactionType.{TransactionType}
 use Rattle.transaction.specs.declared.TransactionType.the-variants as K
 use Rattle.plan.specs.declared.Due.{Due}
 use Rattle.plan.specs.declared.Due.the-variants as D
-use Rattle.plan.specs.Due.{tail, behind, due, lastPhase, Live, dueOf}
+use Rattle.plan.specs.Due.{tail, after, due, lastPhase, Live, dueOf, isList, isField, isOpen, isFinish}
 
 -- ---- rows: by the code's tests of how many segments are begun
 
 module _ (p : Plan) (begun : ℕ) where
-  pub past : (n : ℕ) → behind n p ≡ shut → n ≤ begun → D.Nothing ≡ dueOf (behind begun p)
+  pub past : (n : ℕ) → after n p ≡ shut → n ≤ begun → D.Nothing ≡ dueOf (after begun p)
   past n e h =
       let j : begun ≡ begun - n + n = omega arith in
-      sym (ap (λ (i : ℕ). dueOf (behind i p)) j ∙ ap dueOf (beyond (begun - n)))
+      sym (ap (λ (i : ℕ). dueOf (after i p)) j ∙ ap dueOf (beyond (begun - n)))
     where
-      beyond : (k : ℕ) → behind (k + n) p ≡ shut
-      beyond zero = let j : 0 + n ≡ n = omega arith in ap (λ (i : ℕ). behind i p) j ∙ e
+      beyond : (k : ℕ) → after (k + n) p ≡ shut
+      beyond zero = let j : 0 + n ≡ n = omega arith in ap (λ (i : ℕ). after i p) j ∙ e
       beyond (suc k) =
           let j : suc k + n ≡ suc (k + n) = omega arith in
-          ap (λ (i : ℕ). behind i p) j ∙ ap tail (beyond k)
+          ap (λ (i : ℕ). after i p) j ∙ ap tail (beyond k)
 
   module _ (z : Due) where
-    pub part-first : begun < 1 → z ≡ dueOf p → z ≡ dueOf (behind begun p)
+    pub part-first : begun < 1 → z ≡ dueOf p → z ≡ dueOf (after begun p)
     part-first h e = let j : begun ≡ 0 = omega arith in rw j e
 
-    pub part-here : (i j : ℕ) → i ≤ begun → begun < j → j ≡ suc i → z ≡ dueOf (behind i p) → z ≡ dueOf (behind begun p)
+    pub part-here : (i j : ℕ) → i ≤ begun → begun < j → j ≡ suc i → z ≡ dueOf (after i p) → z ≡ dueOf (after begun p)
     part-here i j h k l e = let j : begun ≡ i = omega arith in rw j e
 
 pub ruleset row = (part-first, part-here, past)
@@ -47,10 +47,10 @@ pub ruleset row = (part-first, part-here, past)
 -- ---- types: by the code's tests of the type id, in the order of `typeOf` and of `types`
 
 module _ (z : Due) (begun «type_id» i : ℕ) (a b : TransactionType) where
-  pub type-here : «type_id» ≡ i → z ≡ dueOf (behind begun (ownPlan a)) → z ≡ dueOf (behind begun (ownPlan (pick (eqb «type_id» i) a b)))
+  pub type-here : «type_id» ≡ i → z ≡ dueOf (after begun (ownPlan a)) → z ≡ dueOf (after begun (ownPlan (pick (eqb «type_id» i) a b)))
   type-here h e = rw (eq-eqb «type_id» i h) e
 
-  pub type-other : («type_id» ≡ i → ⊥) → z ≡ dueOf (behind begun (ownPlan b)) → z ≡ dueOf (behind begun (ownPlan (pick (eqb «type_id» i) a b)))
+  pub type-other : («type_id» ≡ i → ⊥) → z ≡ dueOf (after begun (ownPlan b)) → z ≡ dueOf (after begun (ownPlan (pick (eqb «type_id» i) a b)))
   type-other h e = rw (ne-eqb «type_id» i h) e
 
 pub ruleset by-type = (type-here, type-other)
@@ -66,9 +66,9 @@ pub ruleset numbers = (number-here, number-other)
 
 -- ---- plans: by the code's tests of the phase
 
-behind-tail : (k : ℕ) (p : Plan) → behind (suc k) p ≡ behind k (tail p)
-behind-tail zero p = refl
-behind-tail (suc k) p = ap tail (behind-tail k p)
+after-tail : (k : ℕ) (p : Plan) → after (suc k) p ≡ after k (tail p)
+after-tail zero p = refl
+after-tail (suc k) p = ap tail (after-tail k p)
 
 module _ (z : Due) («type_id» phase : ℕ) where
   pub phase-first : phase < 1 → z ≡ D.Nothing → z ≡ dueOf (due phase (planOf «type_id»))
@@ -77,25 +77,36 @@ module _ (z : Due) («type_id» phase : ℕ) where
   pub phase-here : (i j : ℕ) → i ≤ phase → phase < j → j ≡ suc i → z ≡ dueOf (due i (planOf «type_id»)) → z ≡ dueOf (due phase (planOf «type_id»))
   phase-here i j h k l e = let j : phase ≡ i = omega arith in rw j e
 
-  pub in-own : 4 ≤ phase → z ≡ dueOf (behind (phase - 4) (ownPlan (typeOf «type_id»))) → z ≡ dueOf (due phase (planOf «type_id»))
+  pub in-own : 4 ≤ phase → z ≡ dueOf (after (phase - 4) (ownPlan (typeOf «type_id»))) → z ≡ dueOf (due phase (planOf «type_id»))
   in-own f h =
       let p : Plan = planOf «type_id» in
       let k : ℕ = phase - 4 in
       let j : phase ≡ suc (suc (suc (suc k))) = omega arith in
-      h ∙ sym (ap (λ (i : ℕ). dueOf (due i p)) j ∙ ap dueOf (behind-tail (suc (suc k)) p ∙ behind-tail (suc k) (tail p) ∙ behind-tail k (tail (tail p))))
+      h ∙ sym (ap (λ (i : ℕ). dueOf (due i p)) j ∙ ap dueOf (after-tail (suc (suc k)) p ∙ after-tail (suc k) (tail p) ∙ after-tail k (tail (tail p))))
 
 pub ruleset by-phase = (phase-first, phase-here, in-own)
 
--- a function of what is due, by the case that the match found
-module _ (x y : Due) (p : x ≡ y) {R : Type 0} (f : Due → R) where
-  pub on-due : (z : R) (d : Due) → x ≡ d → z ≡ f d → z ≡ f y
-  on-due z d q h = h ∙ sym (ap f (found p q))
+-- the questions about what is due, by the case that the match found
+module _ (x y : Due) (p : x ≡ y) (z : Bool) (d : Due) (q : x ≡ d) where
+  pub on-list : z ≡ isList d → z ≡ isList y
+  on-list h = h ∙ sym (ap isList (found p q))
+
+  pub on-finish : z ≡ isFinish d → z ≡ isFinish y
+  on-finish h = h ∙ sym (ap isFinish (found p q))
+
+  pub on-field : (f : FieldName) → z ≡ isField f d → z ≡ isField f y
+  on-field f h = h ∙ sym (ap (isField f) (found p q))
+
+  pub on-open : (l : ListName) → z ≡ isOpen l d → z ≡ isOpen l y
+  on-open l h = h ∙ sym (ap (isOpen l) (found p q))
 
 pub same-names : (a b c d : ℕ) → a ≡ c → b ≡ d → eqb a b ≡ eqb c d
 same-names a b c d h k = rw (h, k)
 
+pub ruleset by-due = (on-list, on-finish, on-field, on-open, same-names)
+
 -- no plan has a phase after the last
-plan-over : (k : TransactionType) → behind lastPhase (plan k) ≡ shut
+plan-over : (k : TransactionType) → after lastPhase (plan k) ≡ shut
 plan-over K.Base = refl
 plan-over K.CreateAsset = refl
 plan-over K.Operation = refl
@@ -105,7 +116,7 @@ plan-over K.Export = refl
 pub phase-small : («type_id» phase : ℕ) (f : Due → Bool) → f D.Nothing ≡ false → f (dueOf (due phase (planOf «type_id»))) ≡ true → phase ≤ lastPhase
 phase-small «type_id» phase f none h = go (leb phase lastPhase) refl
   where
-    beyond : (k : ℕ) → lastPhase ≤ k → f (dueOf (behind k (planOf «type_id»))) ≡ true → ⊥
+    beyond : (k : ℕ) → lastPhase ≤ k → f (dueOf (after k (planOf «type_id»))) ≡ true → ⊥
     beyond k e h = false≢true (sym none ∙ ap f (past (planOf «type_id») k lastPhase (plan-over (typeOf «type_id»)) e) ∙ h)
 
     go : (b : Bool) → leb phase lastPhase ≡ b → phase ≤ lastPhase

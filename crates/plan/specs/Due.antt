@@ -27,14 +27,15 @@ tail end = shut
 tail (field f q) = q
 tail (many l least q) = q
 
-abbrev pub behind : ℕ → Plan → Plan
-behind zero p = p
-behind (suc k) p = tail (behind k p)
+-- the plan without its first k segments
+abbrev pub after : ℕ → Plan → Plan
+after zero p = p
+after (suc k) p = tail (after k p)
 
 -- what is due at a phase: at 0, before the start, nothing; at k + 1, the plan without its first k segments
 abbrev pub due : ℕ → Plan → Plan
 due zero p = shut
-due (suc k) p = behind k p
+due (suc k) p = after k p
 
 -- in a later phase nothing is due. No row comes near it, so that a longer one leaves it as it is
 abbrev pub lastPhase : ℕ

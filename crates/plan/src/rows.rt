@@ -5,7 +5,7 @@ ghost use Rattle.wire.specs.Series.{series};
 ghost use Rattle.wire.specs.Answer.{ended};
 ghost use Rattle.transaction.specs.Plan.{contentOf, fieldCredential, elementsOf, ownPlan, typeOf, isType, planOf};
 ghost use Rattle.transaction.specs.declared.TransactionType.the-variants as K;
-ghost use Rattle.plan.specs.Due.{behind, due, dueOf, credentialAsked, entryOf, placeOf, FieldPast, FieldSigns, silentOf, ElementTells};
+ghost use Rattle.plan.specs.Due.{after, due, dueOf, credentialAsked, entryOf, placeOf, FieldPast, FieldSigns, silentOf, ElementTells};
 ghost use Rattle.plan.specs.Due.{ElementsPast, AskingTells};
 use crate::Due;
 use transaction::FieldName;
@@ -41,7 +41,7 @@ pub fn is_type(number: u64) -> bool
 }
 
 fn base_due(begun: u32) -> Due
-    ensures { λ r. ⌜ r ≡ dueOf (behind begun (ownPlan K.Base)) ⌝ }
+    ensures { λ r. ⌜ r ≡ dueOf (after begun (ownPlan K.Base)) ⌝ }
 {
     if begun < 1 {
         return Due::Finish;
@@ -50,7 +50,7 @@ fn base_due(begun: u32) -> Due
 }
 
 fn asset_due(begun: u32) -> Due
-    ensures { λ r. ⌜ r ≡ dueOf (behind begun (ownPlan K.CreateAsset)) ⌝ }
+    ensures { λ r. ⌜ r ≡ dueOf (after begun (ownPlan K.CreateAsset)) ⌝ }
 {
     if begun < 1 {
         return Due::Field(FieldName::Name);
@@ -71,7 +71,7 @@ fn asset_due(begun: u32) -> Due
 }
 
 fn operation_due(begun: u32) -> Due
-    ensures { λ r. ⌜ r ≡ dueOf (behind begun (ownPlan K.Operation)) ⌝ }
+    ensures { λ r. ⌜ r ≡ dueOf (after begun (ownPlan K.Operation)) ⌝ }
 {
     if begun < 1 {
         return Due::List(ListName::Operation, 1);
@@ -83,7 +83,7 @@ fn operation_due(begun: u32) -> Due
 }
 
 fn import_due(begun: u32) -> Due
-    ensures { λ r. ⌜ r ≡ dueOf (behind begun (ownPlan K.Import)) ⌝ }
+    ensures { λ r. ⌜ r ≡ dueOf (after begun (ownPlan K.Import)) ⌝ }
 {
     if begun < 1 {
         return Due::Field(FieldName::Chain);
@@ -98,7 +98,7 @@ fn import_due(begun: u32) -> Due
 }
 
 fn export_due(begun: u32) -> Due
-    ensures { λ r. ⌜ r ≡ dueOf (behind begun (ownPlan K.Export)) ⌝ }
+    ensures { λ r. ⌜ r ≡ dueOf (after begun (ownPlan K.Export)) ⌝ }
 {
     if begun < 1 {
         return Due::Field(FieldName::Chain);
@@ -115,7 +115,7 @@ fn export_due(begun: u32) -> Due
 // What is due after the memo, past the first `begun` segments there: one test for each type, in the order of `typeOf`. Any other number counts as
 // the last type, which needs no test.
 fn own_due(type_id: u32, begun: u32) -> Due
-    ensures { λ r. ⌜ r ≡ dueOf (behind begun (ownPlan (typeOf «type_id»))) ⌝ }
+    ensures { λ r. ⌜ r ≡ dueOf (after begun (ownPlan (typeOf «type_id»))) ⌝ }
 {
     if type_id == 0 {
         return base_due(begun);

@@ -41,6 +41,10 @@ module _ {R : Type 0} (s : List ℕ) (stop : Refusal → R) (go : ℕ → R) whe
 
 -- ---- lengths and offsets
 
+-- the length of n signatures fits in 64 bits if n fits in 32
+pub signatures-fit : (n : ℕ) → n < 256 ^ 4 → 65 * n < 2 ^ 64
+signatures-fit n h = omega arith
+
 pub length-pieces : (ps : List Piece) (l : List (List ℕ)) → pieces ps .Good l → length (pieces ps .write l) ≡ size ps
 unfolding pieces size integer
 length-pieces [] l h = refl
@@ -67,12 +71,12 @@ pub by-front : (a b c d : List ℕ) (n j : ℕ) → length a ≡ n → length b 
     → (n ≤ j → getD c (j - n) 0 ≡ getD d (j - n) 0) → getD (a ++ c) j 0 ≡ getD (b ++ d) j 0
 by-front a b c d n j ea eb f g = go (decLe n j)
   where
-    behind : (x y : List ℕ) → length x ≡ n → n ≤ j → getD (x ++ y) j 0 ≡ getD y (j - n) 0
-    behind x y e h = ap (λ (m : ℕ). getD (x ++ y) m 0) (omega arith) ∙ getD-append-add x y (j - n) 0
+    past : (x y : List ℕ) → length x ≡ n → n ≤ j → getD (x ++ y) j 0 ≡ getD y (j - n) 0
+    past x y e h = ap (λ (m : ℕ). getD (x ++ y) m 0) (omega arith) ∙ getD-append-add x y (j - n) 0
 
     go : Dec (n ≤ j) → getD (a ++ c) j 0 ≡ getD (b ++ d) j 0
     go (no k) = List·getD-append a c 0 j (omega arith) ∙ f (omega arith) ∙ sym (List·getD-append b d 0 j (omega arith))
-    go (yes k) = behind a c ea k ∙ g k ∙ sym (behind b d eb k)
+    go (yes k) = past a c ea k ∙ g k ∙ sym (past b d eb k)
 
 -- the same pieces with other signatures have the same bytes outside the signatures
 pub pieces-outside : (ps : List Piece) (l m : List (List ℕ)) → pieces ps .Good l → pieces ps .Good m

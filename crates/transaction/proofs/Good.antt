@@ -278,7 +278,7 @@ own-narrow (exportTo chain list) g = tt
 
 -- ---- the whole
 
-typeId-fits : (k : TransactionType) → typeId k < 256 ^ 4
+pub typeId-fits : (k : TransactionType) → typeId k < 256 ^ 4
 typeId-fits K.Base = omega arith
 typeId-fits K.CreateAsset = omega arith
 typeId-fits K.Operation = omega arith

@@ -88,12 +88,12 @@ written-next F s at v n b t = F .sound s at v n (slice-bytes s b) t .1 .ends
 
 module _ {A R : Type 0} (F : Format A) (f : A → ℕ) (s : List ℕ) (at : ℕ) (z : R) (stop : Refusal → R) (go : A → ℕ → R) (x : Integer)
     (p : x ≡ F .parse s at N.Refused (λ v n. N.Value (f v) n)) where
-  pub on-told : (c n : ℕ) → x ≡ N.Value c n → ((v : A) → c ≡ f v → read F s at ≡ took v n → z ≡ go v n) → z ≡ F .parse s at stop go
-  on-told c n q e =
+  pub on-answered : (c n : ℕ) → x ≡ N.Value c n → ((v : A) → c ≡ f v → read F s at ≡ took v n → z ≡ go v n) → z ≡ F .parse s at stop go
+  on-answered c n q e =
       on-whole F N.Refused (λ v n. N.Value (f v) n) s at z stop go x p (N.Value c n) n q (λ d i. cc) (λ v m i. cc) (λ v i t. e v (cc) t)
 
-  pub on-told-refused : (e : Refusal) → x ≡ N.Refused e → z ≡ stop e → z ≡ F .parse s at stop go
-  on-told-refused e q r = on-refused F N.Refused (λ v n. N.Value (f v) n) s at z stop go x p e q (λ v m i. cc) (λ d i. cc) r
+  pub on-answered-refused : (e : Refusal) → x ≡ N.Refused e → z ≡ stop e → z ≡ F .parse s at stop go
+  on-answered-refused e q r = on-refused F N.Refused (λ v n. N.Value (f v) n) s at z stop go x p e q (λ v m i. cc) (λ d i. cc) r
 
 -- ---- signatures, and a credential
 

@@ -49,7 +49,7 @@ module _ (s : List ℕ) («type_id» : ℕ) (c : Wanting) (n : ℕ) (x : Wanted)
         → OfAhead «type_id» s c n (λ ws. P (blankBytes ws))
     of-next P g most ws w e =
         let f = first most ws w in
-        subst P (sym (of-first most s «type_id» t k d ws f)) (g most (f .others) (f .behind) (omega (arith, ap length (f .all))))
+        subst P (sym (of-first most s «type_id» t k d ws f)) (g most (f .others) (f .after) (omega (arith, ap length (f .all))))
 
     -- ---- the end of the blank credentials: the end of those that are left, measured from here, is the end of all
 
@@ -98,7 +98,7 @@ module _ (s : List ℕ) («type_id» : ℕ) (c : Wanting) (n : ℕ) (x : Wanted)
                 record {
                   most = R .ahead .most;
                   all = here .others;
-                  wants = here .behind;
+                  wants = here .after;
                   counts = omega (arith, ap length (here .all), R .ahead .counts);
                 };
             behind = omega (arith, R .behind);

@@ -8,11 +8,7 @@ pub asset-at-spec : {M : Type 1} → statement M
 asset-at-spec =
     tie.close
     (tie.spec
-    (λ c. search passing depth 10)  -- returns
-    (λ c. search passing depth 10)  -- returns-2
-    (λ c κs. search needs)  -- behind-key-requires
-    (λ c. search passing depth 10)  -- returns-3
-    (λ c κs. search needs)  -- behind-key-requires-2
-    (λ c. search passing depth 10)  -- returns-4
-    (λ c κs. search needs)  -- id-at-requires
-    (λ c. search passing depth 10))  -- returns-5
+    (λ c. search passing depth 10) (λ c. search passing depth 10)  -- returns, returns-2
+    (λ c κs. search needs) (λ c. search passing depth 10)  -- after-key-requires, returns-3
+    (λ c κs. search needs) (λ c. search passing depth 10)  -- after-key-requires-2, returns-4
+    (λ c κs. search needs) (λ c. search passing depth 10))  -- id-at-requires, returns-5

@@ -9,8 +9,6 @@ entry-within-spec =
     tie.close
     (tie.spec
     (λ c κs. search needs) (λ c. search needs) (λ c κs. search needs)  -- check-within-requires, enum-known-refusal, refused-requires
-    (λ c. search needs) (λ c κs. search needs) (λ c. search needs)  -- enum-known-layout, find-requires, enum-told
-    (λ c κs. search needs) (λ c. search needs) (λ c κs. search needs)  -- missing-requires, enum-known-row, row-entry-requires
-    (λ c. search entering depth 10)  -- returns
-    (λ c. search entering depth 10)  -- returns-2
-    (λ c. search entering depth 10))  -- returns-3
+    (λ c. search needs) (λ c κs. search needs) (λ c. search needs) (λ c κs. search needs)  -- enum-known-layout, find-requires, enum-told, missing-requires
+    (λ c. search needs) (λ c κs. search needs) (λ c. search entering depth 10)  -- enum-known-row, row-entry-requires, returns
+    (λ c. search entering depth 10) (λ c. search entering depth 10))  -- returns-2, returns-3

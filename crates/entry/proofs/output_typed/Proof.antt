@@ -8,9 +8,7 @@ pub output-typed-spec : {M : Type 1} → statement M
 output-typed-spec =
     tie.close
     (tie.spec
-    (λ c κs. search needs) (λ c. search needs) (λ c. search needs)  -- field-at-requires, enum-known-o, enum-told
-    (λ c. search typing depth 12)  -- returns
-    (λ c κs. search needs) (λ c. search needs) (λ c. search needs)  -- output-at-requires, enum-told-2, enum-known-fields
-    (λ c. search typing depth 12)  -- returns-2
-    (λ c. search typing depth 12)  -- returns-3
-    (λ c. search typing depth 12))  -- returns-4
+    (λ c κs. search needs) (λ c. search needs) (λ c. search needs) (λ c. search typing depth 12)  -- field-at-requires, enum-known-output-at, enum-told, returns
+    (λ c κs. search needs) (λ c. search needs)  -- output-at-requires, enum-told-2
+    (λ c. search needs) (λ c. search typing depth 12)  -- enum-known-fields, returns-2
+    (λ c. search typing depth 12) (λ c. search typing depth 12))  -- returns-3, returns-4

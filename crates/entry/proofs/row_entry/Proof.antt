@@ -8,7 +8,6 @@ pub row-entry-spec : {M : Type 1} → statement M
 row-entry-spec =
     tie.close
     (tie.spec
-    (λ c κs. search needs) (λ c. search needs) (λ c κs. search needs)  -- typed-at-requires, enum-told, missing-requires
-    (λ c. search needs) (λ c κs. search needs) (λ c κs. search needs)  -- enum-known-fields, asset-at-requires, txid-at-requires
-    (λ c. search typing depth 10)  -- returns
+    (λ c κs. search needs) (λ c. search needs) (λ c κs. search needs) (λ c. search needs)  -- typed-at-requires, enum-told, missing-requires, enum-known-fields
+    (λ c κs. search needs) (λ c κs. search needs) (λ c. search typing depth 10)  -- asset-at-requires, txid-at-requires, returns
     (λ c. search typing depth 10))  -- returns-2

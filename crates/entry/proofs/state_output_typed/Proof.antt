@@ -8,6 +8,5 @@ pub state-output-typed-spec : {M : Type 1} → statement M
 state-output-typed-spec =
     tie.close
     (tie.spec
-    (λ c κs. search needs) (λ c. search needs) (λ c. search needs)  -- output-at-requires, enum-told, enum-known-fields
-    (λ c. search typing depth 12)  -- returns
+    (λ c κs. search needs) (λ c. search needs) (λ c. search needs) (λ c. search typing depth 12)  -- output-at-requires, enum-told, enum-known-fields, returns
     (λ c. search typing depth 12))  -- returns-2

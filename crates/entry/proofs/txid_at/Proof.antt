@@ -8,8 +8,6 @@ pub txid-at-spec : {M : Type 1} → statement M
 txid-at-spec =
     tie.close
     (tie.spec
-    (λ c κs. search needs)  -- id-at-requires
-    (λ c. search passing depth 10)  -- returns
-    (λ c κs. search needs)  -- id-at-requires-2
-    (λ c. search passing depth 10)  -- returns-2
+    (λ c κs. search needs) (λ c. search passing depth 10)  -- id-at-requires, returns
+    (λ c κs. search needs) (λ c. search passing depth 10)  -- id-at-requires-2, returns-2
     (λ c. search passing depth 10))  -- returns-3

@@ -8,15 +8,9 @@ pub typed-at-spec : {M : Type 1} → statement M
 typed-at-spec =
     tie.close
     (tie.spec
-    (λ c κs. search needs)  -- credential-typed-requires
-    (λ c. search passing depth 10)  -- returns
-    (λ c κs. search needs)  -- state-output-typed-requires
-    (λ c. search passing depth 10)  -- returns-2
-    (λ c κs. search needs)  -- operation-typed-requires
-    (λ c. search passing depth 10)  -- returns-3
-    (λ c κs. search needs)  -- input-typed-requires
-    (λ c. search passing depth 10)  -- returns-4
-    (λ c κs. search needs)  -- input-typed-requires-2
-    (λ c. search passing depth 10)  -- returns-5
-    (λ c κs. search needs)  -- output-typed-requires
-    (λ c. search passing depth 10))  -- returns-6
+    (λ c κs. search needs) (λ c. search passing depth 10)  -- credential-typed-requires, returns
+    (λ c κs. search needs) (λ c. search passing depth 10)  -- state-output-typed-requires, returns-2
+    (λ c κs. search needs) (λ c. search passing depth 10)  -- operation-typed-requires, returns-3
+    (λ c κs. search needs) (λ c. search passing depth 10)  -- input-typed-requires, returns-4
+    (λ c κs. search needs) (λ c. search passing depth 10)  -- input-typed-requires-2, returns-5
+    (λ c κs. search needs) (λ c. search passing depth 10))  -- output-typed-requires, returns-6

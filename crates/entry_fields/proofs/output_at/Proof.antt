@@ -8,13 +8,8 @@ pub output-at-spec : {M : Type 1} → statement M
 output-at-spec =
     tie.close
     (tie.spec
-    (λ c κs. search needs) (λ c. search needs) (λ c. search needs)  -- u32-at-requires, enum-known-kind, enum-told
-    (λ c. search finding depth 12)  -- returns
-    (λ c κs. search needs)  -- mint-at-requires
-    (λ c. search finding depth 12)  -- returns-2
-    (λ c κs. search needs)  -- transfer-at-requires
-    (λ c. search finding depth 12)  -- returns-3
-    (λ c κs. search needs)  -- nft-mint-at-requires
-    (λ c. search finding depth 12)  -- returns-4
-    (λ c κs. search needs)  -- nft-transfer-at-requires
-    (λ c. search finding depth 12))  -- returns-5
+    (λ c κs. search needs) (λ c. search needs) (λ c. search needs) (λ c. search finding depth 12)  -- u32-at-requires, enum-known-type-id, enum-told, returns
+    (λ c κs. search needs) (λ c. search finding depth 12)  -- mint-at-requires, returns-2
+    (λ c κs. search needs) (λ c. search finding depth 12)  -- transfer-at-requires, returns-3
+    (λ c κs. search needs) (λ c. search finding depth 12)  -- nft-mint-at-requires, returns-4
+    (λ c κs. search needs) (λ c. search finding depth 12))  -- nft-transfer-at-requires, returns-5

@@ -8,10 +8,9 @@ pub owners-at-spec : {M : Type 1} → statement M
 owners-at-spec =
     tie.close
     (tie.spec
-    (λ c κs. search needs) (λ c. search needs) (λ c. search needs)  -- u64-at-requires, enum-known-locktime, enum-told
-    (λ c. search finding depth 12)  -- returns
-    (λ c κs. search needs) (λ c. search needs) (λ c. search needs)  -- u32-at-requires, enum-known-threshold, enum-told-2
-    (λ c. search finding depth 12)  -- returns-2
-    (λ c κs. search needs) (λ c. search needs) (λ c. search needs)  -- u32-at-requires-2, enum-known-addresses-count, enum-told-3
-    (λ c. search finding depth 12)  -- returns-3
+    (λ c κs. search needs) (λ c. search needs) (λ c. search needs) (λ c. search finding depth 12)  -- u64-at-requires, enum-known-locktime, enum-told, returns
+    (λ c κs. search needs) (λ c. search needs)  -- u32-at-requires, enum-known-threshold
+    (λ c. search needs) (λ c. search finding depth 12)  -- enum-told-2, returns-2
+    (λ c κs. search needs) (λ c. search needs)  -- u32-at-requires-2, enum-known-addresses-count
+    (λ c. search needs) (λ c. search finding depth 12)  -- enum-told-3, returns-3
     (λ c. search finding depth 12))  -- returns-4

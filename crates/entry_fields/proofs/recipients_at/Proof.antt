@@ -8,9 +8,9 @@ pub recipients-at-spec : {M : Type 1} → statement M
 recipients-at-spec =
     tie.close
     (tie.spec
-    (λ c κs. search needs) (λ c. search needs) (λ c. search needs)  -- u32-at-requires, enum-known-owners-count, enum-told
-    (λ c. search finding depth 12)  -- returns
+    (λ c κs. search needs) (λ c. search needs)  -- u32-at-requires, enum-known-owners-count
+    (λ c. search needs) (λ c. search finding depth 12)  -- enum-told, returns
     (λ c. search finding depth 12)  -- returns-2
-    (λ c κs. search needs) (λ c. search needs) (λ c. search needs)  -- owners-at-requires, enum-told-2, enum-known-owners
-    (λ c. search finding depth 12)  -- returns-3
+    (λ c κs. search needs) (λ c. search needs)  -- owners-at-requires, enum-told-2
+    (λ c. search needs) (λ c. search finding depth 12)  -- enum-known-owners, returns-3
     (λ c. search finding depth 12))  -- returns-4

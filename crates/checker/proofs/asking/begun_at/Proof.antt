@@ -10,10 +10,6 @@ begun-at-spec =
     (tie.spec
     (λ c κs. search needs) (λ c. search needs) (λ c. search needs) (λ c. search needs)  -- due-at-requires, enum-told, enum-told-2, enum-known-list
     (λ c κs. search needs) (λ c. search needs) (λ c κs. search needs)  -- list-begun-requires, enum-known-field, field-past-requires
-    (λ c κs. search needs)  -- field-credential-requires
-    (λ c. search beginning depth 12)  -- returns
-    (λ c κs. search needs)  -- field-signatures-requires
-    (λ c. search beginning depth 12)  -- returns-2
-    (λ c. search beginning depth 12)  -- returns-3
-    (λ c. search beginning depth 12)  -- returns-4
-    (λ c. search beginning depth 12))  -- returns-5
+    (λ c κs. search needs) (λ c. search beginning depth 12)  -- field-credential-requires, returns
+    (λ c κs. search needs) (λ c. search beginning depth 12)  -- field-signatures-requires, returns-2
+    (λ c. search beginning depth 12) (λ c. search beginning depth 12) (λ c. search beginning depth 12))  -- returns-3, returns-4, returns-5

@@ -1,7 +1,6 @@
 -- `checker::asking::element_wanted` meets its contract. Assumes nothing.
 use borrow.Author.Needs.{needs}
-use Rattle.checker.proofs.Ahead.{element-unread}
-use Rattle.checker.proofs.Ahead.{element-wanted}
+use Rattle.checker.proofs.Ahead.{element-unread, element-wanted}
 use Rattle.checker.proofs.asking.element_wanted.Statement.{statement}
 use Rattle.checker.proofs.asking.element_wanted.Tie as tie
 
@@ -9,7 +8,6 @@ pub element-wanted-spec : {M : Type 1} → statement M
 element-wanted-spec =
     tie.close
     (tie.spec
-    (λ c κs. search needs) (λ c. search needs) (λ c. search needs)  -- asking-past-requires, enum-known-signatures, enum-told
-    (λ c. search (element-unread, element-wanted) depth 12)  -- returns
-    (λ c. search needs)  -- sub-t6
-    (λ c. search (element-unread, element-wanted) depth 12))  -- returns-2
+    (λ c κs. search needs) (λ c. search needs)  -- asking-past-requires, enum-known-signatures
+    (λ c. search needs) (λ c. search element-unread depth 12)  -- enum-told, returns
+    (λ c. search needs) (λ c. search element-wanted depth 12))  -- sub-t6, returns-2

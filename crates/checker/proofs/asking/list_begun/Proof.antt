@@ -8,10 +8,7 @@ pub list-begun-spec : {M : Type 1} → statement M
 list-begun-spec =
     tie.close
     (tie.spec
-    (λ c κs. search needs) (λ c. search needs) (λ c. search needs)  -- u32-at-requires, enum-known-count, enum-told
-    (λ c. search listing depth 12)  -- returns
+    (λ c κs. search needs) (λ c. search needs) (λ c. search needs) (λ c. search listing depth 12)  -- u32-at-requires, enum-known-count, enum-told, returns
     (λ c κs. search needs) (λ c κs. search needs) (λ c. search needs)  -- credential-of-requires, elements-past-requires, enum-told-2
-    (λ c. search needs)  -- enum-known-next
-    (λ c. search listing depth 12)  -- returns-2
-    (λ c. search listing depth 12)  -- returns-3
-    (λ c. search listing depth 12))  -- returns-4
+    (λ c. search needs) (λ c. search listing depth 12)  -- enum-known-next, returns-2
+    (λ c. search listing depth 12) (λ c. search listing depth 12))  -- returns-3, returns-4

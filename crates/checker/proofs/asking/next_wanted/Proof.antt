@@ -21,14 +21,8 @@ next-wanted-spec =
     Inv-loop
     μ-loop
     (λ c. search nexts)  -- loop-holds
-    (λ c κs. search needs) (λ c. search needs)  -- begun-at-requires, enum-told
-    (λ c. search nexts)  -- returns
-    (λ c. search needs)  -- enum-known-credential
-    (λ c. search nexts)  -- add-t16
-    (λ c. search nexts)  -- returns-2
-    (λ c. search needs)  -- enum-known-credential-2
-    (λ c. search nexts)  -- add-phase
-    (λ c. search nexts)  -- loop-less
-    (λ c. search nexts)  -- loop-again
+    (λ c κs. search needs) (λ c. search needs) (λ c. search nexts)  -- begun-at-requires, enum-told, returns
+    (λ c. search needs) (λ c. search nexts) (λ c. search nexts)  -- enum-known-credential, add-t16, returns-2
+    (λ c. search needs) (λ c. search nexts) (λ c. search nexts) (λ c. search nexts)  -- enum-known-credential-2, add-phase, loop-less, loop-again
     (λ c κs. omega (arith, c .loop-test .left))  -- element-wanted-requires
     (λ c. search nexts))  -- returns-3

@@ -11,11 +11,9 @@ list-at-spec =
     tie.close
     (tie.spec
     (λ c κs. search needs) (λ c. search needs) (λ c. search needs)  -- u32-at-requires, enum-known-count, enum-told
-    (λ c κs. search needs)  -- cut-requires
-    (λ c. search listing depth 12)  -- returns
-    (λ c κs. search needs)  -- refuse-requires
-    (λ c. search listing depth 12)  -- returns-2
+    (λ c κs. search needs) (λ c. search listing depth 12)  -- cut-requires, returns
+    (λ c κs. search needs) (λ c. search listing depth 12)  -- refuse-requires, returns-2
     (λ c. search listing depth 12)  -- returns-3
-    (λ c κs. search needs) (λ c. search needs) (λ c. search needs)  -- elements-from-requires, enum-known-next, enum-known-refusal
-    (λ c. search listing depth 12)  -- returns-4
+    (λ c κs. search needs) (λ c. search needs)  -- elements-from-requires, enum-known-next
+    (λ c. search needs) (λ c. search listing depth 12)  -- enum-known-refusal, returns-4
     (λ c. search listing depth 12))  -- returns-5

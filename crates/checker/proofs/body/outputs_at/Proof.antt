@@ -11,8 +11,6 @@ outputs-at-spec =
     tie.close
     (tie.spec
     (λ c κs. search needs) (λ c. search needs) (λ c. search needs)  -- u32-at-requires, enum-known-count, enum-told
-    (λ c κs. search needs)  -- cut-requires
-    (λ c. search listing depth 12)  -- returns
+    (λ c κs. search needs) (λ c. search listing depth 12)  -- cut-requires, returns
     (λ c. search listing depth 12)  -- returns-2
-    (λ c κs. search needs)  -- outputs-from-requires
-    (λ c. search listing depth 12))  -- returns-3
+    (λ c κs. search needs) (λ c. search listing depth 12))  -- outputs-from-requires, returns-3

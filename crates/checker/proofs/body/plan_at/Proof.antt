@@ -25,12 +25,7 @@ plan-at-spec =
     Inv-loop
     μ-loop
     (λ c. (omega arith, refl))  -- loop-holds
-    (λ c κs. search needs) (λ c. search needs)  -- segment-at-requires, enum-told
-    (λ c. search turns)  -- returns
-    (λ c. search needs)  -- enum-known-refusal
-    (λ c. search turns)  -- returns-2
-    (λ c. search needs)  -- enum-known-count
-    (λ c. search turns)  -- add-wanted
-    (λ c. search turns)  -- add-phase
-    (λ c. search turns)  -- loop-less
-    (λ c. (search turns, search turns)))  -- loop-again
+    (λ c κs. search needs) (λ c. search needs) (λ c. search turns)  -- segment-at-requires, enum-told, returns
+    (λ c. search needs) (λ c. search turns)  -- enum-known-refusal, returns-2
+    (λ c. search needs) (λ c. search turns) (λ c. search turns)  -- enum-known-count, add-wanted, add-phase
+    (λ c. search turns) (λ c. (search turns, search turns)))  -- loop-less, loop-again

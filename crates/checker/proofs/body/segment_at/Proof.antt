@@ -10,14 +10,8 @@ segment-at-spec =
     (tie.spec
     (λ c κs. search needs) (λ c. search needs) (λ c. search needs) (λ c. search needs)  -- due-at-requires, enum-told, enum-told-2, enum-known-field
     (λ c κs. search needs) (λ c. search needs) (λ c. search needs)  -- field-end-requires, enum-known-refusal, enum-known-next
-    (λ c κs. search needs)  -- field-credential-requires
-    (λ c. search passing depth 12)  -- returns
-    (λ c. search needs) (λ c. search needs) (λ c κs. search needs)  -- enum-known-list, cast-list-at, list-at-requires
-    (λ c. search needs) (λ c. search needs) (λ c κs. search needs)  -- enum-known-refusal-2, enum-known-count, credential-of-requires
-    (λ c. search passing depth 12)  -- returns-2
-    (λ c. search passing depth 12)  -- returns-3
-    (λ c. search passing depth 12)  -- returns-4
-    (λ c. search passing depth 12)  -- returns-5
-    (λ c. search passing depth 12)  -- returns-6
-    (λ c. search passing depth 12)  -- returns-7
-    (λ c. search passing depth 12))  -- returns-8
+    (λ c κs. search needs) (λ c. search passing depth 12)  -- field-credential-requires, returns
+    (λ c. search needs) (λ c. search needs) (λ c κs. search needs) (λ c. search needs)  -- enum-known-list, cast-list-at, list-at-requires, enum-known-refusal-2
+    (λ c. search needs) (λ c κs. search needs) (λ c. search passing depth 12)  -- enum-known-count, credential-of-requires, returns-2
+    (λ c. search passing depth 12) (λ c. search passing depth 12) (λ c. search passing depth 12)  -- returns-3, returns-4, returns-5
+    (λ c. search passing depth 12) (λ c. search passing depth 12) (λ c. search passing depth 12))  -- returns-6, returns-7, returns-8

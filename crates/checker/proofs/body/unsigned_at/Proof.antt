@@ -1,6 +1,5 @@
 -- `checker::body::unsigned_at` meets its contract. Assumes nothing.
 use borrow.Author.Needs.{needs}
-use native.Mathlib.Omega.{arith}
 use Rattle.checker.proofs.Unsigned.{head-small, unsigning}
 use Rattle.transaction.specs.Family.{unsigned}
 use Rattle.checker.proofs.body.unsigned_at.Statement.{statement}
@@ -12,9 +11,6 @@ unsigned-at-spec =
     tie.close
     (tie.spec
     (λ c κs. search needs) (λ c. search needs) (λ c. search needs)  -- head-at-requires, enum-known-refusal, enum-known-number
-    (λ c. omega (arith, head-small _ _ _ _ (c .before .before .before .head-at .ensures) (c .before .number .given .1)))  -- cast-kind
-    (λ c κs. search needs) (λ c. search needs) (λ c. search needs)  -- outputs-at-requires, enum-known-refusal-2, enum-known-inputs-at
-    (λ c κs. search needs)  -- plan-at-requires
-    (λ c. search unsigning depth 12)  -- returns
-    (λ c. search unsigning depth 12)  -- returns-2
-    (λ c. search unsigning depth 12))  -- returns-3
+    (λ c. search head-small) (λ c κs. search needs) (λ c. search needs)  -- cast-type-id, outputs-at-requires, enum-known-refusal-2
+    (λ c. search needs) (λ c κs. search needs) (λ c. search unsigning depth 12)  -- enum-known-inputs-at, plan-at-requires, returns
+    (λ c. search unsigning depth 12) (λ c. search unsigning depth 12))  -- returns-2, returns-3

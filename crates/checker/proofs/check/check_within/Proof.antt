@@ -8,9 +8,7 @@ pub check-within-spec : {M : Type 1} → statement M
 check-within-spec =
     tie.close
     (tie.spec
-    (λ c κs. search needs)  -- refuse-requires
-    (λ c. search checking depth 12)  -- returns
+    (λ c κs. search needs) (λ c. search checking depth 12)  -- refuse-requires, returns
     (λ c κs. search needs) (λ c. search needs) (λ c. search needs)  -- unsigned-at-requires, enum-known-refusal, enum-known-layout
-    (λ c κs. search needs)  -- signed-at-requires
-    (λ c. search checking depth 12)  -- returns-2
+    (λ c κs. search needs) (λ c. search checking depth 12)  -- signed-at-requires, returns-2
     (λ c. search checking depth 12))  -- returns-3

@@ -9,7 +9,5 @@ signed-at-spec =
     tie.close
     (tie.spec
     (λ c κs. search needs) (λ c. search needs) (λ c. search needs)  -- credentials-at-requires, enum-known-refusal, enum-known-end
-    (λ c κs. search needs)  -- refuse-requires
-    (λ c. search signing depth 12)  -- returns
-    (λ c. search signing depth 12)  -- returns-2
-    (λ c. search signing depth 12))  -- returns-3
+    (λ c κs. search needs) (λ c. search signing depth 12)  -- refuse-requires, returns
+    (λ c. search signing depth 12) (λ c. search signing depth 12))  -- returns-2, returns-3

@@ -19,10 +19,7 @@ beside-spec =
     Inv-loop
     μ-loop
     (λ c. search onward)  -- loop-holds
-    (λ c κs. search needs) (λ c. search needs) (λ c. search needs)  -- next-wanted-requires, enum-known-credential, enum-told
-    (λ c. search onward)  -- returns
-    (λ c κs. search needs) (λ c. search needs)  -- credential-at-requires, enum-known-refusal
-    (λ c. search onward)  -- returns-2
-    (λ c. search needs) (λ c. search needs) (λ c. search needs)  -- enum-known-end, sub-left, loop-less
-    (λ c. search onward)  -- loop-again
+    (λ c κs. search needs) (λ c. search needs) (λ c. search needs) (λ c. search onward)  -- next-wanted-requires, enum-known-credential, enum-told, returns
+    (λ c κs. search needs) (λ c. search needs) (λ c. search onward)  -- credential-at-requires, enum-known-refusal, returns-2
+    (λ c. search needs) (λ c. search needs) (λ c. search needs) (λ c. search onward)  -- enum-known-end, sub-left, loop-less, loop-again
     (λ c. search onward))  -- returns-3

@@ -13,14 +13,10 @@ credential-at-spec =
     tie.close
     (tie.spec
     (λ c κs. search needs) (λ c. search needs) (λ c. search needs)  -- u32-at-requires, enum-known-found, enum-told
-    (λ c κs. search needs)  -- cut-requires
-    (λ c. search piecewise depth 12)  -- returns
-    (λ c κs. search needs)  -- refuse-requires
-    (λ c. search piecewise depth 12)  -- returns-2
+    (λ c κs. search needs) (λ c. search piecewise depth 12)  -- cut-requires, returns
+    (λ c κs. search needs) (λ c. search piecewise depth 12)  -- refuse-requires, returns-2
     (λ c κs. search needs) (λ c. search needs) (λ c. search needs)  -- u32-at-requires-2, enum-known-count, enum-told-2
-    (λ c κs. search needs)  -- cut-requires-2
-    (λ c. search piecewise depth 12)  -- returns-3
-    (λ c κs. search needs)  -- refuse-requires-2
-    (λ c. search piecewise depth 12)  -- returns-4
+    (λ c κs. search needs) (λ c. search piecewise depth 12)  -- cut-requires-2, returns-3
+    (λ c κs. search needs) (λ c. search piecewise depth 12)  -- refuse-requires-2, returns-4
     (λ c κs. search (wanted-fit _ _ (c .if2 .left)))  -- signatures-at-requires
     (λ c. search piecewise depth 12))  -- returns-5

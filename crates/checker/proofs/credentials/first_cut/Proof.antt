@@ -22,9 +22,6 @@ first-cut-spec =
     μ-loop
     (λ c. refl)  -- loop-holds
     (λ c κs. search needs) (λ c. search needs) (λ c. search needs)  -- field-at-requires, enum-known-next, enum-told
-    (λ c κs. search needs)  -- cut-requires
-    (λ c. search (cut-on, on-part, on-cut) depth 8)  -- returns
-    (λ c. search needs) (λ c. search needs)  -- sub-left, loop-less
-    (λ c. search (cut-on, on-part) depth 8)  -- loop-again
-    (λ c κs. search needs)  -- cut-requires-2
-    (λ c. search cut-end))  -- returns-2
+    (λ c κs. search needs) (λ c. search (cut-on, on-part, on-cut) depth 8)  -- cut-requires, returns
+    (λ c. search needs) (λ c. search needs) (λ c. search (cut-on, on-part) depth 8)  -- sub-left, loop-less, loop-again
+    (λ c κs. search needs) (λ c. search cut-end))  -- cut-requires-2, returns-2

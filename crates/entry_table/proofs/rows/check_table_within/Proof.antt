@@ -9,9 +9,7 @@ check-table-within-spec =
     tie.close
     (tie.spec
     (λ c κs. search needs) (λ c. search needs) (λ c. search needs)  -- check-within-requires, enum-known-refusal, enum-known-layout
-    (λ c κs. search needs) (λ c. search needs) (λ c κs. search needs) (λ c. search needs)  -- count-requires, enum-told, refuse-requires, enum-known-n
-    (λ c κs. search rows-fit)  -- put-rows-requires
-    (λ c. search on-refused)  -- returns
+    (λ c κs. search needs) (λ c. search needs) (λ c κs. search needs) (λ c. search needs)  -- count-requires, enum-told, refuse-requires, enum-known-rows
+    (λ c κs. search rows-fit) (λ c. search on-refused)  -- put-rows-requires, returns
     (λ c. search on-too-many)  -- returns-2
-    (λ c. search needs)  -- same-length
-    (λ c. search on-rows))  -- returns-3
+    (λ c. search needs) (λ c. search on-rows))  -- same-length, returns-3

@@ -8,10 +8,10 @@ use Rattle.entry_table.proofs.rows.count.Statement.{statement}
 use Rattle.entry_table.proofs.rows.count.Tie as tie
 
 abbrev Inv-loop : tie.InvT-loop
-Inv-loop s «type_id» room cursor₀ n₀ cursor n = (n ≤ room) × Counted «type_id» s cursor n
+Inv-loop s «type_id» room cursor₀ rows₀ cursor rows = (rows ≤ room) × Counted «type_id» s cursor rows
 
 abbrev μ-loop : tie.MeasureT-loop
-μ-loop s «type_id» room cursor₀ n₀ cursor n = ahead cursor
+μ-loop s «type_id» room cursor₀ rows₀ cursor rows = ahead cursor
 
 pub count-spec : {M : Type 1} → statement M
 count-spec =
@@ -19,15 +19,8 @@ count-spec =
     (tie.spec
     Inv-loop
     μ-loop
-    (λ c κs. search needs)  -- first-requires
-    (λ c. (search needs, search counting))  -- loop-holds
-    (λ c κs. search needs) (λ c. search needs)  -- advance-requires, enum-told
-    (λ c. search counting)  -- returns
-    (λ c. search needs)  -- enum-known-next
-    (λ c. search moved-less)  -- loop-less
-    (λ c. (search needs, search counting))  -- loop-again
-    (λ c. search needs)  -- enum-known-next-2
-    (λ c. search counting)  -- returns-2
-    (λ c. search needs)  -- add-n
-    (λ c. search found-less)  -- loop-less-2
-    (λ c. (omega arith, search counting)))  -- loop-again-2
+    (λ c κs. search needs) (λ c. (search needs, search counting))  -- first-requires, loop-holds
+    (λ c κs. search needs) (λ c. search needs) (λ c. search counting)  -- advance-requires, enum-told, returns
+    (λ c. search needs) (λ c. search moved-less) (λ c. (search needs, search counting))  -- enum-known-next, loop-less, loop-again
+    (λ c. search needs) (λ c. search counting)  -- enum-known-next-2, returns-2
+    (λ c. search needs) (λ c. search found-less) (λ c. (omega arith, search counting)))  -- add-rows, loop-less-2, loop-again-2

@@ -17,15 +17,8 @@ find-spec =
     (tie.spec
     Inv-loop
     μ-loop
-    (λ c κs. search needs)  -- first-requires
-    (λ c. search finding)  -- loop-holds
-    (λ c κs. search needs) (λ c. search needs)  -- advance-requires, enum-told
-    (λ c. search finding)  -- returns
-    (λ c. search needs)  -- enum-known-next
-    (λ c. search moved-less)  -- loop-less
-    (λ c. search finding)  -- loop-again
-    (λ c. search needs)  -- enum-known-row
-    (λ c. search finding)  -- returns-2
-    (λ c. search needs)  -- sub-left
-    (λ c. search found-less)  -- loop-less-2
-    (λ c. search finding))  -- loop-again-2
+    (λ c κs. search needs) (λ c. search finding)  -- first-requires, loop-holds
+    (λ c κs. search needs) (λ c. search needs) (λ c. search finding)  -- advance-requires, enum-told, returns
+    (λ c. search needs) (λ c. search moved-less) (λ c. search finding)  -- enum-known-next, loop-less, loop-again
+    (λ c. search needs) (λ c. search finding)  -- enum-known-row, returns-2
+    (λ c. search needs) (λ c. search found-less) (λ c. search finding))  -- sub-left, loop-less-2, loop-again-2

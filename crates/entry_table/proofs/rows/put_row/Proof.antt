@@ -21,5 +21,6 @@ put-row-spec =
     (λ c. simp length-set (omega arith))  -- slice-write-table-3
     (λ c. search needs)  -- same-length
     (λ c.
-    let a = c .before .before .before .args in
+    let start : tie.Start = search in
+    let a = start .args in
     rw (c .span .ensures) (three-stored (a .table .now) (3 * (a .i)) _ _ _ (omega arith))))  -- returns

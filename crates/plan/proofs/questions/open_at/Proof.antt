@@ -1,8 +1,6 @@
 -- `plan::questions::open_at` meets its contract. Assumes nothing.
-use mathlib.Core.Path.{refl}
 use borrow.Author.Needs.{needs}
-use Rattle.plan.specs.Due.{isOpen}
-use Rattle.plan.proofs.RowLaws.{on-due, same-names}
+use Rattle.plan.proofs.RowLaws.{by-due}
 use Rattle.plan.proofs.questions.open_at.Statement.{statement}
 use Rattle.plan.proofs.questions.open_at.Tie as tie
 
@@ -11,10 +9,6 @@ open-at-spec =
     tie.close
     (tie.spec
     (λ c κs. search needs) (λ c. search needs) (λ c. search needs) (λ c. search needs)  -- due-at-requires, enum-told, enum-told-2, enum-told-3
-    (λ c. search needs) (λ c κs. search needs) (λ c κs. search needs)  -- enum-known-name, code-of-requires, code-of-requires-2
-    (λ c. on-due _ _ (c .before .before .due-at .ensures) (isOpen (c .before .before .before .args .list)) _ _ (c .enum-told .given .1) refl)  -- returns
-    (λ c. on-due _ _ (c .before .before .due-at .ensures) (isOpen (c .before .before .before .args .list)) _ _ (c .enum-told2 .given .1) refl)  -- returns-2
-    (λ c. on-due _ _ (c .before .before .due-at .ensures) (isOpen (c .before .before .before .args .list)) _ _ (c .enum-told3 .given .1) refl)  -- returns-3
-    (λ c. on-due _ _ (c .before .before .before .before .before .due-at .ensures)
-    (isOpen (c .before .before .before .before .before .before .args .list)) _ _ (c .before .before .before .name .given .1)
-    (same-names _ _ _ _ (c .before .list-code .ensures) (c .list-code2 .ensures))))  -- returns-4
+    (λ c. search needs) (λ c κs. search needs)  -- enum-known-name, list-code-requires
+    (λ c κs. search needs) (λ c. search by-due)  -- list-code-requires-2, returns
+    (λ c. search by-due) (λ c. search by-due) (λ c. search by-due))  -- returns-2, returns-3, returns-4

@@ -7,5 +7,4 @@ pub base-due-spec : {M : Type 1} → statement M
 base-due-spec =
     tie.close
     (tie.spec
-    (λ c. search row)  -- returns
-    (λ c. search row))  -- returns-2
+    (λ c. search row) (λ c. search row))  -- returns, returns-2

@@ -8,9 +8,5 @@ pub due-at-spec : {M : Type 1} → statement M
 due-at-spec =
     tie.close
     (tie.spec
-    (λ c. search by-phase)  -- returns
-    (λ c. search by-phase)  -- returns-2
-    (λ c. search by-phase)  -- returns-3
-    (λ c. search by-phase)  -- returns-4
-    (λ c κs. search needs)  -- own-due-requires
-    (λ c. search by-phase))  -- returns-5
+    (λ c. search by-phase) (λ c. search by-phase) (λ c. search by-phase) (λ c. search by-phase)  -- returns, returns-2, returns-3, returns-4
+    (λ c κs. search needs) (λ c. search by-phase))  -- own-due-requires, returns-5

@@ -9,13 +9,9 @@ element-past-spec =
     tie.close
     (tie.spec
     (λ c. search needs) (λ c κs. search needs) (λ c κs. search needs)  -- enum-told, transferable-past-requires, silent-requires
-    (λ c. search needs) (λ c κs. search needs) (λ c. search needs)  -- enum-told-2, input-past-requires, enum-told-3
-    (λ c κs. search needs) (λ c κs. search needs) (λ c. search needs)  -- state-past-requires, silent-requires-2, enum-told-4
-    (λ c κs. search needs) (λ c. search needs) (λ c κs. search needs)  -- operation-past-requires, enum-told-5, input-past-requires-2
-    (λ c. search needs) (λ c κs. search needs) (λ c κs. search needs)  -- enum-told-6, transferable-past-requires-2, silent-requires-3
-    (λ c. search element-passing depth 12)  -- returns
-    (λ c. search element-passing depth 12)  -- returns-2
-    (λ c. search element-passing depth 12)  -- returns-3
-    (λ c. search element-passing depth 12)  -- returns-4
-    (λ c. search element-passing depth 12)  -- returns-5
-    (λ c. search element-passing depth 12))  -- returns-6
+    (λ c. search needs) (λ c κs. search needs) (λ c. search needs) (λ c κs. search needs)  -- enum-told-2, input-past-requires, enum-told-3, state-past-requires
+    (λ c κs. search needs) (λ c. search needs) (λ c κs. search needs)  -- silent-requires-2, enum-told-4, operation-past-requires
+    (λ c. search needs) (λ c κs. search needs) (λ c. search needs)  -- enum-told-5, input-past-requires-2, enum-told-6
+    (λ c κs. search needs) (λ c κs. search needs) (λ c. search element-passing depth 12)  -- transferable-past-requires-2, silent-requires-3, returns
+    (λ c. search element-passing depth 12) (λ c. search element-passing depth 12) (λ c. search element-passing depth 12)  -- returns-2, returns-3, returns-4
+    (λ c. search element-passing depth 12) (λ c. search element-passing depth 12))  -- returns-5, returns-6

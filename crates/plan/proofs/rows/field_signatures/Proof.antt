@@ -9,9 +9,6 @@ field-signatures-spec =
     tie.close
     (tie.spec
     (λ c. search needs) (λ c. search needs) (λ c. search needs) (λ c. search needs)  -- enum-told, enum-told-2, enum-told-3, enum-told-4
-    (λ c. search needs)  -- enum-told-5
-    (λ c. search by-signs depth 12)  -- returns
-    (λ c. search by-signs depth 12)  -- returns-2
-    (λ c. search by-signs depth 12)  -- returns-3
-    (λ c. search by-signs depth 12)  -- returns-4
+    (λ c. search needs) (λ c. search by-signs depth 12)  -- enum-told-5, returns
+    (λ c. search by-signs depth 12) (λ c. search by-signs depth 12) (λ c. search by-signs depth 12)  -- returns-2, returns-3, returns-4
     (λ c. search by-signs depth 12))  -- returns-5

@@ -7,7 +7,4 @@ pub import-due-spec : {M : Type 1} → statement M
 import-due-spec =
     tie.close
     (tie.spec
-    (λ c. search row)  -- returns
-    (λ c. search row)  -- returns-2
-    (λ c. search row)  -- returns-3
-    (λ c. search row))  -- returns-4
+    (λ c. search row) (λ c. search row) (λ c. search row) (λ c. search row))  -- returns, returns-2, returns-3, returns-4

@@ -7,9 +7,5 @@ pub is-type-spec : {M : Type 1} → statement M
 is-type-spec =
     tie.close
     (tie.spec
-    (λ c. search numbers depth 40)  -- returns
-    (λ c. search numbers depth 40)  -- returns-2
-    (λ c. search numbers depth 40)  -- returns-3
-    (λ c. search numbers depth 40)  -- returns-4
-    (λ c. search numbers depth 40)  -- returns-5
-    (λ c. search numbers depth 40))  -- returns-6
+    (λ c. search numbers depth 40) (λ c. search numbers depth 40) (λ c. search numbers depth 40)  -- returns, returns-2, returns-3
+    (λ c. search numbers depth 40) (λ c. search numbers depth 40) (λ c. search numbers depth 40))  -- returns-4, returns-5, returns-6

@@ -7,6 +7,4 @@ pub operation-due-spec : {M : Type 1} → statement M
 operation-due-spec =
     tie.close
     (tie.spec
-    (λ c. search row)  -- returns
-    (λ c. search row)  -- returns-2
-    (λ c. search row))  -- returns-3
+    (λ c. search row) (λ c. search row) (λ c. search row))  -- returns, returns-2, returns-3

@@ -8,13 +8,8 @@ pub own-due-spec : {M : Type 1} → statement M
 own-due-spec =
     tie.close
     (tie.spec
-    (λ c κs. search needs)  -- base-due-requires
-    (λ c. search by-type depth 40)  -- returns
-    (λ c κs. search needs)  -- asset-due-requires
-    (λ c. search by-type depth 40)  -- returns-2
-    (λ c κs. search needs)  -- operation-due-requires
-    (λ c. search by-type depth 40)  -- returns-3
-    (λ c κs. search needs)  -- import-due-requires
-    (λ c. search by-type depth 40)  -- returns-4
-    (λ c κs. search needs)  -- export-due-requires
-    (λ c. search by-type depth 40))  -- returns-5
+    (λ c κs. search needs) (λ c. search by-type depth 40)  -- base-due-requires, returns
+    (λ c κs. search needs) (λ c. search by-type depth 40)  -- asset-due-requires, returns-2
+    (λ c κs. search needs) (λ c. search by-type depth 40)  -- operation-due-requires, returns-3
+    (λ c κs. search needs) (λ c. search by-type depth 40)  -- import-due-requires, returns-4
+    (λ c κs. search needs) (λ c. search by-type depth 40))  -- export-due-requires, returns-5

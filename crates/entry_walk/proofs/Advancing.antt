@@ -37,9 +37,9 @@ use Rattle.plan.specs.declared.Due.{Due}
 use Rattle.plan.specs.declared.Due.the-variants as D
 use Rattle.plan.specs.Due.{tail, due, lastPhase, Live, dueOf, entryOf, FieldPast, ElementTells}
 use Rattle.plan.proofs.RowLaws.{live-phase, live-next, if-nothing, if-end, if-field, if-list}
-use Rattle.entry_walk.specs.Walk.{located, credentialBytes, Behind, Rest, Credentials, PlanAhead, ListAhead, StateAhead, AheadIn, Ahead, First, Advances}
-use Rattle.entry_walk.specs.Walk.{AdvanceAhead, ElementAdvance, StateOutputAdvance, CredentialAdvance, LaterAdvance, CountedAdvance, ahead}
-use Rattle.entry_walk.specs.Walk.{Below, Shorter, Entered}
+use Rattle.entry_walk.specs.Walk.{located, credentialBytes, Followed, Rest, Credentials, PlanAhead, ListAhead, StateAhead, AheadIn, Ahead, First}
+use Rattle.entry_walk.specs.Walk.{Advances, AdvanceAhead, ElementAdvance, StateOutputAdvance, CredentialAdvance, LaterAdvance, CountedAdvance}
+use Rattle.entry_walk.specs.Walk.{ahead, Below, Shorter, Entered}
 use Rattle.entry_walk.specs.declared.Cursor.{Cursor}
 use Rattle.entry_walk.specs.declared.Advance.{Advance}
 use Rattle.entry_walk.specs.declared.Advance.the-variants as T
@@ -54,12 +54,12 @@ module _ {A : Type 0} (E : List ℕ → Format A) (entry : ℕ → ℕ → A →
       let v : [] ≡ r .values = cc in
       let n : at ≡ r .next = cc in
       let same : es ≡ r .later = r .entries ∙ ap (λ (v : List A). entriesFrom E entry (r .prev) at v ++ r .later) (sym v) in
-      subst₂ Later (sym n) (sym same) (r .behind)
+      subst₂ Later (sym n) (sym same) (r .after)
   rest-done (suc c) at es z r = absurd (not-suc-le-zero z)
 
   rest-none : (at : ℕ) (es : List EntryAt) → Later at es → Rest s E entry Later 0 at es
   unfolding items listParse entriesFrom
-  rest-none at es h = record { prev = []; values = []; next = at; later = es; stands = refl; behind = h; entries = refl }
+  rest-none at es h = record { prev = []; values = []; next = at; later = es; stands = refl; after = h; entries = refl }
 
   -- the first element, and the others
   pub record One (c at : ℕ) (es : List EntryAt) : Type 0 where
@@ -68,7 +68,7 @@ module _ {A : Type 0} (E : List ℕ → Format A) (entry : ℕ → ℕ → A →
     pub next : ℕ
     pub others : List EntryAt
     pub stands : read (E prev) s at ≡ took value next
-    pub behind : Rest s E entry Later c next others
+    pub after : Rest s E entry Later c next others
     pub entries : es ≡ entry at next value ++ others
 
   pub one-of : (b : Slice s) (c at : ℕ) (es : List EntryAt) → 0 < c → Rest s E entry Later c at es → One (c - 1) at es
@@ -90,14 +90,14 @@ module _ {A : Type 0} (E : List ℕ → Format A) (entry : ℕ → ℕ → A →
         next = m;
         others = entriesFrom E entry w m l ++ r .later;
         stands = ev;
-        behind =
+        after =
             record {
               prev = w;
               values = l;
               next = k;
               later = r .later;
               stands = el;
-              behind = subst (λ (j : ℕ). Later j (r .later)) (sym there) (r .behind);
+              after = subst (λ (j : ℕ). Later j (r .later)) (sym there) (r .after);
               entries = refl;
             };
         entries =
@@ -207,9 +207,9 @@ module _ («type_id» : ℕ) (s : List ℕ) (c : Cursor) where
       unfolding LaterAdvance CountedAdvance
       later-end q most es a =
           let q′ = due (c .phase + 1) (planOf «type_id») in
-          let b = if-end x (λ (p : Plan). PlanAhead s most p (c .at) es → Behind s (integer 4) (c .at) (λ k n. Credentials s k n es)) q′ p q (λ a. a) a in
+          let b = if-end x (λ (p : Plan). PlanAhead s most p (c .at) es → Followed s (integer 4) (c .at) (λ k n. Credentials s k n es)) q′ p q (λ a. a) a in
           subst (Advances s most «type_id» es) (sym (h (b .value) (b .next) (b .stands)))
-          (of-end s most (due (c .phase + 1 + 1) (planOf «type_id»)) (into (b .next) (b .value)) es q′ x p q (b .behind))
+          (of-end s most (due (c .phase + 1 + 1) (planOf «type_id»)) (into (b .next) (b .value)) es q′ x p q (b .after))
 
       pub later-list : (l : ListName) (n : ℕ) → x ≡ D.List l n → LaterAdvance «type_id» s c r
       unfolding LaterAdvance CountedAdvance
@@ -217,11 +217,11 @@ module _ («type_id» : ℕ) (s : List ℕ) (c : Cursor) where
           let q′ = due (c .phase + 1) (planOf «type_id») in
           let L = due (c .phase + 1 + 1) (planOf «type_id») in
           let b =
-          if-list x (λ (p : Plan). L ≡ tail p → PlanAhead s most p (c .at) es → Behind s (integer 4) (c .at) (λ k n. ListAhead s most l k L n es)) q′ p l n q
-          (λ p i a. subst (λ (p : Plan). Behind s (integer 4) (c .at) (λ k n. ListAhead s most l k p n es)) (sym i) a)
+          if-list x (λ (p : Plan). L ≡ tail p → PlanAhead s most p (c .at) es → Followed s (integer 4) (c .at) (λ k n. ListAhead s most l k L n es)) q′ p l n q
+          (λ p i a. subst (λ (p : Plan). Followed s (integer 4) (c .at) (λ k n. ListAhead s most l k p n es)) (sym i) a)
           (live-next «type_id» (c .phase + 1) (ahead-live s most q′ (c .at) es a)) a in
           subst (Advances s most «type_id» es) (sym (h (b .value) (b .next) (b .stands)))
-          (of-list s most L (into (b .next) (b .value)) es q′ x p l n q (outside s most l (b .value) L (b .next) es (b .behind)))
+          (of-list s most L (into (b .next) (b .value)) es q′ x p l n q (outside s most l (b .value) L (b .next) es (b .after)))
 
     pub later-field : (f : FieldName) → x ≡ D.Field f → (n : ℕ) → FieldPast f s (c .at) n
         → LaterAdvance «type_id» s c (T.Moved record { phase = c .phase + 1; at = n; left = 0; inner = 0 })
@@ -231,7 +231,7 @@ module _ («type_id» : ℕ) (s : List ℕ) (c : Cursor) where
         let L = due (c .phase + 1 + 1) (planOf «type_id») in
         let d : Cursor = record { phase = c .phase + 1; at = n; left = 0; inner = 0 } in
         if-field x (λ (p : Plan). L ≡ tail p → PlanAhead s most p (c .at) es → AheadIn s most p L d es) q′ p f q
-        (λ p j a. subst₂ (λ (p : Plan) (m : ℕ). PlanAhead s most p m es) (sym j) (sym (t most (a .value) (a .next) (a .stands))) (a .behind))
+        (λ p j a. subst₂ (λ (p : Plan) (m : ℕ). PlanAhead s most p m es) (sym j) (sym (t most (a .value) (a .next) (a .stands))) (a .after))
         (live-next «type_id» (c .phase + 1) (ahead-live s most q′ (c .at) es a)) a
 
 pub ruleset leading = (later-over, later-nothing, later-end, later-list, later-field)
@@ -311,9 +311,9 @@ module _ (s : List ℕ) (c : Cursor) (b : Slice s) (more : 0 < c .left) where
 
   -- what is ahead of a cursor in a list of that name, after the element
   module _ («type_id» least most : ℕ) (l : ListName) (q : dueOf (due (c .phase) (planOf «type_id»)) ≡ D.List l least) (n i : ℕ) (es : List EntryAt) where
-    behind-it : StateAhead s most l i (c .left - 1) (due (c .phase + 1) (planOf «type_id»)) n es
+    after-it : StateAhead s most l i (c .left - 1) (due (c .phase + 1) (planOf «type_id»)) n es
         → Ahead s most «type_id» record { phase = c .phase; at = n; left = c .left - 1; inner = i } es
-    behind-it =
+    after-it =
         of-list s most (due (c .phase + 1) (planOf «type_id»)) record { phase = c .phase; at = n; left = c .left - 1; inner = i } es
         (due (c .phase) (planOf «type_id»)) (dueOf (due (c .phase) (planOf «type_id»))) refl l least q
 
@@ -337,8 +337,8 @@ module _ (s : List ℕ) (c : Cursor) (b : Slice s) (more : 0 < c .left) where
           others = o .others;
           all = o .entries ∙ ap (λ (x : List EntryAt). x ++ o .others) (e .all);
           row = ap₂ (λ (k n : ℕ). record { kind = k; start = c .at; end = n }) j (sym same) ∙ e .row;
-          ahead = behind-it «type_id» least most l q n 0 (o .others)
-              (outside s most l (c .left - 1) p n (o .others) (subst (λ (m : ℕ). ListAhead s most l (c .left - 1) p m (o .others)) same (o .behind)));
+          ahead = after-it «type_id» least most l q n 0 (o .others)
+              (outside s most l (c .left - 1) p n (o .others) (subst (λ (m : ℕ). ListAhead s most l (c .left - 1) p m (o .others)) same (o .after)));
         }
 
   module _ (x : Integer) (p : x ≡ valued (integer 4) s (c .at)) where
@@ -368,7 +368,7 @@ module _ (s : List ℕ) (c : Cursor) (b : Slice s) (more : 0 < c .left) where
           let (count, first) = integer-same s m y t k n _ _ j
           (subst (λ (m : ℕ). read (integer 4) s m ≡ took (st .count) (st .first)) (sym same) (st .counts)) in
           let fx = o .value .fx in
-          behind-it «type_id» least most L.State q n k es
+          after-it «type_id» least most L.State q n k es
           (subst₂ (λ (k n : ℕ). StateAhead s most L.State k (c .left - 1) p′ n es) (sym count) (sym first) (
             fx,
             record {
@@ -377,7 +377,7 @@ module _ (s : List ℕ) (c : Cursor) (b : Slice s) (more : 0 < c .left) where
               next = o .next;
               later = o .others;
               stands = st .stands;
-              behind = o .behind;
+              after = o .after;
               entries =
                   o .entries
                   ∙ ap (λ (j : ℕ). entriesFrom (notBelow (output (fxOutputs fx))) stateOutputEntry [] j (o .value .outputs) ++ o .others) (sym (st .place));
@@ -428,7 +428,7 @@ module _ (s : List ℕ) (c : Cursor) (b : Slice s) (more : 0 < c .inner) (y : En
             (due (c .phase) (planOf «type_id»)) (dueOf (due (c .phase) (planOf «type_id»))) refl l least q (
               fx,
               subst (λ (m : ℕ). Rest s (notBelow (output (fxOutputs fx))) stateOutputEntry (ListAhead s most l (c .left) p) (c .inner - 1) m (o .others)) same
-                  (o .behind),
+                  (o .after),
             );
       }
 
@@ -554,16 +554,16 @@ module _ («type_id» : ℕ) (s : List ℕ) (c : Cursor) (r : Advance) (x : Due)
   abbrev at-hand : Plan
   at-hand = due (c .phase) (planOf «type_id»)
 
-  abbrev behind-hand : Plan
-  behind-hand = due (c .phase + 1) (planOf «type_id»)
+  abbrev after-hand : Plan
+  after-hand = due (c .phase + 1) (planOf «type_id»)
 
   pub advance-nothing : x ≡ D.Nothing → LaterAdvance «type_id» s c r → AdvanceAhead «type_id» s c r
   unfolding AdvanceAhead LaterAdvance
-  advance-nothing q h most es a = h most es (in-nothing s most behind-hand c es at-hand x p q a)
+  advance-nothing q h most es a = h most es (in-nothing s most after-hand c es at-hand x p q a)
 
   pub advance-field : (f : FieldName) → x ≡ D.Field f → LaterAdvance «type_id» s c r → AdvanceAhead «type_id» s c r
   unfolding AdvanceAhead LaterAdvance
-  advance-field f q h most es a = h most es (in-field s most behind-hand c es at-hand x p f q a)
+  advance-field f q h most es a = h most es (in-field s most after-hand c es at-hand x p f q a)
 
   pub advance-credential : x ≡ D.Finish → CredentialAdvance s c r → AdvanceAhead «type_id» s c r
   unfolding CredentialAdvance
@@ -578,14 +578,14 @@ module _ («type_id» : ℕ) (s : List ℕ) (c : Cursor) (r : Advance) (x : Due)
     unfolding AdvanceAhead ElementAdvance
     advance-element z h most es a =
         h «type_id» n most es (sym p ∙ q)
-        (inside-none s most l (c .left) behind-hand (c .at) es (c .inner) z (in-list s most behind-hand c es at-hand x p l n q a))
+        (inside-none s most l (c .left) after-hand (c .at) es (c .inner) z (in-list s most after-hand c es at-hand x p l n q a))
 
     pub advance-list-later : c .inner ≤ 0 → c .left ≤ 0 → LaterAdvance «type_id» s c r → AdvanceAhead «type_id» s c r
     unfolding AdvanceAhead LaterAdvance
     advance-list-later z w h most es a =
         h most es
-        (rest-done (elementsOf l .element) (elementsOf l .entries) (PlanAhead s most behind-hand) s (c .left) (c .at) es w
-        (inside-none s most l (c .left) behind-hand (c .at) es (c .inner) z (in-list s most behind-hand c es at-hand x p l n q a)))
+        (rest-done (elementsOf l .element) (elementsOf l .entries) (PlanAhead s most after-hand) s (c .left) (c .at) es w
+        (inside-none s most l (c .left) after-hand (c .at) es (c .inner) z (in-list s most after-hand c es at-hand x p l n q a)))
 
 pub advance-done : («type_id» : ℕ) (s : List ℕ) (c : Cursor) (x : Due) → x ≡ dueOf (due (c .phase) (planOf «type_id»)) → x ≡ D.Finish → c .left ≡ 0
     → AdvanceAhead «type_id» s c T.Done
