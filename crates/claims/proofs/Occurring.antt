@@ -120,12 +120,12 @@ A-bytes : Bytes A
 A-bytes = bytes-of A refl
 
 -- the first number has a case of its own, and the others those of the check
-behind : (P : ℕ → Type 0) (k n : ℕ) (l : List ℕ) → P k → (OneOf n l → P n) → OneOf n (k ∷ l) → P n
-behind P k n l p on = ⊎-elim (λ e. subst P (sym e) p) on
+first-or : (P : ℕ → Type 0) (k n : ℕ) (l : List ℕ) → P k → (OneOf n l → P n) → OneOf n (k ∷ l) → P n
+first-or P k n l p on = ⊎-elim (λ e. subst P (sym e) p) on
 
 check-occurs : (n : ℕ) → OneOf n checkNumbers → (s : List ℕ) × Bytes s × (checkedNumber (checked memoMost s) ≡ n)
 check-occurs n =
-    behind (λ n. (s : List ℕ) × Bytes s × (checkedNumber (checked memoMost s) ≡ n)) 0 n refusals (empty, zero-bytes 58, empty-checked)
+    first-or (λ n. (s : List ℕ) × Bytes s × (checkedNumber (checked memoMost s) ≡ n)) 0 n refusals (empty, zero-bytes 58, empty-checked)
     (λ r. let (s, e, b, c, k) = refused-by n r in
     (s, b, ap (λ o. checkedNumber (onResult o C.Refused (λ v m. C.Accepted (Answer.layout memoMost (v .0)) m))) c ∙ k))
 
@@ -138,12 +138,12 @@ module _ (call : List ℕ → List ℕ → Filled) (refuses-alike : (s t : List 
   listing-occurs : (n : ℕ) → OneOf n tableNumbers → Listing n
   unfolding Listing
   listing-occurs n =
-      behind Listing 14 n checkNumbers (A, [], A-bytes, no-room) (behind Listing 0 n refusals (empty, [], zero-bytes 58, done)
+      first-or Listing 14 n checkNumbers (A, [], A-bytes, no-room) (first-or Listing 0 n refusals (empty, [], zero-bytes 58, done)
       (λ r. let (s, e, b, c, k) = refused-by n r in (s, [], b, ap (λ f. tabledNumber (f .answer)) (refuses-alike s [] e c) ∙ k)))
 
 entry-occurs : (n : ℕ) → OneOf n entryNumbers → (s : List ℕ) × (k : ℕ) × Bytes s × (entryNumber (entryOf memoMost s k .answer) ≡ n)
 entry-occurs n =
-    behind EntryOf 15 n checkNumbers (empty, 0, zero-bytes 58, read-entries .1) (behind EntryOf 0 n refusals (A, 0, A-bytes, read-entries .0)
+    first-or EntryOf 15 n checkNumbers (empty, 0, zero-bytes 58, read-entries .1) (first-or EntryOf 0 n refusals (A, 0, A-bytes, read-entries .0)
     (λ r. let (s, e, b, c, k) = refused-by n r in (s, 0, b, ap entryNumber (entry-answers .refused-bytes s 0 e c) ∙ k)))
   where
     EntryOf : ℕ → Type 0

@@ -100,11 +100,11 @@ module _ (s : List ℕ) where
       let f : List ℕ = integer 4 .write (fxCode (v .fx)) in
       let n : List ℕ = integer 4 .write (length (v .outputs)) in
       let w : List ℕ = listWrite E (left E) [] (v .outputs) in
-      let behind : Here s (at + length f + length n) w = here-second s (at + length f) n w (here-second s at f (n ++ w) h) in
+      let past-count : Here s (at + length f + length n) w = here-second s (at + length f) n w (here-second s at f (n ++ w) h) in
       let place : at + length f + length n ≡ at + 8 = omega (arith, length-integer 4 (fxCode (v .fx)), length-integer 4 (length (v .outputs))) in
       list-stands E stateOutputEntry
       (λ prev at o k. (aStateOutput o refl (here-part s at (output (fxOutputs (v .fx)) .write o) k ∙ output-bytes (fxOutputs (v .fx)) o), tt))
-      [] (at + 8) (v .outputs) (subst (λ (k : ℕ). Here s k w) place behind)
+      [] (at + 8) (v .outputs) (subst (λ (k : ℕ). Here s k w) place past-count)
 
   transferable-part : (at : ℕ) (o : TransferableOutput) → Here s at (transferableOutput .write o)
       → between at (at + length (transferableOutput .write o)) s ≡ transferableOutputBytes o
@@ -211,8 +211,8 @@ entries-stand-as s (u, l) w =
     let c : List ℕ = pieces (each ws) .write l in
     let whole : Here s 0 ((h ++ f) ++ (n ++ c)) = ([], sym (w .written) ∙ sym (append-nil ((h ++ f) ++ (n ++ c)))) in
     let own : Here s (length h) f = subst (λ (k : ℕ). Here s k f) (zero-add (length h)) (here-second s 0 h f (here-first s 0 (h ++ f) (n ++ c) whole)) in
-    let behind : Here s (0 + length (h ++ f) + length n) c = here-second s (0 + length (h ++ f)) n c (here-second s 0 (h ++ f) (n ++ c) whole) in
+    let past-count : Here s (0 + length (h ++ f) + length n) c = here-second s (0 + length (h ++ f)) n c (here-second s 0 (h ++ f) (n ++ c) whole) in
     let place : 0 + length (h ++ f) + length n ≡ length (h ++ f) + 4 = omega (arith, length-integer 4 (length ws)) in
     each-append (StandsAs s) (planEntries memoMost (plan (u .0 .type)) (u .1) (length h)) (credentialEntries ws (length (h ++ f) + 4))
     (plan-stands s memoMost (plan (u .0 .type)) (u .1) (length h) own)
-    (credentials-stand s ws (length (h ++ f) + 4) l (w .good .1 .1) (subst (λ (k : ℕ). Here s k c) place behind))
+    (credentials-stand s ws (length (h ++ f) + 4) l (w .good .1 .1) (subst (λ (k : ℕ). Here s k c) place past-count))

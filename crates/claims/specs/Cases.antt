@@ -120,15 +120,15 @@ abbrev rowsOf : Result (Signed (avm memoMost)) → List ℕ
 rowsOf (took v n) = rows (entries (avm memoMost) v)
 rowsOf (refused e) = []
 
-abbrev told : Answer × List ℕ → (ℕ × ℕ) × List ℕ
-told (a, s) = ((answerNumber a, answerPlace a), s)
+abbrev answered : Answer × List ℕ → (ℕ × ℕ) × List ℕ
+answered (a, s) = ((answerNumber a, answerPlace a), s)
 
 abbrev pub Holds : Case → Type 0
 Holds (checks s n p) = verdict (check (avm memoMost) s) ≡ (n, p)
 Holds (lists s rs) = rowsOf (check (avm memoMost) s) ≡ rs
 Holds (reads s n p) = verdict (read operation s 0) ≡ (n, p)
-Holds (merges d e out n p after) = told (mergeCall (reader (avm memoMost)) d e out) ≡ ((n, p), after)
-Holds (fills d k s n p after) = told (fillCall (reader (avm memoMost)) d k s) ≡ ((n, p), after)
+Holds (merges d e out n p after) = answered (mergeCall (reader (avm memoMost)) d e out) ≡ ((n, p), after)
+Holds (fills d k s n p after) = answered (fillCall (reader (avm memoMost)) d k s) ≡ ((n, p), after)
 
 abbrev pub AllHold : List Case → Type 0
 AllHold [] = Unit {0}

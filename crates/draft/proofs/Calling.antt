@@ -13,20 +13,19 @@ use Rattle.wire.specs.Bytes.{between, pick}
 use Rattle.wire.specs.declared.Refusal.{Refusal}
 use Rattle.wire.specs.Numbers.{noRoom, noEntry, firstNotAccepted, secondNotAccepted, draftsDiffer, conflict, notASignature}
 use Rattle.wire.proofs.Bytes.{Slice}
-use Rattle.transaction.specs.Slots.{signatureWidth, slotAt, length-slotAt, putSlot}
+use Rattle.transaction.specs.Slots.{signatureWidth, slotAt, putSlot}
 use Rattle.transaction.specs.Answer.{checked}
 use Rattle.transaction.specs.declared.Layout.{Layout}
 use Rattle.transaction.specs.declared.Checked.{Checked}
 use Rattle.transaction.specs.declared.Checked.the-variants as C
 use Rattle.draft_slots.specs.Joining.{same, join, clashes, firstClash}
-use Rattle.draft_slots.specs.Scan as Walk
+use Rattle.draft_slots.specs.Scan as Scan
 use Rattle.draft_slots.specs.Scan.{scan, placed, joinedAt, joinAll, joinedWith}
 use Rattle.draft_slots.specs.declared.Found.{Found}
 use Rattle.draft_slots.specs.declared.Found.the-variants as F
-use Rattle.draft_slots.proofs.Comparing.{same-eq, length-join}
-use Rattle.draft_slots.proofs.Putting.{spaced-at, length-putAll}
-use Rattle.draft_slots.proofs.Walking.{found-none, found-some}
-use Rattle.draft_slots.proofs.InPlace.{joined-put, joined-all}
+use Rattle.draft_slots.proofs.Comparing.{same-eq}
+use Rattle.draft_slots.proofs.Scanning.{found-none, found-some}
+use Rattle.draft_slots.proofs.InPlace.{length-joinAll, joined-put, joined-all}
 use Rattle.draft.specs.Reader.{Reader, body}
 use Rattle.draft.specs.Calls.{refuse, merged, decideMerge, mergeCall, decideFill, fillCall}
 use Rattle.draft.specs.declared.Answer.{Answer}
@@ -54,6 +53,52 @@ placed-none ps k = go (ltb k (length ps))
 sixty-five : (n : ℕ) → n ≡ 65 → n ≡ signatureWidth
 unfolding signatureWidth
 sixty-five n h = h
+
+-- ---- merging two drafts of one unsigned transaction, whose credential count is at `at`
+
+module _ (d e out : List ℕ) (at : ℕ) where
+  abbrev Alike : Answer × List ℕ
+  Alike = decideMerge true true true (firstClash 0 (scan d at) d e) (leb (length d) (length out)) (joinedWith e at d) out
+
+  chosen : (o : Option ℕ) (r : Bool) → firstClash 0 (scan d at) d e ≡ o → leb (length d) (length out) ≡ r
+      → decideMerge true true true o r (joinedWith e at d) out ≡ Alike
+  chosen o r ho hr = sym (rw (ho, hr))
+
+  module _ (z : Found) (hz : z ≡ Scan.found (firstClash 0 (scan d at) d e)) where
+    pub merge-20 : (k : ℕ) → z ≡ F.At k → (r : Answer) → r ≡ refuse conflict k → (r, out) ≡ Alike
+    merge-20 k i r h = beside r (refuse conflict k) out _ h (chosen (some k) _ (found-some (firstClash 0 (scan d at) d e) k (sym hz ∙ i)) refl)
+
+    module _ (i : z ≡ F.Nothing) where
+      no-clash : firstClash 0 (scan d at) d e ≡ none
+      no-clash = found-none (firstClash 0 (scan d at) d e) (sym hz ∙ i)
+
+      pub merge-14 : length out < length d → (r : Answer) → r ≡ refuse noRoom 0 → (r, out) ≡ Alike
+      merge-14 l r h = beside r (refuse noRoom 0) out _ h (chosen none false no-clash (lt-leb (length d) (length out) l))
+
+      -- the front of out was lent, and is now u, the merge
+      pub merge-0 : (u : List ℕ) → length d ≤ length out
+          → u ≡ joinedWith e at (take (length (take (length d) out)) d ++ drop (length d) (take (length d) out))
+          → (A.Done (length d), u ++ drop (length d) out) ≡ Alike
+      merge-0 u l h =
+          let k : length (take (length d) out) ≡ length d = length-take-le (length d) out l in
+          let front : take (length (take (length d) out)) d ++ drop (length d) (take (length d) out) ≡ d =
+          ap₂ (λ (s t : List ℕ). s ++ t) (take-all (length (take (length d) out)) d (omega arith))
+          (drop-of-length-le (take (length d) out) {i = length d} (omega arith)) ∙ append-nil d in
+          ap₂ (λ (i : ℕ) (s : List ℕ). (A.Done i, s ++ drop i out)) (sym (length-joinAll e (scan e at) d)) (h ∙ ap (λ (s : List ℕ). joinedWith e at s) front)
+          ∙ chosen none true no-clash (le-leb (length d) (length out) l)
+
+-- ---- filling the slot that starts at p: a is what it holds
+
+module _ (d : List ℕ) (k p : ℕ) (s a : List ℕ) (ha : a ≡ slotAt d p) (t : Bool) (ht : t ≡ clashes a s) where
+  clash : clashes (slotAt d p) s ≡ t
+  clash = sym (ht ∙ ap (λ (y : List ℕ). clashes y s) ha)
+
+  pub fill-20 : t ≡ true → (r : Answer) → r ≡ refuse conflict k → (r, d) ≡ decideFill true true true (clashes (slotAt d p) s) k (joinedAt p s d) d
+  fill-20 q r h = beside r (refuse conflict k) d _ h (sym (rw (clash ∙ q)))
+
+  pub fill-0 : t ≡ false → (u : List ℕ) → u ≡ joinedAt p s d
+      → (A.Done (length d), u) ≡ decideFill true true true (clashes (slotAt d p) s) k (joinedAt p s d) d
+  fill-0 q u h = ap (λ (y : List ℕ). (A.Done (length d), y)) h ∙ sym (rw (clash ∙ q))
 
 -- with memos of at most `most` bytes
 module _ (most : ℕ) where
@@ -95,7 +140,8 @@ module _ (most : ℕ) where
             go false q = refl
             go true q = let z : _≡_ {A = ℕ} 0 1 = cc in absurd (omega arith)
 
-        module _ (z : Found) (hz : z ≡ Walk.found (firstClash 0 (scan d (w .«credentials_at»)) d e)) (q : not t ≡ false) where
+        -- the two are drafts of one transaction
+        module _ (q : not t ≡ false) where
           same-bodies : same (body R d) (body R e) ≡ true
           same-bodies = bodies ∙ go t q
             where
@@ -103,56 +149,17 @@ module _ (most : ℕ) where
               go true q = refl
               go false q = let z : _≡_ {A = ℕ} 0 1 = cc in absurd (omega arith)
 
-          clash-of : Walk.found (firstClash 0 (R .slots d) d e) ≡ z
-          clash-of = ap (λ (ps : List ℕ). Walk.found (firstClash 0 ps d e)) (sym (first .slots)) ∙ sym hz
+          joined : joinedWith e (w .«credentials_at») d ≡ merged R d e
+          unfolding merged
+          joined =
+              let both = alike most d e w v n m first second (same-eq (body R d) (body R e) same-bodies) in
+              let slots : scan e (w .«credentials_at») ≡ R .slots d = ap (scan e) (both .2) ∙ second .slots ∙ both .0 in
+              ap (λ (ps : List ℕ). joinAll ps e d) slots ∙ joined-all e 0 (R .slots d) d (first .spaced) (both .1)
 
-          pub merge-20 : (k : ℕ) → z ≡ F.At k → (r : Answer) → r ≡ refuse conflict k → (r, out) ≡ mergeCall R d e out
-          merge-20 k i r h =
-              beside r (refuse conflict k) out _ h
-              (decided d e out true true true (some k) _ (first .accepts) (second .accepts) same-bodies
-              (found-some (firstClash 0 (R .slots d) d e) k (clash-of ∙ i)) refl)
-
-          module _ (i : z ≡ F.Nothing) where
-            no-clash : firstClash 0 (R .slots d) d e ≡ none
-            no-clash = found-none (firstClash 0 (R .slots d) d e) (clash-of ∙ i)
-
-            pub merge-14 : length out < n → (r : Answer) → r ≡ refuse noRoom 0 → (r, out) ≡ mergeCall R d e out
-            merge-14 l r h =
-                let k : length out < length d = omega (arith, first .long) in
-                beside r (refuse noRoom 0) out _ h
-                (decided d e out true true true none false (first .accepts) (second .accepts) same-bodies no-clash (lt-leb (length d) (length out) k))
-
-            both : (R .slots e ≡ R .slots d) × (length e ≡ length d) × (w .«credentials_at» ≡ v .«credentials_at»)
-            both = alike most d e w v n m first second (same-eq (body R d) (body R e) same-bodies)
-
-            length-merged : length (merged R d e) ≡ length d
-            unfolding merged
-            length-merged =
-                length-putAll (λ p. join (slotAt d p) (slotAt e p)) d 0 (R .slots d) (first .spaced) (λ k b.
-                let fits = spaced-at 0 (R .slots d) (length d) (first .spaced) k b .1 in
-                length-join (slotAt d _) (slotAt e _) (length-slotAt d _ fits) (length-slotAt e _ (omega (arith, both .1))))
-
-            -- the first n bytes of out were lent, and are now the merge
-            lent-merge : (u : List ℕ) → n ≤ length out
-                → u ≡ joinedWith e (w .«credentials_at») (take (length (take n out)) d ++ drop (length d) (take n out)) → u ≡ merged R d e
-            unfolding merged
-            lent-merge u l h =
-                let k : length (take n out) ≡ n = length-take-le n out l in
-                let long : length (take n out) ≡ length d = omega (arith, first .long) in
-                let front : take (length (take n out)) d ++ drop (length d) (take n out) ≡ d =
-                ap₂ (λ (s t : List ℕ). s ++ t) (take-all (length (take n out)) d (omega arith))
-                (drop-of-length-le (take n out) {i = length d} (omega arith)) ∙ append-nil d in
-                let slots : scan e (w .«credentials_at») ≡ R .slots d = ap (scan e) (both .2) ∙ second .slots ∙ both .0 in
-                h ∙ ap₂ (λ (ps s : List ℕ). joinAll ps e s) slots front ∙ joined-all e 0 (R .slots d) d (first .spaced) (both .1)
-
-            pub merge-0 : (u : List ℕ) → n ≤ length out
-                → u ≡ joinedWith e (w .«credentials_at») (take (length (take n out)) d ++ drop (length d) (take n out))
-                → (A.Done n, u ++ drop n out) ≡ mergeCall R d e out
-            merge-0 u l h =
-                let k : length (merged R d e) ≡ n = length-merged ∙ sym (first .long) in
-                let room : length d ≤ length out = omega (arith, first .long) in
-                ap₂ (λ (i : ℕ) (s : List ℕ). (A.Done i, s ++ drop i out)) (sym k) (lent-merge u l h)
-                ∙ decided d e out true true true none true (first .accepts) (second .accepts) same-bodies no-clash (le-leb (length d) (length out) room)
+          pub merge-alike : (z : Answer × List ℕ) → z ≡ Alike d e out (w .«credentials_at») → z ≡ mergeCall R d e out
+          merge-alike z h =
+              h ∙ ap₂ (λ (ps x : List ℕ). decideMerge true true true (firstClash 0 ps d e) (leb (length d) (length out)) x out) (first .slots) joined
+              ∙ decided d e out true true true _ _ (first .accepts) (second .accepts) same-bodies refl refl
 
   -- ---- fill
 
@@ -183,16 +190,9 @@ module _ (most : ℕ) where
         pub fill-21 : (length s ≡ 65 → ⊥) → (r : Answer) → r ≡ refuse notASignature 0 → (r, d) ≡ fillCall R d k s
         fill-21 q r h = beside r (refuse notASignature 0) d _ h (settled d k s true true false _ (draft .accepts) (there .0) (ne-eqb (length s) 65 q) refl)
 
-        module _ (l : length s ≡ 65) (a : List ℕ) (ha : a ≡ slotAt d p) (t : Bool) (ht : t ≡ clashes a s) where
-          clash : clashes (slotAt d (getD (R .slots d) k 0)) s ≡ t
-          clash = sym (ht ∙ ap (λ (y : List ℕ). clashes y s) (ha ∙ ap (slotAt d) (sym (there .1))))
-
-          pub fill-20 : t ≡ true → (r : Answer) → r ≡ refuse conflict k → (r, d) ≡ fillCall R d k s
-          fill-20 q r h = beside r (refuse conflict k) d _ h
-              (settled d k s true true true true (draft .accepts) (there .0) (eq-eqb (length s) 65 l) (clash ∙ q))
-
-          pub fill-0 : t ≡ false → (u : List ℕ) → u ≡ joinedAt p s d → (A.Done n, u) ≡ fillCall R d k s
-          fill-0 q u h =
-              ap₂ (λ (i : ℕ) (y : List ℕ). (A.Done i, y)) (draft .long)
-              (h ∙ joined-put p s d (sixty-five (length s) l) ∙ ap (λ (i : ℕ). putSlot i (join (slotAt d i) s) d) (sym (there .1)))
-              ∙ settled d k s true true true false (draft .accepts) (there .0) (eq-eqb (length s) 65 l) (clash ∙ q)
+        pub fill-at : length s ≡ 65 → (y : Answer × List ℕ) → y ≡ decideFill true true true (clashes (slotAt d p) s) k (joinedAt p s d) d
+            → y ≡ fillCall R d k s
+        fill-at l y h =
+            h ∙ ap (λ (x : List ℕ). decideFill true true true (clashes (slotAt d p) s) k x d) (joined-put p s d (sixty-five (length s) l))
+            ∙ ap (λ (i : ℕ). decideFill true true true (clashes (slotAt d i) s) k (putSlot i (join (slotAt d i) s) d) d) (sym (there .1))
+            ∙ settled d k s true true true _ (draft .accepts) (there .0) (eq-eqb (length s) 65 l) refl

@@ -22,7 +22,7 @@ use Rattle.transaction.proofs.Signed.{parts-took, check-of, read-body, slots-eq
 use Rattle.transaction.proofs.Verdicts.{refused-check, checked-accepted, layout-credentials}
 use Rattle.draft_slots.specs.Scan.{scan}
 use Rattle.draft.specs.Reader.{Reader, reader, body}
-use Rattle.draft.proofs.Walked.{scanned}
+use Rattle.draft.proofs.Scanned.{scanned}
 
 -- with memos of at most `most` bytes
 module _ (most : ℕ) where

@@ -1,5 +1,5 @@
 -- Laws that the proofs of fill and merge use
-pub mod Walked
+pub mod Scanned
 pub mod Known
 pub mod Calling
 pub mod Packing

@@ -13,7 +13,7 @@ use Rattle.transaction.specs.Signed.{assemble, Parts}
 use Rattle.transaction.proofs.Signed.{read-body}
 use Rattle.draft_slots.specs.Scan.{onRange}
 use Rattle.draft_slots.specs.declared.SlotRange.{SlotRange}
-use Rattle.draft.proofs.Walked.{Split, split, behind-integer, behind-signatures, range-there, regroup}
+use Rattle.draft.proofs.Scanned.{Split, split, after-integer, after-signatures, range-there, regroup}
 use Rattle.draft_slot_table.specs.Slots.{Slot, slotIn, slotsFrom, slotsOf, slotList}
 use Rattle.draft_slot_table.specs.Scan.{slotsIn, scanFrom, scan}
 
@@ -44,7 +44,7 @@ scan-each k (w ∷ ws) l s q rest g h =
     (range-there s q t n (r .front) y (g .0 .0) (g .1 .0 .0) (r .long) (r .bytes) there)
     ∙ ap₂ (λ (a b : List Slot). a ++ b) (range-places k n (q + 4 + 4))
     (scan-each (suc k) ws (r .others) s (q + 4 + 4 + 65 * n) rest (r .good)
-    (behind-signatures s q t n (r .front) y (g .0 .0) (g .1 .0 .0) (r .long) (r .bytes) there) ∙ ap (λ (i : ℕ). slotsFrom (suc k) i ws) next)
+    (after-signatures s q t n (r .front) y (g .0 .0) (g .1 .0 .0) (r .long) (r .bytes) there) ∙ ap (λ (i : ℕ). slotsFrom (suc k) i ws) next)
 
 module _ {U : Type 0} (body : Format U) (wants : U → List Want) (d : List ℕ) (u : U) (l : List (List ℕ)) (p : Parts body wants d u l) where
   pub scanned-slots : scan d (length (body .write u)) ≡ slotList body wants d
@@ -56,5 +56,5 @@ module _ {U : Type 0} (body : Format U) (wants : U → List Want) (d : List ℕ)
       let k : drop at d ≡ integer 4 .write (length ws) ++ w = ap (drop at) (p .same) ∙ drop-at (body .write u) (integer 4 .write (length ws) ++ w) at refl in
       integer 4 .complete d at (length ws) w (λ e. []) (λ n q. scanFrom 0 n d q) (p .signatures-good .0 .0) k
       ∙ ap (λ (i : ℕ). scanFrom 0 (length ws) d (at + i)) (length-integer 4 (length ws))
-      ∙ scan-each 0 ws l d (at + 4) [] (p .signatures-good .1) (behind-integer d at (length ws) w k ∙ sym (append-nil w))
+      ∙ scan-each 0 ws l d (at + 4) [] (p .signatures-good .1) (after-integer d at (length ws) w k ∙ sym (append-nil w))
       ∙ sym (ap (slotsOf wants) (read-body body wants d u l p))

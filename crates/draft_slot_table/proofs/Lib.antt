@@ -1,5 +1,5 @@
 -- Laws of the rows of slots, and of the code that lists them
 pub mod Rows
-pub mod Walking
+pub mod Scanning
 pub mod Accepted
 pub mod Listing

@@ -18,21 +18,21 @@ use Rattle.draft_slot_table.specs.Slots.{Slot, slotIn, slotsFrom, slotsO
 
 -- ---- the offsets are those of the slots
 
-places-behind : (n : ℕ) (ps : List Piece) (p : ℕ) → places p (signatures n ps) ≡ places p (signatures n []) ++ places (p + size (signatures n [])) ps
+places-after : (n : ℕ) (ps : List Piece) (p : ℕ) → places p (signatures n ps) ≡ places p (signatures n []) ++ places (p + size (signatures n [])) ps
 unfolding places signatures size
-places-behind zero ps p = let e : p ≡ p + 0 = omega arith in ap (λ (i : ℕ). places i ps) e
-places-behind (suc n) ps p =
+places-after zero ps p = let e : p ≡ p + 0 = omega arith in ap (λ (i : ℕ). places i ps) e
+places-after (suc n) ps p =
     let q : ℕ = size (signatures n []) in
     let e : p + signatureWidth + q ≡ p + (signatureWidth + q) = omega arith in
     ap (λ (l : List ℕ). p ∷ l)
-    (places-behind n ps (p + signatureWidth) ∙ ap (λ (i : ℕ). places (p + signatureWidth) (signatures n []) ++ places i ps) e)
+    (places-after n ps (p + signatureWidth) ∙ ap (λ (i : ℕ). places (p + signatureWidth) (signatures n []) ++ places i ps) e)
 
 places-credential : (w : Want) (ps : List Piece) (p : ℕ) → places p (credential w ps) ≡ places p (credential w []) ++ places (p + size (credential w [])) ps
 unfolding places size
 places-credential w ps p =
     let q : ℕ = size (signatures (w .signatures) []) in
     let e : p + 4 + 4 + q ≡ p + (4 + (4 + q)) = omega arith in
-    places-behind (w .signatures) ps (p + 4 + 4) ∙ ap (λ (i : ℕ). places (p + 4 + 4) (signatures (w .signatures) []) ++ places i ps) e
+    places-after (w .signatures) ps (p + 4 + 4) ∙ ap (λ (i : ℕ). places (p + 4 + 4) (signatures (w .signatures) []) ++ places i ps) e
 
 places-map : (k : ℕ) (ps : List ℕ) (l : List Slot) → map (λ x. x .place) (map (slotIn k) ps ++ l) ≡ ps ++ map (λ x. x .place) l
 places-map k [] l = refl

@@ -29,14 +29,17 @@ fn count(s: &[u8], at: usize) -> usize
         return 0;
     };
     let mut left = credentials;
-    let mut q = start;
+    let mut credential_at = start;
     let mut slots: usize = 0;
     while 0 < left {
-        let SlotRange::Slots(_, n, next) = draft_slots::ranges::range_at(s, q) else {
+        let SlotRange::Slots(_, in_credential, next) = draft_slots::ranges::range_at(
+            s,
+            credential_at,
+        ) else {
             return slots;
         };
-        slots += n as usize;
-        q = next;
+        slots += in_credential as usize;
+        credential_at = next;
         left -= 1;
     }
     slots
@@ -52,33 +55,33 @@ fn filled_at(s: &[u8], at: usize) -> u32
     FILLED
 }
 
-// Writes the row of the slot that starts at `at` into the three numbers of the table from index `i` on.
-fn put_row(s: &[u8], table: &mut [u32], i: usize, credential: usize, at: usize)
-    requires { ⌜ i + 3 ≤ length (now table) ⌝ }
+// Writes the row of the slot that starts at `at` into the three numbers of the table from index `row_at` on.
+fn put_row(s: &[u8], table: &mut [u32], row_at: usize, credential: usize, at: usize)
+    requires { ⌜ «row_at» + 3 ≤ length (now table) ⌝ }
     requires { ⌜ credential ≤ 65536 ⌝ }
     requires { ⌜ at ≤ 65536 ⌝ }
-    ensures { λ _. ⌜ now (table .exit) ≡ put (now (table .entry)) i (row (now (s .entry)) (slotIn credential at)) ⌝ }
+    ensures { λ _. ⌜ now (table .exit) ≡ put (now (table .entry)) «row_at» (row (now (s .entry)) (slotIn credential at)) ⌝ }
 {
-    table[i] = credential as u32;
-    table[i + 1] = at as u32;
-    table[i + 2] = filled_at(s, at);
+    table[row_at] = credential as u32;
+    table[row_at + 1] = at as u32;
+    table[row_at + 2] = filled_at(s, at);
 }
 
-// Writes the rows of a credential's `count` slots, the first of which starts at `at`.
-fn put_range(s: &[u8], table: &mut [u32], i: usize, credential: usize, at: usize, count: u64)
+// Writes the rows of a credential's `count` slots, the first of which starts at `at`, from index `rows_at` of the table on.
+fn put_range(s: &[u8], table: &mut [u32], rows_at: usize, credential: usize, at: usize, count: u64)
     requires { ⌜ length (now s) ≤ 65536 ⌝ }
-    requires { ⌜ i + 3 * count ≤ length (now table) ⌝ }
+    requires { ⌜ «rows_at» + 3 * count ≤ length (now table) ⌝ }
     requires { ⌜ credential ≤ at ⌝ }
     requires { ⌜ at + 65 * count ≤ length (now s) ⌝ }
-    ensures { λ _. ⌜ now (table .exit) ≡ put (now (table .entry)) i (rows (now (s .entry)) (slotsIn credential count at)) ⌝ }
+    ensures { λ _. ⌜ now (table .exit) ≡ put (now (table .entry)) «rows_at» (rows (now (s .entry)) (slotsIn credential count at)) ⌝ }
 {
     let mut left = count;
-    let mut p = at;
-    let mut j = i;
+    let mut slot_at = at;
+    let mut row_at = rows_at;
     while 0 < left {
-        put_row(s, table, j, credential, p);
-        j += ROW;
-        p += transaction::SIGNATURE_WIDTH;
+        put_row(s, table, row_at, credential, slot_at);
+        row_at += ROW;
+        slot_at += transaction::SIGNATURE_WIDTH;
         left -= 1;
     }
 }
@@ -93,17 +96,20 @@ fn put_slots(s: &[u8], table: &mut [u32], at: usize)
         return;
     };
     let mut left = credentials;
-    let mut q = start;
+    let mut credential_at = start;
     let mut credential: usize = 0;
-    let mut i: usize = 0;
+    let mut rows_at: usize = 0;
     while 0 < left {
-        let SlotRange::Slots(first, n, next) = draft_slots::ranges::range_at(s, q) else {
+        let SlotRange::Slots(slots_at, count, next) = draft_slots::ranges::range_at(
+            s,
+            credential_at,
+        ) else {
             return;
         };
-        put_range(s, table, i, credential, first, n);
-        i += ROW * n as usize;
+        put_range(s, table, rows_at, credential, slots_at, count);
+        rows_at += ROW * count as usize;
         credential += 1;
-        q = next;
+        credential_at = next;
         left -= 1;
     }
 }

@@ -68,12 +68,12 @@ module _ (a b : List ℕ) (i : ℕ) (y : Bool) (w : sameFrom a b i ≡ y) (r : B
     split =
         let q : i + n - i ≡ n = omega arith in
         let d : r ≡ same (take n (drop i a)) (take n (drop i b)) = e ∙ rw q in
-        ap₂ (λ (s t : Bool). s && t) d (ap₂ same (behind a) (behind b))
+        ap₂ (λ (s t : Bool). s && t) d (ap₂ same (past-block a) (past-block b))
         ∙ sym (same-split n (drop i a) (drop i b) (omega (arith, length-drop i a)) (omega (arith, length-drop i b)))
         ∙ w
       where
-        behind : (s : List ℕ) → drop (i + n) s ≡ drop n (drop i s)
-        behind s = sym (drop-drop n i s)
+        past-block : (s : List ℕ) → drop (i + n) s ≡ drop n (drop i s)
+        past-block s = sym (drop-drop n i s)
 
     pub block-same : r ≡ true → (k : ℕ) → i + n ≡ k → sameFrom a b k ≡ y
     block-same t k g = ap (sameFrom a b) (sym g) ∙ sym (ap (λ (s : Bool). s && sameFrom a b (i + n)) t) ∙ split

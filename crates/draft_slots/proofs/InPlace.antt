@@ -9,13 +9,13 @@ use native.Mathlib.Nat.{not-suc-le-zero}
 use lib.ListN.{length, take, drop, length-drop, drop-of-length-le}
 use lib.Seq.{take-all, drop-drop, length-take-le}
 use lib.Dec.{eqb}
-use borrow.Author.Tests.{eq-eqb, ne-eqb}
+use borrow.Author.Tests.{eqb-true, eq-eqb, ne-eqb}
 use Rattle.wire.specs.Bytes.{pick}
 use Rattle.transaction.specs.Slots.{signatureWidth, blank, slotAt, putSlot, putAll, Spaced, length-slotAt}
 use Rattle.draft_slots.specs.Joining.{same, join}
 use Rattle.draft_slots.specs.Scan.{slotRange, joinedAt, joinAll}
 use Rattle.draft_slots.proofs.Comparing.{same-of-eq, same-no, dec-same, join-blank, join-filled, length-join}
-use Rattle.draft_slots.proofs.Putting.{spaced-le, put-own, length-put, put-slot-behind}
+use Rattle.draft_slots.proofs.Putting.{spaced-le, put-own, length-put, put-slot-after}
 use Rattle.draft_slots.proofs.Blocks.{blank-fits}
 
 -- ---- one slot
@@ -59,9 +59,23 @@ module _ (p : ℕ) (s d : List ℕ) where
         lent-slot d s y p (p + 65 - p) h (omega arith) l (blank-fits d p x r w e q)
         ∙ sym (rw (eq-eqb (length s) 65 l, test true q))
 
+length-joinedAt : (p : ℕ) (s d : List ℕ) → length (joinedAt p s d) ≡ length d
+unfolding joinedAt signatureWidth
+length-joinedAt p s d = go (eqb (length s) 65) refl (same (slotAt d p) blank) refl
+  where
+    go : (a : Bool) → eqb (length s) 65 ≡ a → (b : Bool) → same (slotAt d p) blank ≡ b → length (pick (a && b) (putSlot p s d) d) ≡ length d
+    go true h true g = length-put p s d (eqb-true (length s) 65 h) (blank-fits d p (slotAt d p) (same (slotAt d p) blank) refl refl g)
+    go true h false g = refl
+    go false h b g = refl
+
 -- ---- one slot after the other
 
 module _ (e : List ℕ) where
+  pub length-joinAll : (ps d : List ℕ) → length (joinAll ps e d) ≡ length d
+  unfolding joinAll
+  length-joinAll [] d = refl
+  length-joinAll (p ∷ ps) d = length-joinAll ps (joinedAt p (slotAt e p) d) ∙ length-joinedAt p (slotAt e p) d
+
   pub join-append : (ps qs d : List ℕ) → joinAll (ps ++ qs) e d ≡ joinAll qs e (joinAll ps e d)
   unfolding joinAll
   join-append [] qs d = refl
@@ -114,4 +128,4 @@ joined-all e lo (p ∷ ps) d h l =
     ∙ joined-all e (p + signatureWidth) ps (putSlot p s d) (subst⁻¹ (λ (n : ℕ). Spaced (p + signatureWidth) ps n) kept (h .1)) (l ∙ sym kept)
     ∙ put-alike (λ q. join (slotAt (putSlot p s d) q) (slotAt e q)) (λ q. join (slotAt d q) (slotAt e q)) (p + signatureWidth) ps (length d) (putSlot p s d)
     (h .1)
-    (λ q k. ap (λ (z : List ℕ). join z (slotAt e q)) (put-slot-behind p s d ls fits q k))
+    (λ q k. ap (λ (z : List ℕ). join z (slotAt e q)) (put-slot-after p s d ls fits q k))

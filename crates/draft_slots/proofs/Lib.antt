@@ -3,4 +3,4 @@ pub mod Comparing
 pub mod Putting
 pub mod Blocks
 pub mod InPlace
-pub mod Walking
+pub mod Scanning

@@ -101,8 +101,8 @@ module _ (p : ℕ) (s d : List ℕ) (hs : length s ≡ signatureWidth) (hd : p +
       ∙ List·getD-append (take p d) s 0 n (omega (arith, front))
       ∙ getD-take p d n 0 h
 
-  pub put-behind : (n : ℕ) → p + signatureWidth ≤ n → getD (putSlot p s d) n 0 ≡ getD d n 0
-  put-behind n h =
+  pub put-after : (n : ℕ) → p + signatureWidth ≤ n → getD (putSlot p s d) n 0 ≡ getD d n 0
+  put-after n h =
       let j : ℕ = n - (p + signatureWidth) in
       let e : n ≡ (p + signatureWidth) + j = omega arith in
       ap (λ (m : ℕ). getD (putSlot p s d) m 0) e ∙ sym (getD-drop (p + signatureWidth) (putSlot p s d) j 0)
@@ -125,9 +125,9 @@ module _ (p : ℕ) (s d : List ℕ) (hs : length s ≡ signatureWidth) (hd : p +
       getD-take signatureWidth (drop q (putSlot p s d)) n 0 i ∙ getD-drop q (putSlot p s d) n 0 ∙ put-before (q + n) (omega arith)
       ∙ sym (getD-drop q d n 0) ∙ sym (getD-take signatureWidth (drop q d) n 0 i))
 
-  pub put-slot-behind : (q : ℕ) → p + signatureWidth ≤ q → slotAt (putSlot p s d) q ≡ slotAt d q
+  pub put-slot-after : (q : ℕ) → p + signatureWidth ≤ q → slotAt (putSlot p s d) q ≡ slotAt d q
   unfolding slotAt
-  put-slot-behind q h =
+  put-slot-after q h =
       let j : ℕ = q - (p + signatureWidth) in
       let e : q ≡ p + signatureWidth + j = omega arith in
       ap (take signatureWidth) (split (putSlot p s d) j e ∙ ap (drop j) drop-put ∙ sym (split d j e))
@@ -180,7 +180,7 @@ putAll-outside f d lo (p ∷ ps) h l n o =
   where
     go : First f d p ps → (n < p) ⊎ (p + signatureWidth ≤ n) → getD (putSlot p (f p) d) n 0 ≡ getD d n 0
     go r (inl b) = put-before p (f p) d (r .here) (r .fits) n b
-    go r (inr b) = put-behind p (f p) d (r .here) (r .fits) n b
+    go r (inr b) = put-after p (f p) d (r .here) (r .fits) n b
 
 putAll-before : (f : ℕ → List ℕ) (d : List ℕ) (lo : ℕ) (ps : List ℕ) → Spaced lo ps (length d) → Long f ps
     → (q : ℕ) → q + signatureWidth ≤ lo → slotAt (putAll ps f d) q ≡ slotAt d q

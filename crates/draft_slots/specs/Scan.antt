@@ -1,5 +1,5 @@
 -- The slots of a draft as the code finds them, by the counts in its credentials. In an accepted transaction they are its slots (`scanned`, in
--- draft/proofs/Walked). A credential that is cut short has none. Assumes nothing.
+-- draft/proofs/Scanned). A credential that is cut short has none. Assumes nothing.
 use mathlib.Core.Bool.{_&&_}
 use mathlib.Core.Option.{Option, none, some}
 use mathlib.Core.List.{List, [], _∷_, _++_}

@@ -26,10 +26,10 @@ fn join_range(draft: &mut [u8], other: &[u8], at: usize, count: u64)
     ensures { λ _. ⌜ now (draft .exit) ≡ joinAll (slotRange count at) (now (other .entry)) (now (draft .entry)) ⌝ }
 {
     let mut left = count;
-    let mut p = at;
+    let mut slot_at = at;
     while 0 < left {
-        join_at(draft, p, compare::slot_of(other, p));
-        p += transaction::SIGNATURE_WIDTH;
+        join_at(draft, slot_at, compare::slot_of(other, slot_at));
+        slot_at += transaction::SIGNATURE_WIDTH;
         left -= 1;
     }
 }
@@ -38,17 +38,17 @@ fn join_range(draft: &mut [u8], other: &[u8], at: usize, count: u64)
 pub fn join_slots(draft: &mut [u8], other: &[u8], at: usize)
     ensures { λ _. ⌜ now (draft .exit) ≡ joinedWith (now (other .entry)) at (now (draft .entry)) ⌝ }
 {
-    let Integer::Value(count, start) = wire::u32_at(other, at) else {
+    let Integer::Value(credentials, start) = wire::u32_at(other, at) else {
         return;
     };
-    let mut left = count;
-    let mut q = start;
+    let mut left = credentials;
+    let mut credential_at = start;
     while 0 < left {
-        let SlotRange::Slots(p, n, next) = ranges::range_at(other, q) else {
+        let SlotRange::Slots(slots_at, count, next) = ranges::range_at(other, credential_at) else {
             return;
         };
-        join_range(draft, other, p, n);
-        q = next;
+        join_range(draft, other, slots_at, count);
+        credential_at = next;
         left -= 1;
     }
 }

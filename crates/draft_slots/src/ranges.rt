@@ -14,10 +14,10 @@ use wire::Integer;
 pub fn range_at(s: &[u8], at: usize) -> SlotRange
     ensures { λ r. ⌜ r ≡ rangeAt (now (s .entry)) at ⌝ }
 {
-    let End::At(i) = wire::field_at(s, at, 4) else {
+    let End::At(count_at) = wire::field_at(s, at, 4) else {
         return SlotRange::Nothing;
     };
-    let Integer::Value(count, first) = wire::u32_at(s, i) else {
+    let Integer::Value(count, first) = wire::u32_at(s, count_at) else {
         return SlotRange::Nothing;
     };
     let End::At(next) = wire::field_at(s, first, transaction::SIGNATURE_WIDTH * count as usize)
@@ -27,21 +27,24 @@ pub fn range_at(s: &[u8], at: usize) -> SlotRange
     SlotRange::Slots(first, count, next)
 }
 
-// The first of `count` slots from `at` on in which two drafts hold different signatures. The slot at `at` is number `k`.
-fn clash_in(first: &[u8], second: &[u8], at: usize, count: u64, k: usize) -> Found
+// The first of `count` slots from `at` on in which two drafts hold different signatures. There are `slots_before` slots before these.
+fn clash_in(first: &[u8], second: &[u8], at: usize, count: u64, slots_before: usize) -> Found
     requires { ⌜ at + 65 * count ≤ length (now first) ⌝ }
-    requires { ⌜ k ≤ at ⌝ }
-    ensures { λ r. ⌜ r ≡ found (firstClash k (slotRange count at) (now (first .entry)) (now (second .entry))) ⌝ }
+    requires { ⌜ «slots_before» ≤ at ⌝ }
+    ensures { λ r. ⌜ r ≡ found (firstClash «slots_before» (slotRange count at) (now (first .entry)) (now (second .entry))) ⌝ }
 {
     let mut left = count;
-    let mut p = at;
-    let mut n = k;
+    let mut slot_at = at;
+    let mut slot = slots_before;
     while 0 < left {
-        if compare::clash(compare::slot_of(first, p), compare::slot_of(second, p)) {
-            return Found::At(n);
+        if compare::clash(
+            compare::slot_of(first, slot_at),
+            compare::slot_of(second, slot_at),
+        ) {
+            return Found::At(slot);
         }
-        p += transaction::SIGNATURE_WIDTH;
-        n += 1;
+        slot_at += transaction::SIGNATURE_WIDTH;
+        slot += 1;
         left -= 1;
     }
     Found::Nothing
@@ -51,23 +54,23 @@ fn clash_in(first: &[u8], second: &[u8], at: usize, count: u64, k: usize) -> Fou
 pub fn first_clash(first: &[u8], second: &[u8], at: usize) -> Found
     ensures { λ r. ⌜ r ≡ found (firstClash 0 (scan (now (first .entry)) at) (now (first .entry)) (now (second .entry))) ⌝ }
 {
-    let Integer::Value(count, start) = wire::u32_at(first, at) else {
+    let Integer::Value(credentials, start) = wire::u32_at(first, at) else {
         return Found::Nothing;
     };
-    let mut left = count;
-    let mut q = start;
-    let mut k: usize = 0;
+    let mut left = credentials;
+    let mut credential_at = start;
+    let mut slots_before: usize = 0;
     while 0 < left {
-        let SlotRange::Slots(p, n, next) = range_at(first, q) else {
+        let SlotRange::Slots(slots_at, count, next) = range_at(first, credential_at) else {
             return Found::Nothing;
         };
-        match clash_in(first, second, p, n, k) {
-            Found::At(slot) => {
-                return Found::At(slot);
+        match clash_in(first, second, slots_at, count, slots_before) {
+            Found::At(conflict) => {
+                return Found::At(conflict);
             }
             Found::Nothing => {
-                q = next;
-                k += n as usize;
+                credential_at = next;
+                slots_before += count as usize;
                 left -= 1;
             }
         }
@@ -75,25 +78,25 @@ pub fn first_clash(first: &[u8], second: &[u8], at: usize) -> Found
     Found::Nothing
 }
 
-// The offset of slot `k` in a draft whose credential count is at `at`.
-pub fn place_of(s: &[u8], at: usize, k: usize) -> Found
-    ensures { λ r. ⌜ r ≡ placed (scan (now (s .entry)) at) k ⌝ }
+// The offset of slot number `slot` in a draft whose credential count is at `at`.
+pub fn place_of(s: &[u8], at: usize, slot: usize) -> Found
+    ensures { λ r. ⌜ r ≡ placed (scan (now (s .entry)) at) slot ⌝ }
 {
-    let Integer::Value(count, start) = wire::u32_at(s, at) else {
+    let Integer::Value(credentials, start) = wire::u32_at(s, at) else {
         return Found::Nothing;
     };
-    let mut left = count;
-    let mut q = start;
-    let mut before = k;
+    let mut left = credentials;
+    let mut credential_at = start;
+    let mut index = slot;
     while 0 < left {
-        let SlotRange::Slots(p, n, next) = range_at(s, q) else {
+        let SlotRange::Slots(slots_at, count, next) = range_at(s, credential_at) else {
             return Found::Nothing;
         };
-        if before < n as usize {
-            return Found::At(p + transaction::SIGNATURE_WIDTH * before);
+        if index < count as usize {
+            return Found::At(slots_at + transaction::SIGNATURE_WIDTH * index);
         }
-        before -= n as usize;
-        q = next;
+        index -= count as usize;
+        credential_at = next;
         left -= 1;
     }
     Found::Nothing

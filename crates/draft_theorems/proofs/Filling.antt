@@ -14,8 +14,8 @@ use Rattle.wire.specs.Numbers.{conflict}
 use Rattle.transaction.specs.Slots.{signatureWidth, blank, slotAt, putSlot, putAll, length-slotAt, bytes-slotAt, length-blank, bytes-blank}
 use Rattle.draft_slots.specs.Joining.{Clash, clashes, join}
 use Rattle.draft_slots.proofs.Comparing.{dec-same, join-second, join-empty, length-join, bytes-join, clashes-of, clashes-none}
-use Rattle.draft_slots.proofs.Putting.{spaced-at, spaced-before, outside-at, by-slots, length-put, bytes-put, put-own, put-before, put-behind}
-use Rattle.draft_slots.proofs.Putting.{put-slot, put-slot-before, put-slot-behind}
+use Rattle.draft_slots.proofs.Putting.{spaced-at, spaced-before, outside-at, by-slots, length-put, bytes-put, put-own, put-before, put-after}
+use Rattle.draft_slots.proofs.Putting.{put-slot, put-slot-before, put-slot-after}
 use Rattle.draft.specs.declared.Answer.{Answer}
 use Rattle.draft.specs.declared.Answer.the-variants as A
 use Rattle.draft.specs.Reader.{Reader, Draft, slotCount, slot}
@@ -46,7 +46,7 @@ module _ (R : Reader) (L : Laws R) (d : List ℕ) (hd : Draft R d) (k : ℕ) (kb
       where
         away : (n : ℕ) → (n < at-k) ⊎ (at-k + signatureWidth ≤ n) → getD (putSlot at-k s d) n 0 ≡ getD d n 0
         away n (inl h) = put-before at-k s d hs fits n h
-        away n (inr h) = put-behind at-k s d hs fits n h
+        away n (inr h) = put-after at-k s d hs fits n h
 
     put-here : slot R (putSlot at-k s d) k ≡ s
     unfolding at-k
@@ -61,7 +61,7 @@ module _ (R : Reader) (L : Laws R) (d : List ℕ) (hd : Draft R d) (k : ℕ) (kb
 
         go : Dec (j < k) → slotAt (putSlot at-k s d) (getD (R .slots d) j 0) ≡ slotAt d (getD (R .slots d) j 0)
         go (yes h) = put-slot-before at-k s d hs fits (getD (R .slots d) j 0) (order j k h k-in)
-        go (no h) = put-slot-behind at-k s d hs fits (getD (R .slots d) j 0) (order k j (omega arith) b)
+        go (no h) = put-slot-after at-k s d hs fits (getD (R .slots d) j 0) (order k j (omega arith) b)
 
   -- ---- one call
 

@@ -169,7 +169,7 @@ module _ (R : Reader) (L : Laws R) (ds : List (List ℕ)) (D : Drafts R ds) wher
           number = ap (λ (a : Answer × List ℕ). answerNumber (a .0)) e;
           place = λ i bi. p ∙ lm ∙ sym (like-at i bi .frame .long);
           long = ap length b ∙ omega (arith, length-append m (drop (length m) out), length-drop (length m) out);
-          behind = ap₂ (λ (n : ℕ) (s : List ℕ). drop n s) p b ∙ drop-append-seam m (drop (length m) out) ∙ ap (λ (n : ℕ). drop n out) (sym p);
+          after = ap₂ (λ (n : ℕ) (s : List ℕ). drop n s) p b ∙ drop-append-seam m (drop (length m) out) ∙ ap (λ (n : ℕ). drop n out) (sym p);
         }
 
     refused-me : (k : ℕ) → FirstClash R x y k → answered R me ≡ (refuse conflict k, out) → Refused R me

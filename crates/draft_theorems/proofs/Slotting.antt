@@ -22,9 +22,9 @@ module _ (F : Family) (d : List ℕ) (v : Signed F) (p : Parts (unsigned F) (wan
   count-at = ap endOf (read-body (unsigned F) (wants F) d (v .0) (v .1) p)
 
   -- the slots come after the credentials' count, which has four bytes
-  spaced-behind : Spaced (length (unsigned F .write (v .0)) + 4) (reader F .slots d) (length d)
+  spaced-after : Spaced (length (unsigned F .write (v .0)) + 4) (reader F .slots d) (length d)
   unfolding layout places size
-  spaced-behind =
+  spaced-after =
       let w : ℕ = length (unsigned F .write (v .0)) in
       subst⁻¹ (λ (ps : List ℕ). Spaced (w + 4) ps (length d)) (slots-eq (unsigned F) (wants F) d (v .0) (v .1) p)
       (spaced-places (each (wants F (v .0))) (w + 4) (w + 4) (length d) (le-refl (w + 4))
@@ -43,7 +43,7 @@ module _ (F : Family) (d : List ℕ) (v : Signed F) (p : Parts (unsigned F) (wan
         holds = λ k b. slot-eq (unsigned F) (wants F) d (v .0) (v .1) p k (omega (arith, count)) [];
         wide = λ k b. length-slotAt d (slotStart F d k) (spaced-at 0 qs (length d) spaced k b .1);
         inside = λ k b. spaced-at 0 qs (length d) spaced k b .1;
-        after-count = λ k b. omega (arith, count-at, spaced-at (length (unsigned F .write (v .0)) + 4) qs (length d) spaced-behind k b .0);
+        after-count = λ k b. omega (arith, count-at, spaced-at (length (unsigned F .write (v .0)) + 4) qs (length d) spaced-after k b .0);
         apart = λ j k a b. spaced-before 0 qs (length d) spaced j k a b;
         unsigned-part = unsigned-eq (unsigned F) (wants F) d (v .0) (v .1) p;
       }

@@ -77,7 +77,7 @@ pub record Done (R : Reader) (ds : List (List ℕ)) (c : Call) : Type 0 where
   pub number : callNumber R c ≡ 0
   pub place : (i : ℕ) → i < length ds → callPlace R c ≡ length (at ds i)
   pub long : length (callBuffer R c) ≡ length (c .out)
-  pub behind : drop (callPlace R c) (callBuffer R c) ≡ drop (callPlace R c) (c .out)
+  pub after : drop (callPlace R c) (callBuffer R c) ≡ drop (callPlace R c) (c .out)
 
 -- "answers 20 with the first slot where its own two drafts hold different signatures"; nothing is written
 pub record Refused (R : Reader) (c : Call) : Type 0 where

@@ -6,17 +6,17 @@ use native.Mathlib.Omega.{arith}
 use lib.ListN.{length}
 use Rattle.draft_slot_table.specs.Slots.{rows}
 use Rattle.draft_slot_table.specs.Scan.{slotsIn, put}
-use Rattle.draft_slot_table.proofs.Walking.{same-length, running}
+use Rattle.draft_slot_table.proofs.Scanning.{same-length, running}
 use Rattle.draft_slot_table.proofs.put_range.Statement.{statement}
 use Rattle.draft_slot_table.proofs.put_range.Tie as tie
 
 abbrev Inv-loop : tie.InvT-loop
-Inv-loop s table₀ i credential at count left₀ p₀ j₀ table left p j =
-    (put table j (rows s (slotsIn credential left p)) ≡ put table₀ i (rows s (slotsIn credential count at)))
-    × (length table ≡ length table₀) × (j + 3 * left ≤ length table) × (p + 65 * left ≤ length s) × (credential ≤ p)
+Inv-loop s table₀ rows-at credential at count left₀ slot-at₀ row-at₀ table left slot-at row-at =
+    (put table row-at (rows s (slotsIn credential left slot-at)) ≡ put table₀ rows-at (rows s (slotsIn credential count at)))
+    × (length table ≡ length table₀) × (row-at + 3 * left ≤ length table) × (slot-at + 65 * left ≤ length s) × (credential ≤ slot-at)
 
 abbrev μ-loop : tie.MeasureT-loop
-μ-loop s table₀ i credential at count left₀ p₀ j₀ table left p j = left
+μ-loop s table₀ rows-at credential at count left₀ slot-at₀ row-at₀ table left slot-at row-at = left
 
 pub put-range-spec : {M : Type 1} → statement M
 put-range-spec =
@@ -26,7 +26,7 @@ put-range-spec =
     μ-loop
     (λ c. (refl, refl, omega arith, omega arith, omega arith))  -- loop-holds
     (λ c κs. (omega arith, (omega arith, omega arith)))  -- put-row-requires
-    (λ c. search needs) (λ c. search needs) (λ c. search needs) (λ c. search needs)  -- add-j, add-p, sub-left, loop-less
+    (λ c. search needs) (λ c. search needs) (λ c. search needs) (λ c. search needs)  -- add-row-at, add-slot-at, sub-left, loop-less
     (λ c.
     let same = same-length _ _ _ _ (c .before .before .put-row .ensures) in
     (search running, omega arith, omega arith, omega arith, omega arith))  -- loop-again

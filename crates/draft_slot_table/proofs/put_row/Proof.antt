@@ -2,7 +2,7 @@
 use borrow.Author.Needs.{needs}
 use native.Mathlib.Omega.{arith}
 use lib.ListN.{length-set}
-use Rattle.draft_slot_table.proofs.Walking.{row-stored}
+use Rattle.draft_slot_table.proofs.Scanning.{row-stored}
 use Rattle.draft_slot_table.proofs.put_row.Statement.{statement}
 use Rattle.draft_slot_table.proofs.put_row.Tie as tie
 

@@ -10,11 +10,12 @@ use Rattle.draft_slots.proofs.join.join_range.Statement.{statement}
 use Rattle.draft_slots.proofs.join.join_range.Tie as tie
 
 abbrev Inv-loop : tie.InvT-loop
-Inv-loop draft₀ other at count left₀ p₀ draft left p =
-    (joinAll (slotRange left p) other draft ≡ joinAll (slotRange count at) other draft₀) × (p + 65 * left ≤ length other) × (length draft ≡ length draft₀)
+Inv-loop draft₀ other at count left₀ slot-at₀ draft left slot-at =
+    (joinAll (slotRange left slot-at) other draft ≡ joinAll (slotRange count at) other draft₀)
+    × (slot-at + 65 * left ≤ length other) × (length draft ≡ length draft₀)
 
 abbrev μ-loop : tie.MeasureT-loop
-μ-loop draft₀ other at count left₀ p₀ draft left p = left
+μ-loop draft₀ other at count left₀ slot-at₀ draft left slot-at = left
 
 pub join-range-spec : {M : Type 1} → statement M
 join-range-spec =
@@ -23,7 +24,7 @@ join-range-spec =
     Inv-loop
     μ-loop
     (λ c. (refl, omega arith, refl))  -- loop-holds
-    (λ c κs. search needs) (λ c κs. search needs) (λ c. search needs) (λ c. search needs)  -- slot-of-requires, join-at-requires, add-p, sub-left
+    (λ c κs. search needs) (λ c κs. search needs) (λ c. search needs) (λ c. search needs)  -- slot-of-requires, join-at-requires, add-slot-at, sub-left
     (λ c. search needs)  -- loop-less
     (λ c. (search join-on, omega arith, search needs))  -- loop-again
     (λ c. search needs)  -- same-length

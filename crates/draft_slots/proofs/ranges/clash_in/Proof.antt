@@ -4,17 +4,18 @@ use Prim.Native.Nat.{_+_, _*_, _≤_}
 use native.Mathlib.Omega.{arith}
 use lib.ListN.{length}
 use Rattle.draft_slots.specs.Scan.{slotRange}
-use Rattle.draft_slots.proofs.Walking.{clashFrom, clash-is, clashing-range}
+use Rattle.draft_slots.proofs.Scanning.{clashFrom, clash-is, clashing-range}
 use borrow.Author.Needs.{needs}
 use Rattle.draft_slots.proofs.ranges.clash_in.Statement.{statement}
 use Rattle.draft_slots.proofs.ranges.clash_in.Tie as tie
 
 abbrev Inv-loop : tie.InvT-loop
-Inv-loop first second at count k left₀ p₀ n₀ left p n =
-    (clashFrom first second n (slotRange left p) ≡ clashFrom first second k (slotRange count at)) × (p + 65 * left ≤ length first) × (n ≤ p)
+Inv-loop first second at count slots-before left₀ slot-at₀ slot₀ left slot-at slot =
+    (clashFrom first second slot (slotRange left slot-at) ≡ clashFrom first second slots-before (slotRange count at))
+    × (slot-at + 65 * left ≤ length first) × (slot ≤ slot-at)
 
 abbrev μ-loop : tie.MeasureT-loop
-μ-loop first second at count k left₀ p₀ n₀ left p n = left
+μ-loop first second at count slots-before left₀ slot-at₀ slot₀ left slot-at slot = left
 
 pub clash-in-spec : {M : Type 1} → statement M
 clash-in-spec =
@@ -25,6 +26,6 @@ clash-in-spec =
     (λ c. (refl, omega arith, omega arith))  -- loop-holds
     (λ c κs. search needs) (λ c κs. search needs) (λ c κs. search needs)  -- slot-of-requires, slot-of-requires-2, clash-requires
     (λ c. search (clash-is, clashing-range))  -- returns
-    (λ c. search needs) (λ c. search needs) (λ c. search needs) (λ c. search needs)  -- add-p, add-n, sub-left, loop-less
+    (λ c. search needs) (λ c. search needs) (λ c. search needs) (λ c. search needs)  -- add-slot-at, add-slot, sub-left, loop-less
     (λ c. (search clashing-range, omega arith, omega arith))  -- loop-again
     (λ c. search (clash-is, clashing-range)))  -- returns-2

@@ -1,6 +1,6 @@
 -- `draft_slots::ranges::range_at` meets its contract. Assumes nothing.
 use Rattle.wire.proofs.Reading.{value-small}
-use Rattle.draft_slots.proofs.Walking.{slots-fit, running}
+use Rattle.draft_slots.proofs.Scanning.{slots-fit, running}
 use borrow.Author.Needs.{needs}
 use Rattle.draft_slots.proofs.ranges.range_at.Statement.{statement}
 use Rattle.draft_slots.proofs.ranges.range_at.Tie as tie
@@ -9,7 +9,7 @@ pub range-at-spec : {M : Type 1} → statement M
 range-at-spec =
     tie.close
     (tie.spec
-    (λ c κs. search needs) (λ c. search needs) (λ c. search needs)  -- field-at-requires, enum-known-i, enum-told
+    (λ c κs. search needs) (λ c. search needs) (λ c. search needs)  -- field-at-requires, enum-known-count-at, enum-told
     (λ c. search running depth 10)  -- returns
     (λ c κs. search needs) (λ c. search needs) (λ c. search needs)  -- u32-at-requires, enum-known-count, enum-told-2
     (λ c. search running depth 10)  -- returns-2

@@ -1,5 +1,5 @@
 -- The loops over the credentials of a transaction: what is left to do, by what the code has found. Assumes nothing.
-use Prim.Native.Nat.{ℕ, zero, suc, _+_, _-_, _*_, _≤_, _<_}
+use Prim.Native.Nat.{ℕ, zero, suc, _+_, _-_, _*_, _^_, _≤_, _<_}
 use mathlib.Core.Path.{_≡_, refl, sym, ap, ap₂, _∙_}
 use mathlib.Core.List.{List, [], _∷_, _++_}
 use native.Mathlib.Omega.{arith}
@@ -17,6 +17,7 @@ use Rattle.wire.proofs.Reading as W
 use Rattle.draft_slots.specs.Scan.{rangeAt, onRange}
 use Rattle.draft_slots.specs.declared.SlotRange.{SlotRange}
 use Rattle.draft_slots.specs.declared.SlotRange.the-variants as R
+use Rattle.draft_slots.proofs.Scanning.{range-inside}
 use Rattle.draft_slot_table.specs.Slots.{Slot, slotIn, filledAt, row, rows}
 use Rattle.draft_slot_table.specs.Scan.{slotsIn, scanFrom, scan, put}
 use Rattle.draft_slot_table.proofs.Rows.{length-rows, rows-append}
@@ -27,10 +28,10 @@ length-range k zero p = refl
 length-range k (suc n) p = ap suc (length-range k n (p + 65))
 
 -- the number of slots does not depend on the number of the first credential
-length-walk : (j k n : ℕ) (s : List ℕ) (q : ℕ) → length (scanFrom j n s q) ≡ length (scanFrom k n s q)
+length-scan : (j k n : ℕ) (s : List ℕ) (q : ℕ) → length (scanFrom j n s q) ≡ length (scanFrom k n s q)
 unfolding scanFrom
-length-walk j k zero s q = refl
-length-walk j k (suc n) s q = go (rangeAt s q) (λ next. length-walk (suc j) (suc k) n s next)
+length-scan j k zero s q = refl
+length-scan j k (suc n) s q = go (rangeAt s q) (λ next. length-scan (suc j) (suc k) n s next)
   where
     go : (x : SlotRange) → ((next : ℕ) → length (scanFrom (suc j) n s next) ≡ length (scanFrom (suc k) n s next))
         → length (onRange x [] (λ first c next. slotsIn j c first ++ scanFrom (suc j) n s next))
@@ -63,8 +64,8 @@ module _ (s : List ℕ) (k q : ℕ) (x : SlotRange) (e : x ≡ rangeAt s q) wher
       ap (λ (r : SlotRange). onRange r [] (λ f c m. slotsIn k c f ++ scanFrom (suc k) left s m)) (found e h) ∙ rw (sub-one (suc left), add-one)
 
   -- the slots that are left are the n of this range and those after it
-  pub left-behind : (left p n next : ℕ) → x ≡ R.Slots p n next → 0 < left → length (scanFrom k left s q) ≡ n + length (scanFrom (k + 1) (left - 1) s next)
-  left-behind left p n next h i =
+  pub left-after : (left p n next : ℕ) → x ≡ R.Slots p n next → 0 < left → length (scanFrom k left s q) ≡ n + length (scanFrom (k + 1) (left - 1) s next)
+  left-after left p n next h i =
       let l : List Slot = scanFrom (k + 1) (left - 1) s next in
       omega (arith, ap length (scan-range left p n next h i), length-append (slotsIn k n p) l, length-range k n p)
 
@@ -92,7 +93,7 @@ module _ (s : List ℕ) (c left q y : ℕ) (h : c + length (scanFrom 0 left s q)
 
     pub count-next : (p n next : ℕ) → x ≡ R.Slots p n next → 0 < left → c + n + length (scanFrom 0 (left - 1) s next) ≡ y
     count-next p n next r i =
-        omega (arith, left-behind s 0 q x e left p n next r i, length-walk (0 + 1) 0 (left - 1) s next)
+        omega (arith, left-after s 0 q x e left p n next r i, length-scan (0 + 1) 0 (left - 1) s next)
 
 pub ruleset counting = (count-over, count-stop, count-next)
 
@@ -141,6 +142,9 @@ module _ (s t : List ℕ) (at : ℕ) (x : Integer) (p : x ≡ valued (integer 4)
   pub slots-start : (n q : ℕ) → x ≡ N.Value n q → put t 0 (rows s (scanFrom 0 n s q)) ≡ put t 0 (rows s (scan s at))
   slots-start n q h = ap (λ (l : List Slot). put t 0 (rows s l)) (scan-from s at x p n q h)
 
+  pub rows-start : (n q m : ℕ) → x ≡ N.Value n q → 3 * length (scan s at) ≤ m → 0 + 3 * length (scanFrom 0 n s q) ≤ m
+  rows-start n q m h e = omega (arith, ap length (scan-from s at x p n q h))
+
   pub slots-none : (e : Refusal) → x ≡ N.Refused e → t ≡ put t 0 (rows s (scan s at))
   unfolding rows put
   slots-none e h = ap (λ (l : List Slot). put t 0 (rows s l)) (scan-none s at x p e h)
@@ -165,3 +169,18 @@ module _ (s : List ℕ) (k left q i : ℕ) (t y : List ℕ) (h : put t i (rows s
         ∙ ap (put t i) (sym (rows-append s a l)) ∙ ap (λ (m : List Slot). put t i (rows s m)) (sym (scan-range s k q x e left p n next r b)) ∙ h
 
 pub ruleset slotting = (slots-end, slots-stop, slots-next)
+
+-- the bounds that a slot range gives, where k credentials come before it and the rows of its n slots start at i
+module _ (s : List ℕ) (q p n next : ℕ) (x : SlotRange) (e : x ≡ rangeAt s q) (h : x ≡ R.Slots p n next) (k : ℕ) where
+  pub credential-ends : k ≤ q → k + 1 ≤ next
+  credential-ends b = omega (arith, range-inside s q p n next x e h)
+
+  pub rows-fit : (left : ℕ) → 0 < left → (i : ℕ) (t : List ℕ) → i + 3 * length (scanFrom k left s q) ≤ length t → i + 3 * n ≤ length t
+  rows-fit left some i t fits = omega (arith, left-after s k q x e left p n next h some)
+
+  module _ (short : length s ≤ 65536) where
+    pub row-numbers : 3 * n < 2 ^ 64
+    row-numbers = omega (arith, range-inside s q p n next x e h)
+
+    pub credential-counted : k ≤ q → k + 1 < 2 ^ 64
+    credential-counted b = omega (arith, range-inside s q p n next x e h)

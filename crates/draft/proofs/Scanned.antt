@@ -49,20 +49,20 @@ split (suc n) ps (b ∷ l) g =
     }
 
 -- the bytes just past an integer
-pub behind-integer : (s : List ℕ) (q v : ℕ) (t : List ℕ) → drop q s ≡ integer 4 .write v ++ t → drop (q + 4) s ≡ t
-behind-integer s q v t h = subst (λ (n : ℕ). drop (q + n) s ≡ t) (length-integer 4 v) (drop-step s q (integer 4 .write v) t h)
+pub after-integer : (s : List ℕ) (q v : ℕ) (t : List ℕ) → drop q s ≡ integer 4 .write v ++ t → drop (q + 4) s ≡ t
+after-integer s q v t h = subst (λ (n : ℕ). drop (q + n) s ≡ t) (length-integer 4 v) (drop-step s q (integer 4 .write v) t h)
 
 -- the slots of the credential at offset q, and the bytes after them
 module _ (s : List ℕ) (q t n : ℕ) (x rest : List ℕ) (gt : integer 4 .Good t) (gn : integer 4 .Good n) (lx : length x ≡ 65 * n) (bx : Bytes x)
     (h : drop q s ≡ integer 4 .write t ++ (integer 4 .write n ++ (x ++ rest))) where
   at-count : drop (q + 4) s ≡ integer 4 .write n ++ (x ++ rest)
-  at-count = behind-integer s q t (integer 4 .write n ++ (x ++ rest)) h
+  at-count = after-integer s q t (integer 4 .write n ++ (x ++ rest)) h
 
   at-signatures : drop (q + 4 + 4) s ≡ x ++ rest
-  at-signatures = behind-integer s (q + 4) n (x ++ rest) at-count
+  at-signatures = after-integer s (q + 4) n (x ++ rest) at-count
 
-  pub behind-signatures : drop (q + 4 + 4 + 65 * n) s ≡ rest
-  behind-signatures = subst (λ (i : ℕ). drop (q + 4 + 4 + i) s ≡ rest) lx (drop-step s (q + 4 + 4) x rest at-signatures)
+  pub after-signatures : drop (q + 4 + 4 + 65 * n) s ≡ rest
+  after-signatures = subst (λ (i : ℕ). drop (q + 4 + 4 + i) s ≡ rest) lx (drop-step s (q + 4 + 4) x rest at-signatures)
 
   pub range-there : rangeAt s q ≡ R.Slots (q + 4 + 4) n (q + 4 + 4 + 65 * n)
   unfolding blob
@@ -100,7 +100,7 @@ scan-each (w ∷ ws) l s q rest g h =
     ap (λ (u : SlotRange). onRange u [] (λ first c next. slotRange c first ++ scanFrom (length ws) s next))
     (range-there s q t n (r .front) y (g .0 .0) (g .1 .0 .0) (r .long) (r .bytes) k)
     ∙ ap (λ (ps : List ℕ). slotRange n (q + 4 + 4) ++ ps)
-    (scan-each ws (r .others) s (q + 4 + 4 + 65 * n) rest (r .good) (behind-signatures s q t n (r .front) y (g .0 .0) (g .1 .0 .0) (r .long) (r .bytes) k))
+    (scan-each ws (r .others) s (q + 4 + 4 + 65 * n) rest (r .good) (after-signatures s q t n (r .front) y (g .0 .0) (g .1 .0 .0) (r .long) (r .bytes) k))
     ∙ sym (places-range n (each ws) (q + 4 + 4))
 
 module _ {U : Type 0} (body : Format U) (wants : U → List Want) (d : List ℕ) (u : U) (l : List (List ℕ)) (p : Parts body wants d u l) where
@@ -113,4 +113,4 @@ module _ {U : Type 0} (body : Format U) (wants : U → List Want) (d : List ℕ)
       let k : drop at d ≡ integer 4 .write (length ws) ++ w = ap (drop at) (p .same) ∙ drop-at (body .write u) (integer 4 .write (length ws) ++ w) at refl in
       integer 4 .complete d at (length ws) w (λ e. []) (λ n q. scanFrom n d q) (p .signatures-good .0 .0) k
       ∙ ap (λ (i : ℕ). scanFrom (length ws) d (at + i)) (length-integer 4 (length ws))
-      ∙ scan-each ws l d (at + 4) [] (p .signatures-good .1) (behind-integer d at (length ws) w k ∙ sym (append-nil w))
+      ∙ scan-each ws l d (at + 4) [] (p .signatures-good .1) (after-integer d at (length ws) w k ∙ sym (append-nil w))

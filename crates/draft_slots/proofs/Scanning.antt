@@ -22,7 +22,7 @@ use Rattle.wire.proofs.Bytes.{found}
 use Rattle.wire.proofs.Reading as W
 use Rattle.transaction.specs.Slots.{slotAt}
 use Rattle.draft_slots.specs.Joining.{clashes, firstClash}
-use Rattle.draft_slots.specs.Scan as Walk
+use Rattle.draft_slots.specs.Scan as Scan
 use Rattle.draft_slots.specs.Scan.{rangeAt, onRange, slotRange, scanFrom, scan, placed, joinAll}
 use Rattle.draft_slots.specs.declared.SlotRange.{SlotRange}
 use Rattle.draft_slots.specs.declared.SlotRange.the-variants as R
@@ -155,19 +155,19 @@ clash-front d e k (p ∷ ps) qs j h = go (clashes (slotAt d p) (slotAt e p)) h (
     go true h ih = h
     go false h ih = ih h
 
-pub found-none : (o : Option ℕ) → Walk.found o ≡ F.Nothing → o ≡ none
+pub found-none : (o : Option ℕ) → Scan.found o ≡ F.Nothing → o ≡ none
 found-none none h = refl
 found-none (some k) h = let z : _≡_ {A = ℕ} 0 1 = cc in absurd (omega arith)
 
-pub found-some : (o : Option ℕ) (j : ℕ) → Walk.found o ≡ F.At j → o ≡ some j
+pub found-some : (o : Option ℕ) (j : ℕ) → Scan.found o ≡ F.At j → o ≡ some j
 found-some none j h = let z : _≡_ {A = ℕ} 0 1 = cc in absurd (omega arith)
 found-some (some k) j h = let z : k ≡ j = cc in ap some z
 
 -- the first clash of d and e in these slots, as the code answers it; opaque, so that `search` reads its arguments off it
 unfoldable pub clashFrom : List ℕ → List ℕ → ℕ → List ℕ → Found
-clashFrom d e k ps = Walk.found (firstClash k ps d e)
+clashFrom d e k ps = Scan.found (firstClash k ps d e)
 
-pub clash-is : (d e : List ℕ) (k : ℕ) (ps : List ℕ) (z : Found) → z ≡ clashFrom d e k ps → z ≡ Walk.found (firstClash k ps d e)
+pub clash-is : (d e : List ℕ) (k : ℕ) (ps : List ℕ) (z : Found) → z ≡ clashFrom d e k ps → z ≡ Scan.found (firstClash k ps d e)
 unfolding clashFrom
 clash-is d e k ps z h = h
 
@@ -210,36 +210,36 @@ module _ (d e : List ℕ) (at : ℕ) (x : Integer) (p : x ≡ valued (integer 4)
 
   pub clash-absent : (r : Refusal) → x ≡ N.Refused r → F.Nothing ≡ clashFrom d e 0 (scan d at)
   unfolding clashFrom firstClash
-  clash-absent r h = ap (λ (ps : List ℕ). Walk.found (firstClash 0 ps d e)) (scan-none d at x p r h)
+  clash-absent r h = ap (λ (ps : List ℕ). Scan.found (firstClash 0 ps d e)) (scan-none d at x p r h)
 
 module _ (d e : List ℕ) (k left q : ℕ) (y : Found) (w : clashFrom d e k (scanFrom left d q) ≡ y) where
   pub clash-over : left ≤ 0 → F.Nothing ≡ y
   unfolding clashFrom firstClash
-  clash-over h = ap (λ (ps : List ℕ). Walk.found (firstClash k ps d e)) (sym (scan-end d q left h)) ∙ w
+  clash-over h = ap (λ (ps : List ℕ). Scan.found (firstClash k ps d e)) (sym (scan-end d q left h)) ∙ w
 
   module _ (x : SlotRange) (hx : x ≡ rangeAt d q) where
     pub clash-stop : x ≡ R.Nothing → F.Nothing ≡ y
     unfolding clashFrom firstClash
-    clash-stop h = ap (λ (ps : List ℕ). Walk.found (firstClash k ps d e)) (sym (scan-stop d q x hx left h)) ∙ w
+    clash-stop h = ap (λ (ps : List ℕ). Scan.found (firstClash k ps d e)) (sym (scan-stop d q x hx left h)) ∙ w
 
-    module _ (p n next : ℕ) (hr : x ≡ R.Slots p n next) (hl : 0 < left) (z : Found) (hz : z ≡ Walk.found (firstClash k (slotRange n p) d e)) where
+    module _ (p n next : ℕ) (hr : x ≡ R.Slots p n next) (hl : 0 < left) (z : Found) (hz : z ≡ Scan.found (firstClash k (slotRange n p) d e)) where
       whole : clashFrom d e k (slotRange n p ++ scanFrom (left - 1) d next) ≡ y
       whole = ap (clashFrom d e k) (sym (scan-range d q x hx p n next left hr hl)) ∙ w
 
       pub clash-found : (j : ℕ) → z ≡ F.At j → F.At j ≡ y
       unfolding clashFrom
       clash-found j h =
-          ap Walk.found (sym (clash-front d e k (slotRange n p) (scanFrom (left - 1) d next) j
+          ap Scan.found (sym (clash-front d e k (slotRange n p) (scanFrom (left - 1) d next) j
           (found-some (firstClash k (slotRange n p) d e) j (sym hz ∙ h)))) ∙ whole
 
       pub clash-next : z ≡ F.Nothing → clashFrom d e (k + n) (scanFrom (left - 1) d next) ≡ y
       unfolding clashFrom
       clash-next h =
-          ap (λ (i : ℕ). Walk.found (firstClash (k + i) (scanFrom (left - 1) d next) d e)) (sym (length-range n p))
-          ∙ ap Walk.found (sym (clash-append d e k (slotRange n p) (scanFrom (left - 1) d next) (found-none (firstClash k (slotRange n p) d e) (sym hz ∙ h))))
+          ap (λ (i : ℕ). Scan.found (firstClash (k + i) (scanFrom (left - 1) d next) d e)) (sym (length-range n p))
+          ∙ ap Scan.found (sym (clash-append d e k (slotRange n p) (scanFrom (left - 1) d next) (found-none (firstClash k (slotRange n p) d e) (sym hz ∙ h))))
           ∙ whole
 
-pub ruleset clashing-walk = (clash-over, clash-stop, clash-found, clash-next)
+pub ruleset clashing-scan = (clash-over, clash-stop, clash-found, clash-next)
 
 -- ---- the offset of a slot
 
@@ -255,8 +255,8 @@ place-front n p k qs h =
     rw (lt-ltb k (length (slotRange n p ++ qs)) i)
     (ap F.At (List·getD-append (slotRange n p) qs 0 k (omega (arith, length-range n p)) ∙ range-place n p k h))
 
-place-behind : (n p k : ℕ) (qs : List ℕ) → n ≤ k → placed (slotRange n p ++ qs) k ≡ placed qs (k - n)
-place-behind n p k qs h = go (decLt (k - n) (length qs))
+place-after : (n p k : ℕ) (qs : List ℕ) → n ≤ k → placed (slotRange n p ++ qs) k ≡ placed qs (k - n)
+place-after n p k qs h = go (decLt (k - n) (length qs))
   where
     there : getD (slotRange n p ++ qs) k 0 ≡ getD qs (k - n) 0
     there =
@@ -308,9 +308,9 @@ module _ (s : List ℕ) (k left q : ℕ) (y : Found) (w : placeFrom (scanFrom le
 
       pub place-next : n ≤ k → placeFrom (scanFrom (left - 1) s next) (k - n) ≡ y
       unfolding placeFrom
-      place-next h = sym (ap (λ (ps : List ℕ). placed ps k) (scan-range s q x hx p n next left hr hl) ∙ place-behind n p k (scanFrom (left - 1) s next) h) ∙ w
+      place-next h = sym (ap (λ (ps : List ℕ). placed ps k) (scan-range s q x hx p n next left hr hl) ∙ place-after n p k (scanFrom (left - 1) s next) h) ∙ w
 
-pub ruleset placing-walk = (place-over, place-stop, place-here, place-next)
+pub ruleset placing-scan = (place-over, place-stop, place-here, place-next)
 
 -- ---- joining
 
@@ -338,4 +338,4 @@ module _ (e d : List ℕ) (left q : ℕ) (y : List ℕ) (w : joinAll (scanFrom l
         ap (joinAll (scanFrom (left - 1) e next) e) hz ∙ sym (join-append e (slotRange n p) (scanFrom (left - 1) e next) d)
         ∙ ap (λ (ps : List ℕ). joinAll ps e d) (sym (scan-range e q x hx p n next left hr hl)) ∙ w
 
-pub ruleset joining-walk = (joins-over, joins-stop, joins-next)
+pub ruleset joining-scan = (joins-over, joins-stop, joins-next)
