@@ -3,7 +3,7 @@ use mathlib.Core.Path.{_≡_, refl, sym, ap, ap₂, _∙_}
 use mathlib.Core.Bool.{Bool, true, false, not}
 use mathlib.Core.Option.{Option, none, some}
 use mathlib.Core.List.{List, _++_, append-nil}
-use Prim.Native.Nat.{ℕ, _≤_, _<_}
+use Prim.Native.Nat.{ℕ, _+_, _≤_, _<_}
 use native.Mathlib.Omega.{arith}
 use lib.Dec.{leb, ltb, eqb}
 use borrow.Author.Tests.{le-leb, lt-leb, eq-eqb, ne-eqb}
@@ -20,7 +20,7 @@ use Rattle.transaction.specs.declared.Checked.{Checked}
 use Rattle.transaction.specs.declared.Checked.the-variants as C
 use Rattle.draft_slots.specs.Joining.{same, join, clashes, firstClash}
 use Rattle.draft_slots.specs.Scan as Scan
-use Rattle.draft_slots.specs.Scan.{scan, placed, joinedAt, joinAll, joinedWith}
+use Rattle.draft_slots.specs.Scan.{scanFrom, placed, joinedAt, joinAll, joinedWith}
 use Rattle.draft_slots.specs.declared.Found.{Found}
 use Rattle.draft_slots.specs.declared.Found.the-variants as F
 use Rattle.draft_slots.proofs.Comparing.{same-eq}
@@ -54,37 +54,38 @@ sixty-five : (n : ℕ) → n ≡ 65 → n ≡ signatureWidth
 unfolding signatureWidth
 sixty-five n h = h
 
--- ---- merging two drafts of one unsigned transaction, whose credential count is at `at`
+-- ---- merging two drafts of one unsigned transaction, whose c credentials start at `at`
 
-module _ (d e out : List ℕ) (at : ℕ) where
+module _ (d e out : List ℕ) (at c : ℕ) where
   abbrev Alike : Answer × List ℕ
-  Alike = decideMerge true true true (firstClash 0 (scan d at) d e) (leb (length d) (length out)) (joinedWith e at d) out
+  Alike = decideMerge true true true (firstClash 0 (scanFrom c d at) d e) (leb (length d) (length out)) (joinedWith e c at d) out
 
-  chosen : (o : Option ℕ) (r : Bool) → firstClash 0 (scan d at) d e ≡ o → leb (length d) (length out) ≡ r
-      → decideMerge true true true o r (joinedWith e at d) out ≡ Alike
+  chosen : (o : Option ℕ) (r : Bool) → firstClash 0 (scanFrom c d at) d e ≡ o → leb (length d) (length out) ≡ r
+      → decideMerge true true true o r (joinedWith e c at d) out ≡ Alike
   chosen o r ho hr = sym (rw (ho, hr))
 
-  module _ (z : Found) (hz : z ≡ Scan.found (firstClash 0 (scan d at) d e)) where
+  module _ (z : Found) (hz : z ≡ Scan.found (firstClash 0 (scanFrom c d at) d e)) where
     pub merge-20 : (k : ℕ) → z ≡ F.At k → (r : Answer) → r ≡ refuse conflict k → (r, out) ≡ Alike
-    merge-20 k i r h = beside r (refuse conflict k) out _ h (chosen (some k) _ (found-some (firstClash 0 (scan d at) d e) k (sym hz ∙ i)) refl)
+    merge-20 k i r h = beside r (refuse conflict k) out _ h (chosen (some k) _ (found-some (firstClash 0 (scanFrom c d at) d e) k (sym hz ∙ i)) refl)
 
     module _ (i : z ≡ F.Nothing) where
-      no-clash : firstClash 0 (scan d at) d e ≡ none
-      no-clash = found-none (firstClash 0 (scan d at) d e) (sym hz ∙ i)
+      no-clash : firstClash 0 (scanFrom c d at) d e ≡ none
+      no-clash = found-none (firstClash 0 (scanFrom c d at) d e) (sym hz ∙ i)
 
       pub merge-14 : length out < length d → (r : Answer) → r ≡ refuse noRoom 0 → (r, out) ≡ Alike
       merge-14 l r h = beside r (refuse noRoom 0) out _ h (chosen none false no-clash (lt-leb (length d) (length out) l))
 
       -- the front of out was lent, and is now u, the merge
       pub merge-0 : (u : List ℕ) → length d ≤ length out
-          → u ≡ joinedWith e at (take (length (take (length d) out)) d ++ drop (length d) (take (length d) out))
+          → u ≡ joinedWith e c at (take (length (take (length d) out)) d ++ drop (length d) (take (length d) out))
           → (A.Done (length d), u ++ drop (length d) out) ≡ Alike
       merge-0 u l h =
           let k : length (take (length d) out) ≡ length d = length-take-le (length d) out l in
           let front : take (length (take (length d) out)) d ++ drop (length d) (take (length d) out) ≡ d =
           ap₂ (λ (s t : List ℕ). s ++ t) (take-all (length (take (length d) out)) d (omega arith))
           (drop-of-length-le (take (length d) out) {i = length d} (omega arith)) ∙ append-nil d in
-          ap₂ (λ (i : ℕ) (s : List ℕ). (A.Done i, s ++ drop i out)) (sym (length-joinAll e (scan e at) d)) (h ∙ ap (λ (s : List ℕ). joinedWith e at s) front)
+          ap₂ (λ (i : ℕ) (s : List ℕ). (A.Done i, s ++ drop i out)) (sym (length-joinAll e (scanFrom c e at) d))
+          (h ∙ ap (λ (s : List ℕ). joinedWith e c at s) front)
           ∙ chosen none true no-clash (le-leb (length d) (length out) l)
 
 -- ---- filling the slot that starts at p: a is what it holds
@@ -149,14 +150,15 @@ module _ (most : ℕ) where
               go true q = refl
               go false q = let z : _≡_ {A = ℕ} 0 1 = cc in absurd (omega arith)
 
-          joined : joinedWith e (w .«credentials_at») d ≡ merged R d e
+          joined : joinedWith e (w .«credentials_count») (w .«credentials_at» + 4) d ≡ merged R d e
           unfolding merged
           joined =
               let both = alike most d e w v n m first second (same-eq (body R d) (body R e) same-bodies) in
-              let slots : scan e (w .«credentials_at») ≡ R .slots d = ap (scan e) (both .2) ∙ second .slots ∙ both .0 in
+              let slots : scanFrom (w .«credentials_count») e (w .«credentials_at» + 4) ≡ R .slots d =
+              ap₂ (λ (c q : ℕ). scanFrom c e (q + 4)) (both .3) (both .2) ∙ second .slots ∙ both .0 in
               ap (λ (ps : List ℕ). joinAll ps e d) slots ∙ joined-all e 0 (R .slots d) d (first .spaced) (both .1)
 
-          pub merge-alike : (z : Answer × List ℕ) → z ≡ Alike d e out (w .«credentials_at») → z ≡ mergeCall R d e out
+          pub merge-alike : (z : Answer × List ℕ) → z ≡ Alike d e out (w .«credentials_at» + 4) (w .«credentials_count») → z ≡ mergeCall R d e out
           merge-alike z h =
               h ∙ ap₂ (λ (ps x : List ℕ). decideMerge true true true (firstClash 0 ps d e) (leb (length d) (length out)) x out) (first .slots) joined
               ∙ decided d e out true true true _ _ (first .accepts) (second .accepts) same-bodies refl refl
@@ -173,7 +175,8 @@ module _ (most : ℕ) where
     pub fill-17 : (f : Refusal) → x ≡ C.Refused f → (r : Answer) → r ≡ refuse firstNotAccepted 0 → (r, d) ≡ fillCall R d k s
     fill-17 f q r h = beside r (refuse firstNotAccepted 0) d _ h (settled d k s false _ _ _ (not-accepted most d x f px q) refl refl refl)
 
-    module _ (w : Layout) (n : ℕ) (qx : x ≡ C.Accepted w n) (bd : Slice d) (z : Found) (hz : z ≡ placed (scan d (w .«credentials_at»)) k) where
+    module _ (w : Layout) (n : ℕ) (qx : x ≡ C.Accepted w n) (bd : Slice d) (z : Found)
+        (hz : z ≡ placed (scanFrom (w .«credentials_count») d (w .«credentials_at» + 4)) k) where
       draft : Known most d w n
       draft = known most d bd x w n px qx
 

@@ -2,7 +2,7 @@
 -- Assumes nothing.
 use mathlib.Core.Path.{_≡_, refl, sym, ap, _∙_, subst}
 use mathlib.Core.List.{List, [], _∷_, _++_, append-assoc, append-nil}
-use Prim.Native.Nat.{ℕ, zero, suc, _+_, _*_}
+use Prim.Native.Nat.{ℕ, zero, suc, _+_, _*_, _≤_}
 use native.Mathlib.Omega.{arith}
 use lib.ListN.{length, drop, length-append}
 use lib.Seq.{drop-at}
@@ -12,7 +12,7 @@ use Rattle.wire.specs.Fields.{integer, length-integer, blob}
 use Rattle.transaction.specs.Slots.{signatureWidth}
 use Rattle.transaction.specs.Credentials.{Want, credentialCode, Piece, signatures, each, layout, pieces, credentials, places}
 use Rattle.transaction.specs.Signed.{assemble, Parts}
-use Rattle.draft_slots.specs.Scan.{rangeAt, onRange, slotRange, scanFrom, scan}
+use Rattle.draft_slots.specs.Scan.{rangeAt, onRange, slotRange, scanFrom}
 use Rattle.draft_slots.specs.declared.SlotRange.{SlotRange}
 use Rattle.draft_slots.specs.declared.SlotRange.the-variants as R
 
@@ -49,7 +49,7 @@ split (suc n) ps (b ∷ l) g =
     }
 
 -- the bytes just past an integer
-pub after-integer : (s : List ℕ) (q v : ℕ) (t : List ℕ) → drop q s ≡ integer 4 .write v ++ t → drop (q + 4) s ≡ t
+after-integer : (s : List ℕ) (q v : ℕ) (t : List ℕ) → drop q s ≡ integer 4 .write v ++ t → drop (q + 4) s ≡ t
 after-integer s q v t h = subst (λ (n : ℕ). drop (q + n) s ≡ t) (length-integer 4 v) (drop-step s q (integer 4 .write v) t h)
 
 -- the slots of the credential at offset q, and the bytes after them
@@ -104,13 +104,36 @@ scan-each (w ∷ ws) l s q rest g h =
     ∙ sym (places-range n (each ws) (q + 4 + 4))
 
 module _ {U : Type 0} (body : Format U) (wants : U → List Want) (d : List ℕ) (u : U) (l : List (List ℕ)) (p : Parts body wants d u l) where
-  pub scanned : scan d (length (body .write u)) ≡ places (length (body .write u)) (layout (wants u))
-  unfolding assemble credentials layout pieces places integer
-  scanned =
-      let ws : List Want = wants u in
-      let at : ℕ = length (body .write u) in
-      let w : List ℕ = pieces (each ws) .write l in
-      let k : drop at d ≡ integer 4 .write (length ws) ++ w = ap (drop at) (p .same) ∙ drop-at (body .write u) (integer 4 .write (length ws) ++ w) at refl in
-      integer 4 .complete d at (length ws) w (λ e. []) (λ n q. scanFrom n d q) (p .signatures-good .0 .0) k
-      ∙ ap (λ (i : ℕ). scanFrom (length ws) d (at + i)) (length-integer 4 (length ws))
-      ∙ scan-each ws l d (at + 4) [] (p .signatures-good .1) (after-integer d at (length ws) w k ∙ sym (append-nil w))
+  abbrev at : ℕ
+  at = length (body .write u)
+
+  abbrev ws : List Want
+  ws = wants u
+
+  abbrev signed : List ℕ
+  signed = pieces (each ws) .write l
+
+  same-bytes : d ≡ body .write u ++ (integer 4 .write (length ws) ++ signed)
+  unfolding assemble credentials layout pieces integer
+  same-bytes = p .same
+
+  pub count-fits : at + 4 ≤ length d
+  count-fits =
+      omega (
+        arith,
+        ap length same-bytes,
+        length-append (body .write u) (integer 4 .write (length ws) ++ signed),
+        length-append (integer 4 .write (length ws)) signed,
+        length-integer 4 (length ws),
+      )
+
+  -- the credentials follow their count
+  pub past-count : drop (at + 4) d ≡ signed ++ []
+  past-count =
+      let k : drop at d ≡ integer 4 .write (length ws) ++ signed =
+      ap (drop at) same-bytes ∙ drop-at (body .write u) (integer 4 .write (length ws) ++ signed) at refl in
+      after-integer d at (length ws) signed k ∙ sym (append-nil signed)
+
+  pub scanned : scanFrom (length ws) d (at + 4) ≡ places at (layout ws)
+  unfolding credentials layout pieces places integer
+  scanned = scan-each ws l d (at + 4) [] (p .signatures-good .1) past-count

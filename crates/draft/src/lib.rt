@@ -5,7 +5,7 @@ ghost use mathlib.Core.List.{_++_};
 ghost use lib.ListN.{length, take, drop};
 ghost use lib.Dec.{leb};
 ghost use Rattle.draft_slots.specs.Joining.{clashes, firstClash};
-ghost use Rattle.draft_slots.specs.Scan.{scan, joinedAt, joinedWith};
+ghost use Rattle.draft_slots.specs.Scan.{scanFrom, joinedAt, joinedWith};
 ghost use Rattle.transaction.specs.Slots.{slotAt};
 ghost use Rattle.transaction.specs.Avm.{avm};
 ghost use Rattle.transaction.specs.Answer.{memoMost};
@@ -48,7 +48,12 @@ fn fill_within(draft: &mut [u8], slot: usize, signature: &[u8], most: u64) -> An
     let Checked::Accepted(layout, _) = checker::check::check_within(draft, most) else {
         return refused(Rule::FirstNotAccepted, 0);
     };
-    let Found::At(at) = draft_slots::ranges::place_of(draft, layout.credentials_at, slot) else {
+    let Found::At(at) = draft_slots::ranges::place_of(
+        draft,
+        layout.credentials_at + 4,
+        layout.credentials_count,
+        slot,
+    ) else {
         return refused(Rule::NoEntry, 0);
     };
     if signature.len() != transaction::SIGNATURE_WIDTH {
@@ -66,29 +71,30 @@ pub fn fill(draft: &mut [u8], slot: usize, signature: &[u8]) -> Answer
     fill_within(draft, slot, signature, transaction::MEMO_MOST)
 }
 
-// Writes the first draft into `room`, and fills its empty slots from the second. The credential count is at `at`.
-fn put_merge(room: &mut [u8], first: &[u8], second: &[u8], at: usize)
-    ensures { λ _. ⌜ now (room .exit) ≡ joinedWith (now (second .entry)) at
+// Writes the first draft into `room`, and fills its empty slots from the second. The first credential starts at `at`.
+fn put_merge(room: &mut [u8], first: &[u8], second: &[u8], at: usize, credentials: u64)
+    ensures { λ _. ⌜ now (room .exit) ≡ joinedWith (now (second .entry)) credentials at
         (take (length (now (room .entry))) (now (first .entry)) ++ drop (length (now (first .entry))) (now (room .entry))) ⌝ }
 {
     wire::put_bytes(room, first);
-    draft_slots::join::join_slots(room, second, at);
+    draft_slots::join::join_slots(room, second, at, credentials);
 }
 
-// Writes the merge of two drafts of the same unsigned transaction, unless a slot holds two signatures. The credential count is at `at`.
-fn merge_alike(first: &[u8], second: &[u8], out: &mut [u8], at: usize) -> Answer
+// Writes the merge of two drafts of the same unsigned transaction, unless a slot holds two signatures. The first credential starts at `at`.
+fn merge_alike(first: &[u8], second: &[u8], out: &mut [u8], at: usize, credentials: u64) -> Answer
     ensures { λ r. ⌜ (r, now (out .exit)) ≡ decideMerge true true true
-        (firstClash 0 (scan (now (first .entry)) at) (now (first .entry)) (now (second .entry))) (leb (length (now (first .entry))) (length (now (out .entry))))
-        (joinedWith (now (second .entry)) at (now (first .entry))) (now (out .entry)) ⌝ }
+        (firstClash 0 (scanFrom credentials (now (first .entry)) at) (now (first .entry)) (now (second .entry)))
+        (leb (length (now (first .entry))) (length (now (out .entry)))) (joinedWith (now (second .entry)) credentials at (now (first .entry)))
+        (now (out .entry)) ⌝ }
 {
-    if let Found::At(slot) = draft_slots::ranges::first_clash(first, second, at) {
+    if let Found::At(slot) = draft_slots::ranges::first_clash(first, second, at, credentials) {
         return refused(Rule::Conflict, slot);
     }
     let end = first.len();
     if out.len() < end {
         return refused(Rule::NoRoom, 0);
     }
-    put_merge(&mut out[..end], first, second, at);
+    put_merge(&mut out[..end], first, second, at, credentials);
     Answer::Done(end)
 }
 
@@ -109,7 +115,7 @@ fn merge_within(first: &[u8], second: &[u8], out: &mut [u8], most: u64) -> Answe
     ) {
         return refused(Rule::DraftsDiffer, 0);
     }
-    merge_alike(first, second, out, at)
+    merge_alike(first, second, out, at + 4, layout.credentials_count)
 }
 
 // Writes the merge of two drafts of the same unsigned transaction to the front of `out`. Returns its length.

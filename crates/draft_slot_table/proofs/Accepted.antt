@@ -1,21 +1,20 @@
 -- In an accepted transaction the scan by the counts stored there finds its slots. Assumes nothing.
 use Prim.Native.Nat.{ℕ, zero, suc, _+_, _*_}
 use mathlib.Core.Path.{_≡_, refl, sym, ap, ap₂, _∙_}
-use mathlib.Core.List.{List, [], _∷_, _++_, append-nil, map}
+use mathlib.Core.List.{List, [], _∷_, _++_, map}
 use native.Mathlib.Omega.{arith}
 use lib.ListN.{length, drop}
-use lib.Seq.{drop-at}
 use Rattle.wire.specs.Format.{Format}
-use Rattle.wire.specs.Fields.{integer, length-integer}
+use Rattle.wire.specs.Fields.{integer}
 use Rattle.transaction.specs.Slots.{signatureWidth}
 use Rattle.transaction.specs.Credentials.{Want, credentialCode, signatures, credential, each, layout, pieces, credentials, places, size}
-use Rattle.transaction.specs.Signed.{assemble, Parts}
+use Rattle.transaction.specs.Signed.{Parts}
 use Rattle.transaction.proofs.Signed.{read-body}
 use Rattle.draft_slots.specs.Scan.{onRange}
 use Rattle.draft_slots.specs.declared.SlotRange.{SlotRange}
-use Rattle.draft.proofs.Scanned.{Split, split, after-integer, after-signatures, range-there, regroup}
+use Rattle.draft.proofs.Scanned.{Split, split, after-signatures, range-there, regroup, past-count}
 use Rattle.draft_slot_table.specs.Slots.{Slot, slotIn, slotsFrom, slotsOf, slotList}
-use Rattle.draft_slot_table.specs.Scan.{slotsIn, scanFrom, scan}
+use Rattle.draft_slot_table.specs.Scan.{slotsIn, scanFrom}
 
 range-places : (k n p : ℕ) → slotsIn k n p ≡ map (slotIn k) (places p (signatures n []))
 unfolding slotsIn places signatures signatureWidth
@@ -47,14 +46,8 @@ scan-each k (w ∷ ws) l s q rest g h =
     (after-signatures s q t n (r .front) y (g .0 .0) (g .1 .0 .0) (r .long) (r .bytes) there) ∙ ap (λ (i : ℕ). slotsFrom (suc k) i ws) next)
 
 module _ {U : Type 0} (body : Format U) (wants : U → List Want) (d : List ℕ) (u : U) (l : List (List ℕ)) (p : Parts body wants d u l) where
-  pub scanned-slots : scan d (length (body .write u)) ≡ slotList body wants d
-  unfolding scan assemble credentials layout pieces integer
+  pub scanned-slots : scanFrom 0 (length (wants u)) d (length (body .write u) + 4) ≡ slotList body wants d
+  unfolding credentials layout pieces integer
   scanned-slots =
-      let ws : List Want = wants u in
-      let at : ℕ = length (body .write u) in
-      let w : List ℕ = pieces (each ws) .write l in
-      let k : drop at d ≡ integer 4 .write (length ws) ++ w = ap (drop at) (p .same) ∙ drop-at (body .write u) (integer 4 .write (length ws) ++ w) at refl in
-      integer 4 .complete d at (length ws) w (λ e. []) (λ n q. scanFrom 0 n d q) (p .signatures-good .0 .0) k
-      ∙ ap (λ (i : ℕ). scanFrom 0 (length ws) d (at + i)) (length-integer 4 (length ws))
-      ∙ scan-each 0 ws l d (at + 4) [] (p .signatures-good .1) (after-integer d at (length ws) w k ∙ sym (append-nil w))
+      scan-each 0 (wants u) l d (length (body .write u) + 4) [] (p .signatures-good .1) (past-count body wants d u l p)
       ∙ sym (ap (slotsOf wants) (read-body body wants d u l p))

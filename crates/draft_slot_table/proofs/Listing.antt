@@ -23,7 +23,7 @@ use Rattle.entry_table.specs.declared.Tabled.the-variants as T
 use Rattle.draft.proofs.Known.{known}
 use Rattle.draft_slot_table.specs.Slots.{Slot, rows}
 use Rattle.draft_slot_table.specs.Table.{listed, slots, tabledSlots}
-use Rattle.draft_slot_table.specs.Scan.{scan, put}
+use Rattle.draft_slot_table.specs.Scan.{scanFrom, put}
 use Rattle.draft_slot_table.proofs.Rows.{length-rows}
 use Rattle.draft_slot_table.proofs.Accepted.{scanned-slots}
 
@@ -42,21 +42,23 @@ module _ (most : ℕ) where
       pub short : length s ≤ 65536
       short = let d = known most s b x w k p q in d .parts .short
 
-      met : scan s (w .«credentials_at») ≡ slots most s
+      met : scanFrom 0 (w .«credentials_count») s (w .«credentials_at» + 4) ≡ slots most s
       met =
           let d = known most s b x w k p q in
-          ap (scan s) (d .end) ∙ scanned-slots (unsigned (avm most)) (wants (avm most)) s (d .value) (d .signatures) (d .parts)
+          ap₂ (λ (n q : ℕ). scanFrom 0 n s (q + 4)) (d .count) (d .end)
+          ∙ scanned-slots (unsigned (avm most)) (wants (avm most)) s (d .value) (d .signatures) (d .parts)
 
-      module _ (t : List ℕ) (n : ℕ) (c : n ≡ length (scan s (w .«credentials_at»))) where
+      module _ (t : List ℕ) (n : ℕ) (c : n ≡ length (scanFrom 0 (w .«credentials_count») s (w .«credentials_at» + 4))) where
         pub on-no-room : length t / 3 < n → (f : Refusal) → f ≡ refusal noRoom 0 → filled (T.Refused f) t ≡ tabledSlots most s t
         on-no-room h f made =
             let few : length t < 3 * length (slots most s) = omega (arith, ap length met, div-add-mod' (length t) 3, mod-lt (length t) (zero-lt-suc 2)) in
             ap (λ (r : Refusal). filled (T.Refused r) t) made ∙ sym (accepted t ∙ rw (lt-leb (3 * length (slots most s)) (length t) few))
 
-        pub room : n ≤ length t / 3 → 3 * length (scan s (w .«credentials_at»)) ≤ length t
+        pub room : n ≤ length t / 3 → 3 * length (scanFrom 0 (w .«credentials_count») s (w .«credentials_at» + 4)) ≤ length t
         room h = omega (arith, div-add-mod' (length t) 3)
 
-        pub on-listed : n ≤ length t / 3 → (u : List ℕ) → u ≡ put t 0 (rows s (scan s (w .«credentials_at»))) → filled (T.Listed n k) u ≡ tabledSlots most s t
+        pub on-listed : n ≤ length t / 3 → (u : List ℕ) → u ≡ put t 0 (rows s (scanFrom 0 (w .«credentials_count») s (w .«credentials_at» + 4)))
+            → filled (T.Listed n k) u ≡ tabledSlots most s t
         unfolding put
         on-listed h u e =
             let l : List Slot = slots most s in

@@ -7,19 +7,13 @@ use native.Mathlib.Numerals.{sub-one, add-one}
 use native.Mathlib.Nat.{not-suc-le-zero}
 use lib.ListN.{length, set, length-append}
 use lib.Seq.{length-sets}
-use Rattle.wire.specs.Fields.{integer}
-use Rattle.wire.specs.Answer.{valued}
-use Rattle.wire.specs.declared.Refusal.{Refusal}
-use Rattle.wire.specs.declared.Integer.{Integer}
-use Rattle.wire.specs.declared.Integer.the-variants as N
 use Rattle.wire.proofs.Bytes.{found}
-use Rattle.wire.proofs.Reading as W
 use Rattle.draft_slots.specs.Scan.{rangeAt, onRange}
 use Rattle.draft_slots.specs.declared.SlotRange.{SlotRange}
 use Rattle.draft_slots.specs.declared.SlotRange.the-variants as R
 use Rattle.draft_slots.proofs.Scanning.{range-inside}
 use Rattle.draft_slot_table.specs.Slots.{Slot, slotIn, filledAt, row, rows}
-use Rattle.draft_slot_table.specs.Scan.{slotsIn, scanFrom, scan, put}
+use Rattle.draft_slot_table.specs.Scan.{slotsIn, scanFrom, put}
 use Rattle.draft_slot_table.proofs.Rows.{length-rows, rows-append}
 
 length-range : (k n p : ℕ) → length (slotsIn k n p) ≡ n
@@ -47,15 +41,6 @@ unfolding scanFrom
 scan-end k zero s q h = refl
 scan-end k (suc left) s q h = absurd (not-suc-le-zero h)
 
-module _ (s : List ℕ) (at : ℕ) (x : Integer) (p : x ≡ valued (integer 4) s at) where
-  pub scan-from : (n q : ℕ) → x ≡ N.Value n q → scanFrom 0 n s q ≡ scan s at
-  unfolding scan
-  scan-from n q h = W.on-value 4 s at (scanFrom 0 n s q) (λ e. []) (λ n q. scanFrom 0 n s q) x n q p h refl
-
-  scan-none : (e : Refusal) → x ≡ N.Refused e → [] ≡ scan s at
-  unfolding scan
-  scan-none e h = W.on-integer-refused 4 s at [] (λ e. []) (λ n q. scanFrom 0 n s q) x e p h refl
-
 module _ (s : List ℕ) (k q : ℕ) (x : SlotRange) (e : x ≡ rangeAt s q) where
   scan-range : (left p n next : ℕ) → x ≡ R.Slots p n next → 0 < left → scanFrom k left s q ≡ slotsIn k n p ++ scanFrom (k + 1) (left - 1) s next
   unfolding scanFrom
@@ -75,13 +60,6 @@ module _ (s : List ℕ) (k q : ℕ) (x : SlotRange) (e : x ≡ rangeAt s q) wher
   scan-stop (suc left) h = ap (λ (r : SlotRange). onRange r [] (λ f c m. slotsIn k c f ++ scanFrom (suc k) left s m)) (found e h)
 
 -- ---- counting the slots
-
-module _ (s : List ℕ) (at : ℕ) (x : Integer) (p : x ≡ valued (integer 4) s at) where
-  pub count-start : (n q : ℕ) → x ≡ N.Value n q → 0 + length (scanFrom 0 n s q) ≡ length (scan s at)
-  count-start n q h = omega (arith, ap length (scan-from s at x p n q h))
-
-  pub count-none : (e : Refusal) → x ≡ N.Refused e → 0 ≡ length (scan s at)
-  count-none e h = ap length (scan-none s at x p e h)
 
 module _ (s : List ℕ) (c left q y : ℕ) (h : c + length (scanFrom 0 left s q) ≡ y) where
   pub count-over : left ≤ 0 → c ≡ y
@@ -137,18 +115,7 @@ module _ (s : List ℕ) (k n p i : ℕ) (t y : List ℕ) (h : put t i (rows s (s
 
 pub ruleset running = (range-end, range-next)
 
--- over all credentials: writing the rows that are left gives the whole table
-module _ (s t : List ℕ) (at : ℕ) (x : Integer) (p : x ≡ valued (integer 4) s at) where
-  pub slots-start : (n q : ℕ) → x ≡ N.Value n q → put t 0 (rows s (scanFrom 0 n s q)) ≡ put t 0 (rows s (scan s at))
-  slots-start n q h = ap (λ (l : List Slot). put t 0 (rows s l)) (scan-from s at x p n q h)
-
-  pub rows-start : (n q m : ℕ) → x ≡ N.Value n q → 3 * length (scan s at) ≤ m → 0 + 3 * length (scanFrom 0 n s q) ≤ m
-  rows-start n q m h e = omega (arith, ap length (scan-from s at x p n q h))
-
-  pub slots-none : (e : Refusal) → x ≡ N.Refused e → t ≡ put t 0 (rows s (scan s at))
-  unfolding rows put
-  slots-none e h = ap (λ (l : List Slot). put t 0 (rows s l)) (scan-none s at x p e h)
-
+-- over all credentials: writing the rows that are left gives y
 module _ (s : List ℕ) (k left q i : ℕ) (t y : List ℕ) (h : put t i (rows s (scanFrom k left s q)) ≡ y) where
   pub slots-end : left ≤ 0 → t ≡ y
   unfolding rows put

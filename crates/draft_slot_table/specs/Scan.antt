@@ -3,7 +3,6 @@
 use Prim.Native.Nat.{ℕ, zero, suc, _+_}
 use mathlib.Core.List.{List, [], _∷_, _++_}
 use lib.Seq.{sets}
-use Rattle.wire.specs.Fields.{integer}
 use Rattle.draft_slots.specs.Scan.{rangeAt, onRange}
 use Rattle.draft_slot_table.specs.Slots.{Slot, slotIn}
 
@@ -17,11 +16,6 @@ unfoldable pub scanFrom : ℕ → ℕ → List ℕ → ℕ → List Slot
 unfolding slotsIn
 scanFrom k zero s q = []
 scanFrom k (suc n) s q = onRange (rangeAt s q) [] λ first c next. slotsIn k c first ++ scanFrom (suc k) n s next
-
--- the slots of the credentials whose count is at `at`
-unfoldable pub scan : List ℕ → ℕ → List Slot
-unfolding scanFrom
-scan s at = integer 4 .parse s at (λ e. []) λ n q. scanFrom 0 n s q
 
 -- the table t with l written from index i on. Not unfolded, so that proof search finds its arguments
 unfoldable pub put : List ℕ → ℕ → List ℕ → List ℕ

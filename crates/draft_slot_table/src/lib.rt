@@ -6,11 +6,10 @@ ghost use Rattle.transaction.specs.Answer.{memoMost};
 ghost use Rattle.entry_table.specs.Table.{filled};
 ghost use Rattle.draft_slot_table.specs.Slots.{slotIn, filledAt, row, rows};
 ghost use Rattle.draft_slot_table.specs.Table.{tabledSlots};
-ghost use Rattle.draft_slot_table.specs.Scan.{slotsIn, scan, put};
+ghost use Rattle.draft_slot_table.specs.Scan.{slotsIn, scanFrom, put};
 use draft_slots::SlotRange;
 use entry_table::Tabled;
 use transaction::Checked;
-use wire::Integer;
 use wire::Rule;
 
 // How many numbers a row has: credential, offset, filled.
@@ -21,15 +20,12 @@ const EMPTY: u32 = 0;
 
 const FILLED: u32 = 1;
 
-// How many slots there are. The credential count is at `at`.
-fn count(s: &[u8], at: usize) -> usize
-    ensures { λ r. ⌜ r ≡ length (scan (now (s .entry)) at) ⌝ }
+// How many slots the credentials have, the first of which starts at `at`.
+fn count(s: &[u8], at: usize, credentials: u64) -> usize
+    ensures { λ r. ⌜ r ≡ length (scanFrom 0 credentials (now (s .entry)) at) ⌝ }
 {
-    let Integer::Value(credentials, start) = wire::u32_at(s, at) else {
-        return 0;
-    };
     let mut left = credentials;
-    let mut credential_at = start;
+    let mut credential_at = at;
     let mut slots: usize = 0;
     while 0 < left {
         let SlotRange::Slots(_, in_credential, next) = draft_slots::ranges::range_at(
@@ -86,17 +82,14 @@ fn put_range(s: &[u8], table: &mut [u32], rows_at: usize, credential: usize, at:
     }
 }
 
-// Writes the rows of all slots. The credential count is at `at`.
-fn put_slots(s: &[u8], table: &mut [u32], at: usize)
+// Writes the rows of all slots. The first credential starts at `at`.
+fn put_slots(s: &[u8], table: &mut [u32], at: usize, credentials: u64)
     requires { ⌜ length (now s) ≤ 65536 ⌝ }
-    requires { ⌜ 3 * length (scan (now s) at) ≤ length (now table) ⌝ }
-    ensures { λ _. ⌜ now (table .exit) ≡ put (now (table .entry)) 0 (rows (now (s .entry)) (scan (now (s .entry)) at)) ⌝ }
+    requires { ⌜ 3 * length (scanFrom 0 credentials (now s) at) ≤ length (now table) ⌝ }
+    ensures { λ _. ⌜ now (table .exit) ≡ put (now (table .entry)) 0 (rows (now (s .entry)) (scanFrom 0 credentials (now (s .entry)) at)) ⌝ }
 {
-    let Integer::Value(credentials, start) = wire::u32_at(s, at) else {
-        return;
-    };
     let mut left = credentials;
-    let mut credential_at = start;
+    let mut credential_at = at;
     let mut credential: usize = 0;
     let mut rows_at: usize = 0;
     while 0 < left {
@@ -121,12 +114,13 @@ fn list_slots_within(s: &[u8], table: &mut [u32], most: u64) -> Tabled
     match checker::check::check_within(s, most) {
         Checked::Refused(refusal) => Tabled::Refused(refusal),
         Checked::Accepted(layout, end) => {
-            let at = layout.credentials_at;
-            let slots = count(s, at);
+            let at = layout.credentials_at + 4;
+            let credentials = layout.credentials_count;
+            let slots = count(s, at, credentials);
             if table.len() / ROW < slots {
                 return Tabled::Refused(wire::refuse(Rule::NoRoom, 0));
             }
-            put_slots(s, table, at);
+            put_slots(s, table, at, credentials);
             Tabled::Listed(slots, end)
         }
     }

@@ -14,16 +14,12 @@ use lib.ListN.{length, take, drop, getD, length-append, List·getD-append}
 use lib.Seq.{getD-append-add}
 use Rattle.wire.specs.Bytes.{pick, value}
 use Rattle.wire.specs.Fields.{integer, blob, blobParse}
-use Rattle.wire.specs.Answer.{valued}
-use Rattle.wire.specs.declared.Refusal.{Refusal}
-use Rattle.wire.specs.declared.Integer.{Integer}
-use Rattle.wire.specs.declared.Integer.the-variants as N
 use Rattle.wire.proofs.Bytes.{found}
 use Rattle.wire.proofs.Reading as W
 use Rattle.transaction.specs.Slots.{slotAt}
 use Rattle.draft_slots.specs.Joining.{clashes, firstClash}
 use Rattle.draft_slots.specs.Scan as Scan
-use Rattle.draft_slots.specs.Scan.{rangeAt, onRange, slotRange, scanFrom, scan, placed, joinAll}
+use Rattle.draft_slots.specs.Scan.{rangeAt, onRange, slotRange, scanFrom, placed, joinAll}
 use Rattle.draft_slots.specs.declared.SlotRange.{SlotRange}
 use Rattle.draft_slots.specs.declared.SlotRange.the-variants as R
 use Rattle.draft_slots.specs.declared.Found.{Found}
@@ -103,13 +99,6 @@ pub slots-fit : (c : ℕ) → c < 256 ^ 4 → 65 * c < 2 ^ 64
 slots-fit c h = omega arith
 
 -- ---- the scan
-
-module _ (s : List ℕ) (at : ℕ) (x : Integer) (p : x ≡ valued (integer 4) s at) where
-  pub scan-from : (n q : ℕ) → x ≡ N.Value n q → scanFrom n s q ≡ scan s at
-  scan-from n q h = W.on-value 4 s at (scanFrom n s q) (λ e. []) (λ n q. scanFrom n s q) x n q p h refl
-
-  pub scan-none : (e : Refusal) → x ≡ N.Refused e → [] ≡ scan s at
-  scan-none e h = W.on-integer-refused 4 s at [] (λ e. []) (λ n q. scanFrom n s q) x e p h refl
 
 module _ (s : List ℕ) (q : ℕ) (x : SlotRange) (e : x ≡ rangeAt s q) where
   scan-range : (p n next left : ℕ) → x ≡ R.Slots p n next → 0 < left → scanFrom left s q ≡ slotRange n p ++ scanFrom (left - 1) s next
@@ -204,14 +193,6 @@ module _ (d e : List ℕ) (k p n : ℕ) (y : Found) (w : clashFrom d e k (slotRa
 pub ruleset clashing-range = (clash-here, clash-on, clash-end)
 
 -- over all credentials: y is the first clash among the slots that are left
-module _ (d e : List ℕ) (at : ℕ) (x : Integer) (p : x ≡ valued (integer 4) d at) where
-  pub clash-start : (n q : ℕ) → x ≡ N.Value n q → clashFrom d e 0 (scanFrom n d q) ≡ clashFrom d e 0 (scan d at)
-  clash-start n q h = ap (clashFrom d e 0) (scan-from d at x p n q h)
-
-  pub clash-absent : (r : Refusal) → x ≡ N.Refused r → F.Nothing ≡ clashFrom d e 0 (scan d at)
-  unfolding clashFrom firstClash
-  clash-absent r h = ap (λ (ps : List ℕ). Scan.found (firstClash 0 ps d e)) (scan-none d at x p r h)
-
 module _ (d e : List ℕ) (k left q : ℕ) (y : Found) (w : clashFrom d e k (scanFrom left d q) ≡ y) where
   pub clash-over : left ≤ 0 → F.Nothing ≡ y
   unfolding clashFrom firstClash
@@ -283,14 +264,6 @@ pub place-is : (ps : List ℕ) (k : ℕ) (z : Found) → z ≡ placeFrom ps k �
 unfolding placeFrom
 place-is ps k z h = h
 
-module _ (s : List ℕ) (k at : ℕ) (x : Integer) (p : x ≡ valued (integer 4) s at) where
-  pub place-start : (n q : ℕ) → x ≡ N.Value n q → placeFrom (scanFrom n s q) k ≡ placeFrom (scan s at) k
-  place-start n q h = ap (λ (ps : List ℕ). placeFrom ps k) (scan-from s at x p n q h)
-
-  pub place-absent : (e : Refusal) → x ≡ N.Refused e → F.Nothing ≡ placeFrom (scan s at) k
-  unfolding placeFrom
-  place-absent e h = place-none k ∙ ap (λ (ps : List ℕ). placed ps k) (scan-none s at x p e h)
-
 module _ (s : List ℕ) (k left q : ℕ) (y : Found) (w : placeFrom (scanFrom left s q) k ≡ y) where
   pub place-over : left ≤ 0 → F.Nothing ≡ y
   unfolding placeFrom
@@ -313,14 +286,6 @@ module _ (s : List ℕ) (k left q : ℕ) (y : Found) (w : placeFrom (scanFrom le
 pub ruleset placing-scan = (place-over, place-stop, place-here, place-next)
 
 -- ---- joining
-
-module _ (e d : List ℕ) (at : ℕ) (x : Integer) (p : x ≡ valued (integer 4) e at) where
-  pub joins-start : (n q : ℕ) → x ≡ N.Value n q → joinAll (scanFrom n e q) e d ≡ joinAll (scan e at) e d
-  joins-start n q h = ap (λ (ps : List ℕ). joinAll ps e d) (scan-from e at x p n q h)
-
-  pub joins-absent : (r : Refusal) → x ≡ N.Refused r → d ≡ joinAll (scan e at) e d
-  unfolding joinAll
-  joins-absent r h = ap (λ (ps : List ℕ). joinAll ps e d) (scan-none e at x p r h)
 
 module _ (e d : List ℕ) (left q : ℕ) (y : List ℕ) (w : joinAll (scanFrom left e q) e d ≡ y) where
   pub joins-over : left ≤ 0 → d ≡ y

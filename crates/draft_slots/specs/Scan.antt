@@ -36,10 +36,6 @@ unfolding slotRange
 scanFrom zero s q = []
 scanFrom (suc n) s q = onRange (rangeAt s q) [] λ first c next. slotRange c first ++ scanFrom n s next
 
--- the slots of the credentials whose count is at `at`
-abbrev pub scan : List ℕ → ℕ → List ℕ
-scan s at = integer 4 .parse s at (λ e. []) λ n q. scanFrom n s q
-
 abbrev pub found : Option ℕ → Found
 found none = F.Nothing
 found (some k) = F.At k
@@ -61,5 +57,6 @@ unfolding joinedAt
 joinAll [] e d = d
 joinAll (p ∷ ps) e d = joinAll ps e (joinedAt p (slotAt e p) d)
 
-abbrev pub joinedWith : List ℕ → ℕ → List ℕ → List ℕ
-joinedWith e at d = joinAll (scan e at) e d
+-- d, joined with the slots of e's n credentials from q on
+abbrev pub joinedWith : List ℕ → ℕ → ℕ → List ℕ → List ℕ
+joinedWith e n q d = joinAll (scanFrom n e q) e d

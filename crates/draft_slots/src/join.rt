@@ -6,7 +6,6 @@ ghost use Rattle.draft_slots.specs.Scan.{slotRange, joinedAt, joinAll, j
 use crate::SlotRange;
 use crate::compare;
 use crate::ranges;
-use wire::Integer;
 
 // Copies `other` into the slot at `at` if the slot is empty. Nothing changes if either is not 65 bytes.
 pub fn join_at(draft: &mut [u8], at: usize, other: &[u8])
@@ -34,15 +33,12 @@ fn join_range(draft: &mut [u8], other: &[u8], at: usize, count: u64)
     }
 }
 
-// Joins every slot of the other draft, whose credential count is at `at`, into `draft`.
-pub fn join_slots(draft: &mut [u8], other: &[u8], at: usize)
-    ensures { λ _. ⌜ now (draft .exit) ≡ joinedWith (now (other .entry)) at (now (draft .entry)) ⌝ }
+// Joins every slot of the other draft, whose first credential starts at `at`, into `draft`.
+pub fn join_slots(draft: &mut [u8], other: &[u8], at: usize, credentials: u64)
+    ensures { λ _. ⌜ now (draft .exit) ≡ joinedWith (now (other .entry)) credentials at (now (draft .entry)) ⌝ }
 {
-    let Integer::Value(credentials, start) = wire::u32_at(other, at) else {
-        return;
-    };
     let mut left = credentials;
-    let mut credential_at = start;
+    let mut credential_at = at;
     while 0 < left {
         let SlotRange::Slots(slots_at, count, next) = ranges::range_at(other, credential_at) else {
             return;

@@ -3,7 +3,7 @@ ghost use mathlib.Core.Path.{_≡_};
 ghost use Prim.Native.Nat.{_+_, _*_, _≤_};
 ghost use lib.ListN.{length};
 ghost use Rattle.draft_slots.specs.Joining.{firstClash};
-ghost use Rattle.draft_slots.specs.Scan.{rangeAt, slotRange, scan, found, placed};
+ghost use Rattle.draft_slots.specs.Scan.{rangeAt, slotRange, scanFrom, found, placed};
 use crate::Found;
 use crate::SlotRange;
 use crate::compare;
@@ -50,15 +50,12 @@ fn clash_in(first: &[u8], second: &[u8], at: usize, count: u64, slots_before: us
     Found::Nothing
 }
 
-// The number of the first slot in which two drafts, whose credential count is at `at`, hold different signatures.
-pub fn first_clash(first: &[u8], second: &[u8], at: usize) -> Found
-    ensures { λ r. ⌜ r ≡ found (firstClash 0 (scan (now (first .entry)) at) (now (first .entry)) (now (second .entry))) ⌝ }
+// The number of the first slot in which two drafts, whose first credential starts at `at`, hold different signatures.
+pub fn first_clash(first: &[u8], second: &[u8], at: usize, credentials: u64) -> Found
+    ensures { λ r. ⌜ r ≡ found (firstClash 0 (scanFrom credentials (now (first .entry)) at) (now (first .entry)) (now (second .entry))) ⌝ }
 {
-    let Integer::Value(credentials, start) = wire::u32_at(first, at) else {
-        return Found::Nothing;
-    };
     let mut left = credentials;
-    let mut credential_at = start;
+    let mut credential_at = at;
     let mut slots_before: usize = 0;
     while 0 < left {
         let SlotRange::Slots(slots_at, count, next) = range_at(first, credential_at) else {
@@ -78,15 +75,12 @@ pub fn first_clash(first: &[u8], second: &[u8], at: usize) -> Found
     Found::Nothing
 }
 
-// The offset of slot number `slot` in a draft whose credential count is at `at`.
-pub fn place_of(s: &[u8], at: usize, slot: usize) -> Found
-    ensures { λ r. ⌜ r ≡ placed (scan (now (s .entry)) at) slot ⌝ }
+// The offset of slot number `slot` in a draft whose first credential starts at `at`.
+pub fn place_of(s: &[u8], at: usize, credentials: u64, slot: usize) -> Found
+    ensures { λ r. ⌜ r ≡ placed (scanFrom credentials (now (s .entry)) at) slot ⌝ }
 {
-    let Integer::Value(credentials, start) = wire::u32_at(s, at) else {
-        return Found::Nothing;
-    };
     let mut left = credentials;
-    let mut credential_at = start;
+    let mut credential_at = at;
     let mut index = slot;
     while 0 < left {
         let SlotRange::Slots(slots_at, count, next) = range_at(s, credential_at) else {

@@ -1,5 +1,6 @@
 -- `draft::fill_within` meets its contract. Assumes nothing.
 use Rattle.draft.proofs.Calling.{fill-17, fill-15, fill-21, fill-at}
+use Rattle.draft.proofs.Known.{start-fits}
 use borrow.Author.Needs.{needs}
 use Rattle.draft.proofs.fill_within.Statement.{statement}
 use Rattle.draft.proofs.fill_within.Tie as tie
@@ -11,6 +12,7 @@ fill-within-spec =
     (λ c κs. search needs) (λ c. search needs) (λ c. search needs)  -- check-within-requires, enum-known-layout, enum-told
     (λ c κs. search needs) (λ c. search needs)  -- refused-requires, same-length
     (λ c. search fill-17)  -- returns
+    (λ c. search start-fits)  -- add-place-of
     (λ c κs. search needs) (λ c. search needs) (λ c. search needs)  -- place-of-requires, enum-known-at, enum-told-2
     (λ c κs. search needs) (λ c. search needs)  -- refused-requires-2, same-length-2
     (λ c. search fill-15)  -- returns-2

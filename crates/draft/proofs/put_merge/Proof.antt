@@ -13,7 +13,7 @@ returns c =
     let copied : tie.After-put-bytes = search in
     let start : tie.Start = search in
     let a = start .args in
-    c .before .before .join-slots .ensures ∙ ap (λ (s : List ℕ). joinedWith (a .second .now) (a .at) s) (copied .put-bytes .ensures)
+    c .before .before .join-slots .ensures ∙ ap (λ (s : List ℕ). joinedWith (a .second .now) (a .credentials) (a .at) s) (copied .put-bytes .ensures)
 
 pub put-merge-spec : {M : Type 1} → statement M
 put-merge-spec =

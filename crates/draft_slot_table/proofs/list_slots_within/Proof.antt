@@ -1,5 +1,6 @@
 -- `draft_slot_table::list_slots_within` meets its contract. Assumes nothing.
 use borrow.Author.Needs.{needs}
+use Rattle.draft.proofs.Known.{start-fits}
 use Rattle.draft_slot_table.proofs.Listing.{short, room, listing}
 use Rattle.draft_slot_table.proofs.list_slots_within.Statement.{statement}
 use Rattle.draft_slot_table.proofs.list_slots_within.Tie as tie
@@ -9,6 +10,7 @@ list-slots-within-spec =
     tie.close
     (tie.spec
     (λ c κs. search needs) (λ c. search needs) (λ c. search needs)  -- check-within-requires, enum-known-refusal, enum-known-layout
+    (λ c. search start-fits)  -- add-at
     (λ c κs. search needs) (λ c κs. search needs)  -- count-requires, refuse-requires
     (λ c. search listing)  -- returns
     (λ c κs. (search short, search room))  -- put-slots-requires

@@ -6,19 +6,19 @@ use native.Mathlib.Omega.{arith}
 use lib.ListN.{length}
 use Rattle.draft_slots.proofs.Scanning.{range-fits, range-starts}
 use Rattle.draft_slot_table.specs.Slots.{rows}
-use Rattle.draft_slot_table.specs.Scan.{scanFrom, scan, put}
-use Rattle.draft_slot_table.proofs.Scanning.{slots-start, rows-start, slots-none, slotting}
+use Rattle.draft_slot_table.specs.Scan.{scanFrom, put}
+use Rattle.draft_slot_table.proofs.Scanning.{slotting}
 use Rattle.draft_slot_table.proofs.Scanning.{same-length, left-after, credential-ends, rows-fit, row-numbers, credential-counted}
 use Rattle.draft_slot_table.proofs.put_slots.Statement.{statement}
 use Rattle.draft_slot_table.proofs.put_slots.Tie as tie
 
 abbrev Inv-loop : tie.InvT-loop
-Inv-loop s table₀ at credentials start left₀ credential-at₀ credential₀ rows-at₀ table left credential-at credential rows-at =
-    (put table rows-at (rows s (scanFrom credential left s credential-at)) ≡ put table₀ 0 (rows s (scan s at)))
+Inv-loop s table₀ at credentials left₀ credential-at₀ credential₀ rows-at₀ table left credential-at credential rows-at =
+    (put table rows-at (rows s (scanFrom credential left s credential-at)) ≡ put table₀ 0 (rows s (scanFrom 0 credentials s at)))
     × (length table ≡ length table₀) × (rows-at + 3 * length (scanFrom credential left s credential-at) ≤ length table) × (credential ≤ credential-at)
 
 abbrev μ-loop : tie.MeasureT-loop
-μ-loop s table₀ at credentials start left₀ credential-at₀ credential₀ rows-at₀ table left credential-at credential rows-at = left
+μ-loop s table₀ at credentials left₀ credential-at₀ credential₀ rows-at₀ table left credential-at credential rows-at = left
 
 pub put-slots-spec : {M : Type 1} → statement M
 put-slots-spec =
@@ -26,12 +26,10 @@ put-slots-spec =
     (tie.spec
     Inv-loop
     μ-loop
-    (λ c κs. search needs) (λ c. search needs) (λ c. search needs)  -- u32-at-requires, enum-known-credentials, enum-told
-    (λ c. search slots-none)  -- returns
-    (λ c. (search slots-start, refl, search rows-start, omega arith))  -- loop-holds
-    (λ c κs. search needs) (λ c. search needs) (λ c. search needs)  -- range-at-requires, enum-known-slots-at, enum-told-2
+    (λ c. (refl, refl, omega arith, omega arith))  -- loop-holds
+    (λ c κs. search needs) (λ c. search needs) (λ c. search needs)  -- range-at-requires, enum-known-slots-at, enum-told
     (λ c. search needs)  -- same-length
-    (λ c. search slotting)  -- returns-2
+    (λ c. search slotting)  -- returns
     (λ c κs. (omega arith, (search rows-fit, (search range-starts, search range-fits))))  -- put-range-requires
     (λ c. search row-numbers)  -- mul-rows-at
     (λ c.
@@ -50,4 +48,4 @@ put-slots-spec =
     let same = same-length _ _ _ _ (c .before .before .put-range .ensures) in
     (search slotting, omega arith, omega arith, search credential-ends))  -- loop-again
     (λ c. search needs)  -- same-length-2
-    (λ c. search slotting))  -- returns-3
+    (λ c. search slotting))  -- returns-2

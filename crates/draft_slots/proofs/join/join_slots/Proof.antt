@@ -1,18 +1,18 @@
 -- `draft_slots::join::join_slots` meets its contract. The invariant: joining the slots that are left completes the joining of all. Assumes nothing.
 use mathlib.Core.Path.{_≡_, refl}
 use lib.ListN.{length}
-use Rattle.draft_slots.specs.Scan.{scan, scanFrom, joinAll}
-use Rattle.draft_slots.proofs.Scanning.{range-fits, joins-start, joins-absent, joining-scan}
+use Rattle.draft_slots.specs.Scan.{scanFrom, joinAll}
+use Rattle.draft_slots.proofs.Scanning.{range-fits, joining-scan}
 use borrow.Author.Needs.{needs}
 use Rattle.draft_slots.proofs.join.join_slots.Statement.{statement}
 use Rattle.draft_slots.proofs.join.join_slots.Tie as tie
 
 abbrev Inv-loop : tie.InvT-loop
-Inv-loop draft₀ other at credentials start left₀ credential-at₀ draft left credential-at =
-    (joinAll (scanFrom left other credential-at) other draft ≡ joinAll (scan other at) other draft₀) × (length draft ≡ length draft₀)
+Inv-loop draft₀ other at credentials left₀ credential-at₀ draft left credential-at =
+    (joinAll (scanFrom left other credential-at) other draft ≡ joinAll (scanFrom credentials other at) other draft₀) × (length draft ≡ length draft₀)
 
 abbrev μ-loop : tie.MeasureT-loop
-μ-loop draft₀ other at credentials start left₀ credential-at₀ draft left credential-at = left
+μ-loop draft₀ other at credentials left₀ credential-at₀ draft left credential-at = left
 
 pub join-slots-spec : {M : Type 1} → statement M
 join-slots-spec =
@@ -20,13 +20,11 @@ join-slots-spec =
     (tie.spec
     Inv-loop
     μ-loop
-    (λ c κs. search needs) (λ c. search needs) (λ c. search needs)  -- u32-at-requires, enum-known-credentials, enum-told
-    (λ c. search joins-absent)  -- returns
-    (λ c. (search joins-start, refl))  -- loop-holds
-    (λ c κs. search needs) (λ c. search needs) (λ c. search needs) (λ c. search needs)  -- range-at-requires, enum-known-slots-at, enum-told-2, same-length
-    (λ c. search joining-scan)  -- returns-2
+    (λ c. (refl, refl))  -- loop-holds
+    (λ c κs. search needs) (λ c. search needs) (λ c. search needs) (λ c. search needs)  -- range-at-requires, enum-known-slots-at, enum-told, same-length
+    (λ c. search joining-scan)  -- returns
     (λ c κs. search range-fits)  -- join-range-requires
     (λ c. search needs) (λ c. search needs)  -- sub-left, loop-less
     (λ c. (search joining-scan, search needs))  -- loop-again
     (λ c. search needs)  -- same-length-2
-    (λ c. search joining-scan))  -- returns-3
+    (λ c. search joining-scan))  -- returns-2

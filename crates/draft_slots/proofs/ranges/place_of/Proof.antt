@@ -1,17 +1,17 @@
 -- `draft_slots::ranges::place_of` meets its contract. The invariant: slot `index` of those that are left is slot `slot` of all. Assumes nothing.
-use mathlib.Core.Path.{_≡_}
-use Rattle.draft_slots.specs.Scan.{scan, scanFrom}
-use Rattle.draft_slots.proofs.Scanning.{slot-offset, slot-start, placeFrom, place-is, place-start, place-absent, placing-scan}
+use mathlib.Core.Path.{_≡_, refl}
+use Rattle.draft_slots.specs.Scan.{scanFrom}
+use Rattle.draft_slots.proofs.Scanning.{slot-offset, slot-start, placeFrom, place-is, placing-scan}
 use borrow.Author.Needs.{needs}
 use Rattle.draft_slots.proofs.ranges.place_of.Statement.{statement}
 use Rattle.draft_slots.proofs.ranges.place_of.Tie as tie
 
 abbrev Inv-loop : tie.InvT-loop
-Inv-loop s at slot credentials start left₀ credential-at₀ index₀ left credential-at index =
-    placeFrom (scanFrom left s credential-at) index ≡ placeFrom (scan s at) slot
+Inv-loop s at credentials slot left₀ credential-at₀ index₀ left credential-at index =
+    placeFrom (scanFrom left s credential-at) index ≡ placeFrom (scanFrom credentials s at) slot
 
 abbrev μ-loop : tie.MeasureT-loop
-μ-loop s at slot credentials start left₀ credential-at₀ index₀ left credential-at index = left
+μ-loop s at credentials slot left₀ credential-at₀ index₀ left credential-at index = left
 
 pub place-of-spec : {M : Type 1} → statement M
 place-of-spec =
@@ -19,14 +19,12 @@ place-of-spec =
     (tie.spec
     Inv-loop
     μ-loop
-    (λ c κs. search needs) (λ c. search needs) (λ c. search needs)  -- u32-at-requires, enum-known-credentials, enum-told
-    (λ c. search (place-is, place-absent))  -- returns
-    (λ c. search place-start)  -- loop-holds
-    (λ c κs. search needs) (λ c. search needs) (λ c. search needs)  -- range-at-requires, enum-known-slots-at, enum-told-2
-    (λ c. search (place-is, placing-scan))  -- returns-2
+    (λ c. refl)  -- loop-holds
+    (λ c κs. search needs) (λ c. search needs) (λ c. search needs)  -- range-at-requires, enum-known-slots-at, enum-told
+    (λ c. search (place-is, placing-scan))  -- returns
     (λ c. search slot-offset)  -- mul-t16
     (λ c. search slot-start)  -- add-t17
-    (λ c. search (place-is, placing-scan))  -- returns-3
+    (λ c. search (place-is, placing-scan))  -- returns-2
     (λ c. search needs) (λ c. search needs) (λ c. search needs)  -- sub-index, sub-left, loop-less
     (λ c. search placing-scan)  -- loop-again
-    (λ c. search (place-is, placing-scan)))  -- returns-4
+    (λ c. search (place-is, placing-scan)))  -- returns-3
