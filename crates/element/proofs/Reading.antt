@@ -14,32 +14,32 @@ use mathlib.Core.List.{List, [], _∷_, _++_}
 use native.Mathlib.Omega.{arith}
 use lib.ListN.{length, take, length-append}
 use lib.Seq.{take-at}
-use lib.Dec.{ltb, leb, eqb}
-use borrow.Author.Tests.{ltb-true, ltb-false, lt-leb, le-leb, eq-eqb, ne-eqb, not-true, not-false}
+use lib.Dec.{ltb, eqb}
+use borrow.Author.Tests.{ltb-true, ltb-false, eq-eqb, ne-eqb, not-true, not-false}
 use Rattle.wire.specs.declared.Refusal.{Refusal}
 use Rattle.wire.specs.declared.End.{End}
 use Rattle.wire.specs.declared.End.the-variants as P
 use Rattle.wire.specs.declared.Integer.{Integer}
 use Rattle.wire.specs.declared.Integer.the-variants as N
 use Rattle.wire.specs.Bytes.{Bytes, digits, length-digits, below, pick, between}
-use Rattle.wire.specs.Format.{Format, Result, took, refused, onResult, read, Stands, stands-part, parse-alike, parse-alike-read}
+use Rattle.wire.specs.Format.{Format, Result, took, refused, onResult, read, Stands, stands-part, parse-alike-read}
 use Rattle.wire.specs.Numbers.{by, cutAt, unknownType, outOfOrder}
 use Rattle.wire.specs.Fields.{blob, integer, length-integer}
 use Rattle.wire.specs.Sequence.{guard, tag}
-use Rattle.wire.specs.Series.{items, listParse, left, above, notBelow, increasing, nondecreasing, seriesFrom, series}
+use Rattle.wire.specs.Series.{items, listParse, left, above, notBelow, increasing, seriesFrom, series}
 use Rattle.wire.specs.Order.{keyBelow}
 use Rattle.wire.specs.Answer.{ended, valued, wholeAt}
 use Rattle.wire.proofs.Bytes.{Slice, slice-bytes, found, below-digits, key-below}
 use Rattle.wire.proofs.Orders.{empty-below}
 use Rattle.wire.proofs.Reading as W
 use Rattle.string.proofs.Reading as S
-use Rattle.element.specs.Owners.{Owners, owners, thresholdFits}
-use Rattle.element.specs.Outputs.{amount, Output, output}
+use Rattle.element.specs.Owners.{owners, thresholdFits}
+use Rattle.element.specs.Outputs.{amount, output}
 use Rattle.element.specs.Inputs.{key, Input, spend, inputAfter, input}
 use Rattle.element.specs.Operations.{OperationType, mintNft, transferNft, operationCode, operationType, operationType-code, operationOwners}
-use Rattle.element.specs.Operations.{terms, Operation, operation, Fx, secpFx, nftFx, fxCode, fxOf, fxOutputs, fxId, stateOutputs, InitialState}
+use Rattle.element.specs.Operations.{terms, operation, Fx, secpFx, nftFx, fxCode, fxOf, fxOf-code, fxOutputs, fxId, stateOutputs, InitialState}
 use Rattle.element.specs.Operations.{initialStateAfter, initialState}
-use Rattle.element.specs.Answer.{Terms, inOrder}
+use Rattle.element.specs.Answer.{inOrder}
 
 -- ---- answers: what an answer with one case for a value and one for a refusal says about the parse
 
@@ -219,10 +219,6 @@ module _ (s : List ℕ) (b : Slice s) where
   unfolding addressThen
   address-gone n prev x e f p q g y w = W.on-cut 20 s prev (P.Refused f) P.Refused _ x e p q f g refl ∙ w
 
-  pub first-gone : (c at : ℕ) (x : End) (e f : Refusal) → (c ≡ 0 → ⊥) → x ≡ ended (blob 20) s at → x ≡ P.Refused e → f ≡ cutAt 20 s at
-      → P.Refused f ≡ ended (increasing (blob 20) c) s at
-  first-gone c at x e f h p q g = address-gone (c - 1) at x e f p q g (ended (increasing (blob 20) c) s at) (address-first c at h)
-
   pub address-last : (n prev : ℕ) (x : End) → x ≡ ended (blob 20) s prev → n ≤ 0 → (y : End) → addressThen n s prev ≡ y → x ≡ y
   unfolding addressThen items listParse
   address-last zero prev x p h y w = p ∙ w
@@ -238,21 +234,19 @@ module _ {R : Type 0} (threshold addresses : ℕ) (t : Bool) (z x y : R) (e : t 
   pub if-unfit : not t ≡ true → z ≡ y → z ≡ pick (thresholdFits threshold addresses) x y
   if-unfit h i = rw (found e (not-true t h)) i
 
-module _ {R : Type 0} (s : List ℕ) (at : ℕ) (z : R) (stop : Refusal → R) (go : Owners → ℕ → R) (x : End) where
-  pub on-owners : (n : ℕ) → x ≡ ended owners s at → x ≡ P.At n → ((v : Owners) → z ≡ go v n) → z ≡ owners .parse s at stop go
-  on-owners = W.ends owners R s at z stop go x
+pub on-owners : W.Ends owners
+on-owners = W.ends owners
 
-  pub on-owners-refused : (e : Refusal) → x ≡ ended owners s at → x ≡ P.Refused e → z ≡ stop e → z ≡ owners .parse s at stop go
-  on-owners-refused = W.stops owners R s at z stop go x
+pub on-owners-refused : W.Stops owners
+on-owners-refused = W.stops owners
 
 -- ---- outputs
 
-module _ {R : Type 0} (s : List ℕ) (at : ℕ) (z : R) (stop : Refusal → R) (go : ℕ → ℕ → R) (x : End) where
-  pub on-amount : (n : ℕ) → x ≡ ended amount s at → x ≡ P.At n → ((v : ℕ) → z ≡ go v n) → z ≡ amount .parse s at stop go
-  on-amount = W.ends amount R s at z stop go x
+pub on-amount : W.Ends amount
+on-amount = W.ends amount
 
-  pub on-amount-refused : (e : Refusal) → x ≡ ended amount s at → x ≡ P.Refused e → z ≡ stop e → z ≡ amount .parse s at stop go
-  on-amount-refused = W.stops amount R s at z stop go x
+pub on-amount-refused : W.Stops amount
+on-amount-refused = W.stops amount
 
 -- the code's answer for an element that must not be below the one before is that of the format of such an element
 ordered-is : {A : Type 0} (F : Format A) (s : List ℕ) (prev at : ℕ) → Slice s → inOrder s prev at (ended F s at) ≡ ended (notBelow F (between prev at s)) s at
@@ -308,12 +302,11 @@ pub ruleset ordering = (W.list-on, W.list-again, on-ordered, on-disordered)
 -- ---- inputs
 
 -- an input after its key
-module _ {R : Type 0} (s : List ℕ) (at : ℕ) (z : R) (stop : Refusal → R) (go : List ℕ × (Unit {0} × (ℕ × List ℕ)) → ℕ → R) (x : End) where
-  pub on-spend : (n : ℕ) → x ≡ ended spend s at → x ≡ P.At n → ((v : List ℕ × (Unit {0} × (ℕ × List ℕ))) → z ≡ go v n) → z ≡ spend .parse s at stop go
-  on-spend = W.ends spend R s at z stop go x
+pub on-spend : W.Ends spend
+on-spend = W.ends spend
 
-  pub on-spend-refused : (e : Refusal) → x ≡ ended spend s at → x ≡ P.Refused e → z ≡ stop e → z ≡ spend .parse s at stop go
-  on-spend-refused = W.stops spend R s at z stop go x
+pub on-spend-refused : W.Stops spend
+on-spend-refused = W.stops spend
 
 pub key-wide : (v : List ℕ × ℕ) → key .Good v → length (key .write v) ≡ 36
 unfolding key integer blob
@@ -335,12 +328,11 @@ inputs-are s b n at = items-viewed inputAfter 36 inputKey input-front s (slice-b
 
 -- ---- operations
 
-module _ {R : Type 0} (s : List ℕ) (at : ℕ) (z : R) (stop : Refusal → R) (go : Terms → ℕ → R) (x : End) where
-  pub on-terms : (n : ℕ) → x ≡ ended terms s at → x ≡ P.At n → ((v : Terms) → z ≡ go v n) → z ≡ terms .parse s at stop go
-  on-terms = W.ends terms R s at z stop go x
+pub on-terms : W.Ends terms
+on-terms = W.ends terms
 
-  pub on-terms-refused : (e : Refusal) → x ≡ ended terms s at → x ≡ P.Refused e → z ≡ stop e → z ≡ terms .parse s at stop go
-  on-terms-refused = W.stops terms R s at z stop go x
+pub on-terms-refused : W.Stops terms
+on-terms-refused = W.stops terms
 
 -- after the terms: the owners that the type has
 module _ («type_id» : ℕ) (s : List ℕ) (at : ℕ) (z : End) where
@@ -350,56 +342,54 @@ module _ («type_id» : ℕ) (s : List ℕ) (at : ℕ) (z : End) where
   pub if-transfer : («type_id» ≡ 12 → ⊥) → z ≡ ended owners s at → z ≡ ended (operationOwners (operationType «type_id»)) s at
   if-transfer h e = rw (ne-eqb «type_id» 12 h) e
 
+-- whether v is one of two types, c and the next
+one-of : (c d v : ℕ) → d ≡ suc c → c ≤ v → v ≤ d → pick (eqb v c) true (pick (eqb v d) true false) ≡ true
+one-of c d v e h i = cases (ltb v d) refl
+  where
+    cases : (b : Bool) → ltb v d ≡ b → pick (eqb v c) true (pick (eqb v d) true false) ≡ true
+    cases true j = rw (eq-eqb v c (omega (arith, ltb-true v d j)))
+    cases false j = rw (ne-eqb v c (λ k. omega (arith, ltb-false v d j)), eq-eqb v d (omega (arith, ltb-false v d j)))
+
+none-of : (c d v : ℕ) → (v ≡ c → ⊥) → (v ≡ d → ⊥) → pick (eqb v c) true (pick (eqb v d) true false) ≡ false
+none-of c d v h i = rw (ne-eqb v c h, ne-eqb v d i)
+
 -- the type of an operation, which the code compares with 12 and 13
 abbrev operationTag : Format OperationType
 operationTag = tag operationCode operationType operationType-code (integer 4) (mintNft ∷ transferNft ∷ []) unknownType
 
-operation-type-parse : {R : Type 0} (s : List ℕ) (at : ℕ) (stop : Refusal → R) (go : OperationType → ℕ → R)
-    → operationTag .parse s at stop go ≡ integer 4 .parse s at stop
-    (λ n m. pick (eqb n 12) (go mintNft m) (pick (eqb n 13) (go transferNft m) (stop (by unknownType at))))
-unfolding tag
-operation-type-parse s at stop go = refl
-
-operation-known : {R : Type 0} (v : ℕ) (go : OperationType → R) (y : R) → 12 ≤ v → v ≤ 13
-    → pick (eqb v 12) (go mintNft) (pick (eqb v 13) (go transferNft) y) ≡ go (operationType v)
-operation-known v go y h i = cases (ltb v 13) refl
-  where
-    cases : (b : Bool) → ltb v 13 ≡ b → pick (eqb v 12) (go mintNft) (pick (eqb v 13) (go transferNft) y) ≡ go (operationType v)
-    cases true e = rw (eq-eqb v 12 (omega (arith, ltb-true v 13 e)))
-    cases false e = rw (ne-eqb v 12 (λ j. omega (arith, ltb-false v 13 e)), eq-eqb v 13 (omega (arith, ltb-false v 13 e)))
-
 module _ {R : Type 0} (s : List ℕ) (at : ℕ) (z : R) (stop : Refusal → R) (go : OperationType → ℕ → R) (x : Integer) (p : x ≡ valued (integer 4) s at) where
   pub on-operation-type : (v n : ℕ) → x ≡ N.Value v n → 12 ≤ v → v ≤ 13 → z ≡ go (operationType v) n → z ≡ operationTag .parse s at stop go
-  on-operation-type v n q h i e =
-      W.on-value 4 s at z stop _ x v n p q (e ∙ sym (operation-known v (λ k. go k n) (stop (by unknownType at)) h i)) ∙ sym (operation-type-parse s at stop go)
+  on-operation-type v n q h i =
+      W.on-tag operationCode operationType operationType-code 4 (mintNft ∷ transferNft ∷ []) unknownType s at z stop go x p v n q (one-of 12 13 v refl h i)
 
   pub on-operation-type-below : (v n : ℕ) → x ≡ N.Value v n → v < 12 → z ≡ stop (by unknownType at) → z ≡ operationTag .parse s at stop go
-  on-operation-type-below v n q h e =
-      W.on-value 4 s at z stop _ x v n p q (rw (ne-eqb v 12 (λ i. omega arith), ne-eqb v 13 (λ i. omega arith)) e) ∙ sym (operation-type-parse s at stop go)
+  on-operation-type-below v n q h =
+      W.on-tag-unknown operationCode operationType operationType-code 4 (mintNft ∷ transferNft ∷ []) unknownType s at z stop go x p v n q
+      (none-of 12 13 v (λ i. omega arith) (λ i. omega arith))
 
   pub on-operation-type-above : (v n : ℕ) → x ≡ N.Value v n → 13 < v → z ≡ stop (by unknownType at) → z ≡ operationTag .parse s at stop go
-  on-operation-type-above v n q h e =
-      W.on-value 4 s at z stop _ x v n p q (rw (ne-eqb v 12 (λ i. omega arith), ne-eqb v 13 (λ i. omega arith)) e) ∙ sym (operation-type-parse s at stop go)
+  on-operation-type-above v n q h =
+      W.on-tag-unknown operationCode operationType operationType-code 4 (mintNft ∷ transferNft ∷ []) unknownType s at z stop go x p v n q
+      (none-of 12 13 v (λ i. omega arith) (λ i. omega arith))
 
   pub on-operation-type-short : (e : Refusal) → x ≡ N.Refused e → (f : Refusal) → f ≡ cutAt 4 s at → z ≡ stop f → z ≡ operationTag .parse s at stop go
-  on-operation-type-short e q f g r = W.on-short 4 s at z stop _ x e p q f g r ∙ sym (operation-type-parse s at stop go)
+  on-operation-type-short = W.on-tag-short operationCode operationType operationType-code 4 (mintNft ∷ transferNft ∷ []) unknownType s at z stop go x p
 
-module _ {R : Type 0} (s : List ℕ) (at : ℕ) (z : R) (stop : Refusal → R) (go : Operation → ℕ → R) (x : End) where
-  pub on-operation : (n : ℕ) → x ≡ ended operation s at → x ≡ P.At n → ((v : Operation) → z ≡ go v n) → z ≡ operation .parse s at stop go
-  on-operation = W.ends operation R s at z stop go x
+pub on-operation : W.Ends operation
+on-operation = W.ends operation
 
-  pub on-operation-refused : (e : Refusal) → x ≡ ended operation s at → x ≡ P.Refused e → z ≡ stop e → z ≡ operation .parse s at stop go
-  on-operation-refused = W.stops operation R s at z stop go x
+pub on-operation-refused : W.Stops operation
+on-operation-refused = W.stops operation
 
 -- ---- initial states
 
 -- which outputs an FxID allows; the code compares it with 0
-module _ (fx c : ℕ) (s : List ℕ) (at : ℕ) (z : End) where
-  pub on-secp : fx ≡ 0 → z ≡ ended (nondecreasing (output (fxOutputs secpFx)) c) s at → z ≡ ended (nondecreasing (output (fxOutputs (fxOf fx))) c) s at
-  on-secp h e = rw h e
+module _ (fx : ℕ) (s : List ℕ) (at : ℕ) (z : End) where
+  pub under-secp : fx ≡ 0 → z ≡ ended (output (fxOutputs secpFx)) s at → z ≡ ended (output (fxOutputs (fxOf fx))) s at
+  under-secp h e = rw h e
 
-  pub on-nft : (fx ≡ 0 → ⊥) → z ≡ ended (nondecreasing (output (fxOutputs nftFx)) c) s at → z ≡ ended (nondecreasing (output (fxOutputs (fxOf fx))) c) s at
-  on-nft h e = rw (ne-eqb fx 0 h) e
+  pub under-nft : (fx ≡ 0 → ⊥) → z ≡ ended (output (fxOutputs nftFx)) s at → z ≡ ended (output (fxOutputs (fxOf fx))) s at
+  under-nft h e = rw (ne-eqb fx 0 h) e
 
 pub fxOf-write : (n : ℕ) → n ≤ 1 → fxId .write (fxOf n) ≡ integer 4 .write n
 unfolding fxId
@@ -407,26 +397,20 @@ fxOf-write zero h = refl
 fxOf-write (suc zero) h = refl
 fxOf-write (suc (suc n)) h = absurd (omega arith)
 
-fx-parse : {R : Type 0} (s : List ℕ) (at : ℕ) (stop : Refusal → R) (go : Fx → ℕ → R)
-    → fxId .parse s at stop go ≡ integer 4 .parse s at stop (λ n m. pick (leb n 1) (go (fxOf n) m) (stop (by unknownType at)))
-unfolding fxId
-fx-parse s at stop go = parse-alike (integer 4) s at stop _ _ each
-  where
-    each : (n m : ℕ) → pick (eqb n 0) (go secpFx m) (pick (eqb n 1) (go nftFx m) (stop (by unknownType at))) ≡ pick (leb n 1) (go (fxOf n) m)
-        (stop (by unknownType at))
-    each zero m = refl
-    each (suc zero) m = refl
-    each (suc (suc n)) m = rw (ne-eqb (suc (suc n)) 0 (λ e. omega arith), ne-eqb (suc (suc n)) 1 (λ e. omega arith), lt-leb (suc (suc n)) 1 (omega arith))
-
 module _ {R : Type 0} (s : List ℕ) (at : ℕ) (z : R) (stop : Refusal → R) (go : Fx → ℕ → R) (x : Integer) (p : x ≡ valued (integer 4) s at) where
   pub on-fx : (v n : ℕ) → x ≡ N.Value v n → v ≤ 1 → z ≡ go (fxOf v) n → z ≡ fxId .parse s at stop go
-  on-fx v n q h e = W.on-value 4 s at z stop _ x v n p q (rw (le-leb v 1 h) e) ∙ sym (fx-parse s at stop go)
+  unfolding fxId
+  on-fx v n q h = W.on-tag fxCode fxOf fxOf-code 4 (secpFx ∷ nftFx ∷ []) unknownType s at z stop go x p v n q (one-of 0 1 v refl (omega arith) h)
 
   pub on-fx-unknown : (v n : ℕ) → x ≡ N.Value v n → 1 < v → z ≡ stop (by unknownType at) → z ≡ fxId .parse s at stop go
-  on-fx-unknown v n q h e = W.on-value 4 s at z stop _ x v n p q (rw (lt-leb v 1 h) e) ∙ sym (fx-parse s at stop go)
+  unfolding fxId
+  on-fx-unknown v n q h =
+      W.on-tag-unknown fxCode fxOf fxOf-code 4 (secpFx ∷ nftFx ∷ []) unknownType s at z stop go x p v n q
+      (none-of 0 1 v (λ i. omega arith) (λ i. omega arith))
 
   pub on-fx-short : (e : Refusal) → x ≡ N.Refused e → (f : Refusal) → f ≡ cutAt 4 s at → z ≡ stop f → z ≡ fxId .parse s at stop go
-  on-fx-short e q f g r = W.on-short 4 s at z stop _ x e p q f g r ∙ sym (fx-parse s at stop go)
+  unfolding fxId
+  on-fx-short = W.on-tag-short fxCode fxOf fxOf-code 4 (secpFx ∷ nftFx ∷ []) unknownType s at z stop go x p
 
 module _ (fx : ℕ) (small : fx ≤ 1) where
   module _ {R : Type 0} (any : Bool) (last : ℕ) (t : Bool) (z X Y : R) (e : t ≡ pick any (ltb last fx) true) (hl : last ≤ 1) where
@@ -458,12 +442,11 @@ statesAfter before n = items initialStateAfter (λ b v. stateKey v) before n
 pub states-are : (s : List ℕ) → Slice s → (n at : ℕ) → ended (statesAfter [] n) s at ≡ ended (series initialState n) s at
 states-are s b n at = items-viewed initialStateAfter 4 stateKey state-front s (slice-bytes s b) n [] at P.Refused (λ l k. P.At k)
 
-module _ {R : Type 0} (k : Fx) (s : List ℕ) (at : ℕ) (z : R) (stop : Refusal → R) (go : List Output → ℕ → R) (x : End) where
-  pub on-state-outputs : (n : ℕ) → x ≡ ended (stateOutputs k) s at → x ≡ P.At n → ((v : List Output) → z ≡ go v n) → z ≡ stateOutputs k .parse s at stop go
-  on-state-outputs n p q e = W.ends (stateOutputs k) R s at z stop go x n p q e
+pub on-state-outputs : (k : Fx) → W.Ends (stateOutputs k)
+on-state-outputs k = W.ends (stateOutputs k)
 
-  pub on-state-outputs-refused : (e : Refusal) → x ≡ ended (stateOutputs k) s at → x ≡ P.Refused e → z ≡ stop e → z ≡ stateOutputs k .parse s at stop go
-  on-state-outputs-refused e p q r = W.stops (stateOutputs k) R s at z stop go x e p q r
+pub on-state-outputs-refused : (k : Fx) → W.Stops (stateOutputs k)
+on-state-outputs-refused k = W.stops (stateOutputs k)
 
 -- ---- rulesets: a chain that ends in a refusal or in an answer that is returned
 

@@ -6,4 +6,3 @@ pub mod Operations
 pub mod PlainBytes
 pub mod Good
 pub mod Answer
-pub mod Lengths

@@ -5,6 +5,7 @@ ghost use Rattle.wire.specs.Series.{increasing, series};
 ghost use Rattle.wire.specs.Answer.{ended};
 ghost use Rattle.element.specs.Inputs.{input, spend};
 ghost use Rattle.element.specs.Answer.{integerFollows, keyFollows};
+use crate::SECP_INPUT;
 use crate::outputs;
 use wire::End;
 use wire::Integer;
@@ -58,20 +59,20 @@ pub(crate) fn indices_from(s: &[u8], start: usize, count: u64) -> End
 fn spend_at(s: &[u8], at: usize) -> End
     ensures { λ r. ⌜ r ≡ ended spend (now (s .entry)) at ⌝ }
 {
-    let End::At(k) = wire::field_at(s, at, 32) else {
+    let End::At(type_at) = wire::field_at(s, at, 32) else {
         return End::Refused(wire::cut(s, at, 32));
     };
-    let Integer::Value(type_id, a) = wire::u32_at(s, k) else {
-        return End::Refused(wire::cut(s, k, 4));
+    let Integer::Value(type_id, after_type) = wire::u32_at(s, type_at) else {
+        return End::Refused(wire::cut(s, type_at, 4));
     };
-    if type_id != 5 {
-        return End::Refused(wire::refuse(Rule::UnknownType, k));
+    if type_id != SECP_INPUT {
+        return End::Refused(wire::refuse(Rule::UnknownType, type_at));
     }
-    match outputs::amount_at(s, a) {
+    match outputs::amount_at(s, after_type) {
         End::Refused(refusal) => End::Refused(refusal),
-        End::At(n) => {
-            let Integer::Value(count, first) = wire::u32_at(s, n) else {
-                return End::Refused(wire::cut(s, n, 4));
+        End::At(count_at) => {
+            let Integer::Value(count, first) = wire::u32_at(s, count_at) else {
+                return End::Refused(wire::cut(s, count_at, 4));
             };
             indices_from(s, first, count)
         }
@@ -88,15 +89,15 @@ pub fn inputs_from(s: &[u8], start: usize, count: u64) -> End
     let mut last: u64 = 0;
     let mut at = start;
     while 0 < left {
-        let End::At(i) = wire::field_at(s, at, 32) else {
+        let End::At(index_at) = wire::field_at(s, at, 32) else {
             return End::Refused(wire::cut(s, at, 32));
         };
         let id = wire::id_at(s, at);
-        let Integer::Value(index, e) = wire::u32_at(s, i) else {
-            return End::Refused(wire::cut(s, i, 4));
+        let Integer::Value(index, after_key) = wire::u32_at(s, index_at) else {
+            return End::Refused(wire::cut(s, index_at, 4));
         };
         if key_follows(any, prev, last, id, index) {
-            match spend_at(s, e) {
+            match spend_at(s, after_key) {
                 End::Refused(refusal) => {
                     return End::Refused(refusal);
                 }

@@ -1,42 +1,26 @@
 // The elements of a transaction: owners, outputs, inputs, operations and initial states. A reader takes the fields from left to right and returns the
 // offset just past the element.
 pub mod inputs;
-pub mod lengths;
 pub mod operations;
 pub mod outputs;
 pub mod owners;
 
-// The widths of fields in bytes: an asset or transaction id, an address, an address index, an amount, an NFT group and an FxID.
-pub(crate) const ID_WIDTH: usize = 32;
+// The types of outputs.
+pub const SECP_MINT: u64 = 6;
 
-pub(crate) const ADDRESS_WIDTH: usize = 20;
+pub const SECP_TRANSFER: u64 = 7;
 
-pub(crate) const INDEX_WIDTH: usize = 4;
+pub const NFT_MINT: u64 = 10;
 
-pub(crate) const AMOUNT_WIDTH: usize = 8;
+pub(crate) const NFT_TRANSFER: u64 = 11;
 
-pub(crate) const GROUP_WIDTH: usize = 4;
+// The type of an input.
+pub(crate) const SECP_INPUT: u64 = 5;
 
-pub(crate) const FX_WIDTH: usize = 4;
+// The types of operations: a mint and a transfer.
+pub const MINT_OPERATION: u64 = 12;
 
-// The width of a key: a transaction id and an output index.
-pub(crate) const KEY_WIDTH: usize = 36;
-
-// The bytes before the number of addresses: locktime and threshold.
-pub(crate) const BEFORE_ADDRESSES: usize = 12;
-
-// The bytes before the number of an input's address indices: key, asset id, type and amount.
-pub(crate) const BEFORE_INDICES: usize = 80;
-
-// The types of outputs, except the NFT transfer (11).
-pub(crate) const SECP_MINT: u64 = 6;
-
-pub(crate) const SECP_TRANSFER: u64 = 7;
-
-pub(crate) const NFT_MINT: u64 = 10;
-
-// The type of an operation that mints; the other is the transfer (13).
-pub(crate) const MINT_OPERATION: u64 = 12;
+pub(crate) const TRANSFER_OPERATION: u64 = 13;
 
 // The fields of owners. The addresses are `addresses_count` times 20 bytes from `addresses_at` on.
 pub struct OwnersFields {

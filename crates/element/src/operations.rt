@@ -4,6 +4,8 @@ ghost use Rattle.wire.specs.Series.{increasing, series, unordered};
 ghost use Rattle.wire.specs.Answer.{ended};
 ghost use Rattle.element.specs.Inputs.{key};
 ghost use Rattle.element.specs.Operations.{terms, action, operation, operationOwners, operationType, fxOf, stateOutputs, initialState};
+use crate::MINT_OPERATION;
+use crate::TRANSFER_OPERATION;
 use crate::inputs;
 use crate::outputs;
 use crate::owners;
@@ -21,12 +23,12 @@ fn pairs_from(s: &[u8], start: usize, count: u64) -> End
     let mut last: u64 = 0;
     let mut at = start;
     while 0 < left {
-        let End::At(i) = wire::field_at(s, at, 32) else {
+        let End::At(index_at) = wire::field_at(s, at, 32) else {
             return End::Refused(wire::cut(s, at, 32));
         };
         let id = wire::id_at(s, at);
-        let Integer::Value(index, next) = wire::u32_at(s, i) else {
-            return End::Refused(wire::cut(s, i, 4));
+        let Integer::Value(index, next) = wire::u32_at(s, index_at) else {
+            return End::Refused(wire::cut(s, index_at, 4));
         };
         if inputs::key_follows(any, prev, last, id, index) {
             any = true;
@@ -50,20 +52,20 @@ fn terms_at(s: &[u8], at: usize) -> End
     };
     match inputs::indices_from(s, first, count) {
         End::Refused(refusal) => End::Refused(refusal),
-        End::At(g) => {
-            let Integer::Value(_, p) = wire::u32_at(s, g) else {
-                return End::Refused(wire::cut(s, g, 4));
+        End::At(group_at) => {
+            let Integer::Value(_, payload_at) = wire::u32_at(s, group_at) else {
+                return End::Refused(wire::cut(s, group_at, 4));
             };
-            string::string_at(s, p, string::PAYLOAD_MOST)
+            string::string_at(s, payload_at, string::PAYLOAD_MOST)
         }
     }
 }
 
-// What follows the terms, by the operation's type: a list of owners for a mint (12), owners for a transfer (13).
+// What follows the terms, by the operation's type: a list of owners for a mint, owners for a transfer.
 fn recipients_at(s: &[u8], at: usize, type_id: u64) -> End
     ensures { λ r. ⌜ r ≡ ended (operationOwners (operationType «type_id»)) (now (s .entry)) at ⌝ }
 {
-    if type_id == 12 {
+    if type_id == MINT_OPERATION {
         let Integer::Value(count, first) = wire::u32_at(s, at) else {
             return End::Refused(wire::cut(s, at, 4));
         };
@@ -76,18 +78,18 @@ fn recipients_at(s: &[u8], at: usize, type_id: u64) -> End
 fn action_at(s: &[u8], at: usize) -> End
     ensures { λ r. ⌜ r ≡ ended action (now (s .entry)) at ⌝ }
 {
-    let Integer::Value(type_id, i) = wire::u32_at(s, at) else {
+    let Integer::Value(type_id, after_type) = wire::u32_at(s, at) else {
         return End::Refused(wire::cut(s, at, 4));
     };
-    if type_id < 12 {
+    if type_id < MINT_OPERATION {
         return End::Refused(wire::refuse(Rule::UnknownType, at));
     }
-    if 13 < type_id {
+    if TRANSFER_OPERATION < type_id {
         return End::Refused(wire::refuse(Rule::UnknownType, at));
     }
-    match terms_at(s, i) {
+    match terms_at(s, after_type) {
         End::Refused(refusal) => End::Refused(refusal),
-        End::At(o) => recipients_at(s, o, type_id),
+        End::At(after_terms) => recipients_at(s, after_terms, type_id),
     }
 }
 
@@ -95,15 +97,15 @@ fn action_at(s: &[u8], at: usize) -> End
 pub fn operation_at(s: &[u8], at: usize) -> End
     ensures { λ r. ⌜ r ≡ ended operation (now (s .entry)) at ⌝ }
 {
-    let End::At(p) = wire::field_at(s, at, 32) else {
+    let End::At(count_at) = wire::field_at(s, at, 32) else {
         return End::Refused(wire::cut(s, at, 32));
     };
-    let Integer::Value(count, first) = wire::u32_at(s, p) else {
-        return End::Refused(wire::cut(s, p, 4));
+    let Integer::Value(count, first) = wire::u32_at(s, count_at) else {
+        return End::Refused(wire::cut(s, count_at, 4));
     };
     match pairs_from(s, first, count) {
         End::Refused(refusal) => End::Refused(refusal),
-        End::At(t) => action_at(s, t),
+        End::At(after_pairs) => action_at(s, after_pairs),
     }
 }
 
@@ -134,10 +136,7 @@ pub fn state_outputs_at(s: &[u8], at: usize, fx: u64) -> End
     let Integer::Value(count, first) = wire::u32_at(s, at) else {
         return End::Refused(wire::cut(s, at, 4));
     };
-    if fx == 0 {
-        return outputs::secp_from(s, first, count);
-    }
-    outputs::nft_from(s, first, count)
+    outputs::outputs_under(s, first, count, fx)
 }
 
 // `count` initial states from `start` on, with strictly increasing FxIDs.
@@ -149,14 +148,14 @@ pub fn states_from(s: &[u8], start: usize, count: u64) -> End
     let mut last: u64 = 0;
     let mut at = start;
     while 0 < left {
-        let Integer::Value(fx, o) = wire::u32_at(s, at) else {
+        let Integer::Value(fx, after_fx) = wire::u32_at(s, at) else {
             return End::Refused(wire::cut(s, at, 4));
         };
         if 1 < fx {
             return End::Refused(wire::refuse(Rule::UnknownType, at));
         }
         if inputs::integer_follows(any, last, fx) {
-            match state_outputs_at(s, o, fx) {
+            match state_outputs_at(s, after_fx, fx) {
                 End::Refused(refusal) => {
                     return End::Refused(refusal);
                 }

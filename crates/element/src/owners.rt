@@ -16,9 +16,6 @@ pub fn addresses_from(s: &[u8], start: usize, count: u64) -> End
     if count == 0 {
         return End::At(start);
     }
-    let End::At(_) = wire::field_at(s, start, 20) else {
-        return End::Refused(wire::cut(s, start, 20));
-    };
     let mut left = count - 1;
     let mut prev = start;
     while 0 < left {
@@ -49,17 +46,17 @@ pub fn threshold_fits(threshold: u64, addresses: u64) -> bool
 pub(crate) fn owners_at(s: &[u8], at: usize) -> End
     ensures { λ r. ⌜ r ≡ ended owners (now (s .entry)) at ⌝ }
 {
-    let Integer::Value(_, t) = wire::u64_at(s, at) else {
+    let Integer::Value(_, threshold_at) = wire::u64_at(s, at) else {
         return End::Refused(wire::cut(s, at, 8));
     };
-    let Integer::Value(threshold, n) = wire::u32_at(s, t) else {
-        return End::Refused(wire::cut(s, t, 4));
+    let Integer::Value(threshold, count_at) = wire::u32_at(s, threshold_at) else {
+        return End::Refused(wire::cut(s, threshold_at, 4));
     };
-    let Integer::Value(count, first) = wire::u32_at(s, n) else {
-        return End::Refused(wire::cut(s, n, 4));
+    let Integer::Value(count, first) = wire::u32_at(s, count_at) else {
+        return End::Refused(wire::cut(s, count_at, 4));
     };
     if !threshold_fits(threshold, count) {
-        return End::Refused(wire::refuse(Rule::BadThreshold, t));
+        return End::Refused(wire::refuse(Rule::BadThreshold, threshold_at));
     }
     addresses_from(s, first, count)
 }

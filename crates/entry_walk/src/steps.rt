@@ -120,7 +120,7 @@ fn advance_state_output(s: &[u8], cursor: Cursor) -> Advance
     ensures { λ r. ⌜ StateOutputAdvance (now (s .entry)) cursor r ⌝ }
     ensures { λ r. ⌜ Shorter cursor r ⌝ }
 {
-    match element::lengths::output_past(s, cursor.at) {
+    match element_lengths::output_past(s, cursor.at) {
         End::Refused(_) => Advance::Done,
         End::At(end) => Advance::Found(
             Row {

@@ -258,12 +258,12 @@ pub fn element_past(s: &[u8], at: usize, list: ListName) -> Integer
     ensures { λ r. ⌜ ElementTells list (now (s .entry)) at r ⌝ }
 {
     match list {
-        ListName::Output => silent(element::lengths::transferable_past(s, at)),
-        ListName::Input => element::lengths::input_past(s, at),
-        ListName::State => silent(element::lengths::state_past(s, at)),
-        ListName::Operation => element::lengths::operation_past(s, at),
-        ListName::Imported => element::lengths::input_past(s, at),
-        ListName::Exported => silent(element::lengths::transferable_past(s, at)),
+        ListName::Output => silent(element_lengths::transferable_past(s, at)),
+        ListName::Input => element_lengths::input_past(s, at),
+        ListName::State => silent(element_lengths::state_past(s, at)),
+        ListName::Operation => element_lengths::operation_past(s, at),
+        ListName::Imported => element_lengths::input_past(s, at),
+        ListName::Exported => silent(element_lengths::transferable_past(s, at)),
     }
 }
 
@@ -292,9 +292,9 @@ pub fn asking_past(s: &[u8], at: usize, credential: u64) -> Integer
     ensures { λ r. ⌜ AskingTells credential (now (s .entry)) at r ⌝ }
 {
     if credential == transaction::NFT_CREDENTIAL {
-        return element::lengths::operation_past(s, at);
+        return element_lengths::operation_past(s, at);
     }
-    element::lengths::input_past(s, at)
+    element_lengths::input_past(s, at)
 }
 
 // The kind of an element's entry. An initial state is no entry: this is the kind of its outputs.

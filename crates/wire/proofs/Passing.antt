@@ -47,8 +47,8 @@ value-refused r = let k : _≡_ {A = ℕ} 0 1 = cc in omega arith
 abbrev pub next : {A : Type 0} → A → ℕ → End
 next v n = P.At n
 
-abbrev pub told : {A : Type 0} → (A → ℕ) → A → ℕ → Integer
-told f v n = N.Value (f v) n
+abbrev pub answered : {A : Type 0} → (A → ℕ) → A → ℕ → Integer
+answered f v n = N.Value (f v) n
 
 module _ {A : Type 0} (F : Format A) (s : List ℕ) (at : ℕ) where
   pub passes : (z : End) → Leads F s at next z → Passes F s at z
@@ -59,7 +59,7 @@ module _ {A : Type 0} (F : Format A) (s : List ℕ) (at : ℕ) where
   unfolding Yields
   leads z h = h
 
-  pub tells : (f : A → ℕ) (z : Integer) → Leads F s at (told f) z → Tells F f s at z
+  pub tells : (f : A → ℕ) (z : Integer) → Leads F s at (answered f) z → Tells F f s at z
   unfolding Yields
   tells f z h = h
 
@@ -121,17 +121,17 @@ module _ {A B R : Type 0} (F : Format A) (s : List ℕ) (at : ℕ) (k : A → �
 
   -- x is the answer of a call that skips a value of F and returns a number computed from it
   module _ (f : A → ℕ) (x : Integer) (p : Tells F f s at x) where
-    pub told-whole : ((v : A) (n : ℕ) → x ≡ N.Value (f v) n → Yields (k v n) go z) → Yields (F .parse s at refused k) go z
-    told-whole h = yields-parse (λ v n e. h v n (p v n e))
+    pub answered-whole : ((v : A) (n : ℕ) → x ≡ N.Value (f v) n → Yields (k v n) go z) → Yields (F .parse s at refused k) go z
+    answered-whole h = yields-parse (λ v n e. h v n (p v n e))
 
-    pub told-next : (c m : ℕ) → x ≡ N.Value c m → ((v : A) → c ≡ f v → Yields (k v m) go z) → Yields (F .parse s at refused k) go z
-    told-next c m q h =
-        told-whole (λ v n e.
+    pub answered-next : (c m : ℕ) → x ≡ N.Value c m → ((v : A) → c ≡ f v → Yields (k v m) go z) → Yields (F .parse s at refused k) go z
+    answered-next c m q h =
+        answered-whole (λ v n e.
         let (i, j) = same-value (found e q) in
         subst (λ (j : ℕ). Yields (k v j) go z) (sym j) (h v (sym i)))
 
-    pub told-refused : (e : Refusal) → x ≡ N.Refused e → Yields (F .parse s at refused k) go z
-    told-refused e q = told-whole (λ v n r. absurd (value-refused (found r q)))
+    pub answered-refused : (e : Refusal) → x ≡ N.Refused e → Yields (F .parse s at refused k) go z
+    answered-refused e q = answered-whole (λ v n r. absurd (value-refused (found r q)))
 
 -- a format of one width, skipped as that many bytes
 module _ {A : Type 0} (F : Format A) (w : ℕ) (wide : Wide F w) (s : List ℕ) (at : ℕ) (b : Slice s) (x : End) (p : x ≡ ended (blob w) s at) where
@@ -156,10 +156,10 @@ module _ {B R : Type 0} (s : List ℕ) (at : ℕ) (go : B → ℕ → R) (z : R)
 
       pub value-next : (c m : ℕ) → x ≡ N.Value c m → Yields (k c m) go z → Yields (integer w .parse s at refused k) go z
       value-next c m q h =
-          told-next (integer w) s at k go z (λ c. c) x integer-tells c m q (λ v i. subst (λ (d : ℕ). Yields (k d m) go z) i h)
+          answered-next (integer w) s at k go z (λ c. c) x integer-tells c m q (λ v i. subst (λ (d : ℕ). Yields (k d m) go z) i h)
 
       pub value-short : (e : Refusal) → x ≡ N.Refused e → Yields (integer w .parse s at refused k) go z
-      value-short = told-refused (integer w) s at k go z (λ c. c) x integer-tells
+      value-short = answered-refused (integer w) s at k go z (λ c. c) x integer-tells
 
     -- an integer that is skipped as bytes
     module _ (b : Slice s) (x : End) (p : x ≡ ended (blob w) s at) where

@@ -20,10 +20,10 @@ use Rattle.wire.specs.declared.End.the-variants as P
 use Rattle.wire.specs.declared.Integer.{Integer}
 use Rattle.wire.specs.declared.Integer.the-variants as N
 use Rattle.wire.specs.Bytes.{value, pick, between, below}
-use Rattle.wire.specs.Numbers.{cutAt}
+use Rattle.wire.specs.Numbers.{ReadingRule, by, cutAt}
 use Rattle.wire.specs.Format.{Format, Result, took, refused, onResult, read, refused-took, took-refused, Stands, stands-part, stands-append}
 use Rattle.wire.specs.Fields.{blob, blobParse, integer, length-integer}
-use Rattle.wire.specs.Sequence.{guard}
+use Rattle.wire.specs.Sequence.{guard, tag, find-is, listed}
 use Rattle.wire.specs.Series.{listParse, listWrite, Chain, items, left, above, increasing}
 use Rattle.wire.specs.Answer.{ended, valued, wholeAt}
 use Rattle.wire.proofs.Bytes.{found, Slice, slice-bytes}
@@ -220,6 +220,24 @@ module _ {R : Type 0} (k : ℕ) (s : List ℕ) (at : ℕ) (z : R) (stop : Refusa
     on-short e p q f g r =
         let o = integer-refused-inv (read (integer k) s at) e (sym (integer k .same s at N.Refused N.Value) ∙ found p q) in
         on-integer-refused e p q (r ∙ ap stop (g ∙ sym (integer-stops k s at e o)))
+
+-- ---- an integer that encodes a type
+
+module _ {K R : Type 0} (code : K → ℕ) (decode : ℕ → K) (back : (k : K) → decode (code k) ≡ k) (w : ℕ) (ks : List K) (r : ReadingRule)
+    (s : List ℕ) (at : ℕ) (z : R) (stop : Refusal → R) (go : K → ℕ → R) (x : Integer) (p : x ≡ valued (integer w) s at) where
+  pub on-tag : (v n : ℕ) → x ≡ N.Value v n → listed code ks v ≡ true → z ≡ go (decode v) n → z ≡ tag code decode back (integer w) ks r .parse s at stop go
+  unfolding tag
+  on-tag v n q h e = on-value w s at z stop _ x v n p q (rw (find-is code decode back ks v (λ k. go k n) (stop (by r at)), h) e)
+
+  pub on-tag-unknown : (v n : ℕ) → x ≡ N.Value v n → listed code ks v ≡ false → z ≡ stop (by r at)
+      → z ≡ tag code decode back (integer w) ks r .parse s at stop go
+  unfolding tag
+  on-tag-unknown v n q h e = on-value w s at z stop _ x v n p q (rw (find-is code decode back ks v (λ k. go k n) (stop (by r at)), h) e)
+
+  pub on-tag-short : (e : Refusal) → x ≡ N.Refused e → (f : Refusal) → f ≡ cutAt w s at → z ≡ stop f
+      → z ≡ tag code decode back (integer w) ks r .parse s at stop go
+  unfolding tag
+  on-tag-short e = on-short w s at z stop _ x e p
 
 -- ---- the width of an integer or of bytes that were read, and where the parse continues
 

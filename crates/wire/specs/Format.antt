@@ -158,8 +158,8 @@ stands-inside s at w next h k = omega (arith, simp (length-drop, length-append) 
 
 -- ---- appended bytes
 
-pub stands-behind : (s t : List ℕ) (at : ℕ) (w : List ℕ) (n : ℕ) → Stands s at w n → (r : List ℕ) × (drop at (s ++ t) ≡ w ++ r)
-stands-behind s t at w n h = elim (decLe at (length s)) [ yes k ↦ inside k | no k ↦ beyond (omega arith) ]
+pub stands-extended : (s t : List ℕ) (at : ℕ) (w : List ℕ) (n : ℕ) → Stands s at w n → (r : List ℕ) × (drop at (s ++ t) ≡ w ++ r)
+stands-extended s t at w n h = elim (decLe at (length s)) [ yes k ↦ inside k | no k ↦ beyond (omega arith) ]
   where
     inside : at ≤ length s → (r : List ℕ) × (drop at (s ++ t) ≡ w ++ r)
     inside k = (drop n s ++ t, drop-append-le at s t k ∙ ap (λ (r : List ℕ). r ++ t) (h .there) ∙ append-assoc w (drop n s) t)
@@ -180,7 +180,7 @@ stands-behind s t at w n h = elim (decLe at (length s)) [ yes k ↦ inside k | n
 pub kept : {A : Type 0} (F : Format A) (s t : List ℕ) (at : ℕ) (v : A) (n : ℕ) → Bytes s → read F s at ≡ took v n → read F (s ++ t) at ≡ took v n
 kept F s t at v n bs e =
     let (g, h) = F .sound s at v n bs e in
-    let (r, q) = stands-behind s t at (F .write v) n h in
+    let (r, q) = stands-extended s t at (F .write v) n h in
     F .complete (s ++ t) at v r refused took g q ∙ ap (took v) (sym (h .ends))
 
 -- a refusal of two parsers in sequence stays, if each parser's result stays

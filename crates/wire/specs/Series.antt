@@ -10,7 +10,7 @@ use Rattle.wire.specs.declared.Refusal.{Refusal}
 use Rattle.wire.specs.Bytes.{Bytes, bytes-append, drop-step, below}
 use Rattle.wire.specs.Numbers.{ruleOf, Ruled, cutShort, outOfOrder}
 use Rattle.wire.specs.Format.{Format, Result, took, refused, Stands, onResult, moved, result-inv, result-same, result-stable, result-ruled}
-use Rattle.wire.specs.Format.{result-placed, parse-inv, parse-same, parse-stable, parse-ruled, parse-placed, stands-append, stands-behind}
+use Rattle.wire.specs.Format.{result-placed, parse-inv, parse-same, parse-stable, parse-ruled, parse-placed, stands-append, stands-extended}
 use Rattle.wire.specs.Format.{took-refused}
 use Rattle.wire.specs.Sequence.{andThen, guard, named}
 
@@ -83,7 +83,7 @@ module _ {A S : Type 0} (P : S → Format A) (step : S → A → S) where
       → listParse n st (s ++ t) at refused took ≡ took v next
   list-kept n st s t at v next bs e =
       let (g, h) = list-sound n st s at v next bs e in
-      let (r, q) = stands-behind s t at (listWrite st v) next h in
+      let (r, q) = stands-extended s t at (listWrite st v) next h in
       list-complete n st (s ++ t) at v r refused took g q ∙ ap (took v) (sym (h .ends))
 
   pub list-stable : (n : ℕ) (st : S) (s t : List ℕ) (at : ℕ) (e : Refusal) → Bytes s → (e .rule ≡ ruleOf cutShort → ⊥)

@@ -67,26 +67,26 @@ module _ {A : Type 0} (F : Format A) (most : ℕ) where
       let few : length s ≤ most = omega (arith, length-append s t) in
       rw (le-leb (length (s ++ t)) most h)
       (parse-stable F s t 0 _ _ e bs ne
-      (λ v n r. behind v n (eqb n (length s)) refl (stands-inside s 0 (F .write v) n (F .sound s 0 v n bs r .1) (omega arith)))
+      (λ v n r. judged v n (eqb n (length s)) refl (stands-inside s 0 (F .write v) n (F .sound s 0 v n bs r .1) (omega arith)))
       (rw (le-leb (length s) most few) at q))
     where
-      behind : (v : A) (n : ℕ) (b : Bool) → eqb n (length s) ≡ b → n ≤ length s
+      judged : (v : A) (n : ℕ) (b : Bool) → eqb n (length s) ≡ b → n ≤ length s
           → pick (eqb n (length s)) (took v n) (refused (refusal bytesAfterEnd n)) ≡ refused e
           → pick (eqb n (length (s ++ t))) (took v n) (refused (refusal bytesAfterEnd n)) ≡ refused e
-      behind v n true q l r = let r′ : took v n ≡ refused e = rw q at r in took-refused v n e r′
-      behind v n false q l r = rw (ne-eqb n (length (s ++ t)) (λ z. eqb-false n (length s) q (omega (arith, length-append s t)))) (rw q at r)
+      judged v n true q l r = let r′ : took v n ≡ refused e = rw q at r in took-refused v n e r′
+      judged v n false q l r = rw (ne-eqb n (length (s ++ t)) (λ z. eqb-false n (length s) q (omega (arith, length-append s t)))) (rw q at r)
 
   -- a refusal's number is one of the table, from 1 to 13
   pub whole-ruled : (s : List ℕ) (e : Refusal) → whole s refused took ≡ refused e → (1 ≤ numberOf e) × (numberOf e ≤ 13)
   whole-ruled s e = fits (leb (length s) most)
     where
-      behind : (v : A) (n : ℕ) (b : Bool) → pick b (took v n) (refused (refusal bytesAfterEnd n)) ≡ refused e → (1 ≤ numberOf e) × (numberOf e ≤ 13)
-      behind v n true q = took-refused v n e q
-      behind v n false q = let z = ap ruleNumber (refused-rule {A = A} (refusal bytesAfterEnd n) e q) in (omega arith, omega arith)
+      judged : (v : A) (n : ℕ) (b : Bool) → pick b (took v n) (refused (refusal bytesAfterEnd n)) ≡ refused e → (1 ≤ numberOf e) × (numberOf e ≤ 13)
+      judged v n true q = took-refused v n e q
+      judged v n false q = let z = ap ruleNumber (refused-rule {A = A} (refusal bytesAfterEnd n) e q) in (omega arith, omega arith)
 
       inside : (o : Result A) → read F s 0 ≡ o → onResult o refused (λ v n. pick (eqb n (length s)) (took v n) (refused (refusal bytesAfterEnd n))) ≡ refused e
           → (1 ≤ numberOf e) × (numberOf e ≤ 13)
-      inside (took v n) r q = behind v n (eqb n (length s)) q
+      inside (took v n) r q = judged v n (eqb n (length s)) q
       inside (refused d) r q =
           let z = ap ruleNumber (refused-rule {A = A} d e q) in
           let (a, b) = ruled-range (d .rule) (F .ruled s 0 d r) in

@@ -142,14 +142,14 @@ fn value_at(s: &[u8], at: usize, width: usize) -> u64
     requires { ⌜ (width ≤ 8) × (width ≤ length (now s) - at) ⌝ }
     ensures { λ r. ⌜ r ≡ value (take width (drop at (now (s .entry)))) ⌝ }
 {
-    let mut v: u64 = 0;
+    let mut total: u64 = 0;
     let mut i: usize = 0;
     while i < width {
         let byte = s[at + i] as u64;
-        v = v * 256 + byte;
+        total = total * 256 + byte;
         i += 1;
     }
-    v
+    total
 }
 
 // An integer of any width that fits a u64.
@@ -187,20 +187,20 @@ pub fn u64_at(s: &[u8], at: usize) -> Integer
     integer_at(s, at, 8)
 }
 
-// The bytes from `a` up to `e`, as far as they are there.
-pub fn between(s: &[u8], a: usize, e: usize) -> &[u8]
-    ensures { λ r. ⌜ now r ≡ between a e (now (s .entry)) ⌝ }
+// The bytes from `start` up to `end`, as far as they are there.
+pub fn between(s: &[u8], start: usize, end: usize) -> &[u8]
+    ensures { λ r. ⌜ now r ≡ between start end (now (s .entry)) ⌝ }
 {
-    if s.len() < a {
+    if s.len() < start {
         return &s[..0];
     }
-    if e < a {
+    if end < start {
         return &s[..0];
     }
-    if s.len() < e {
-        return &s[a..];
+    if s.len() < end {
+        return &s[start..];
     }
-    &s[a..e]
+    &s[start..end]
 }
 
 // Copies the start of `from` to the start of `room`, as many bytes as both have.
@@ -290,20 +290,20 @@ pub fn is_below(a: &[u8], b: &[u8]) -> bool
     i < b.len()
 }
 
-// Whether, of the adjacent byte ranges from `a` up to `b` and from `b` up to `c`, the second is strictly below the first.
-pub fn next_below(s: &[u8], a: usize, b: usize, c: usize) -> bool
-    ensures { λ r. ⌜ r ≡ below (between b c (now (s .entry))) (between a b (now (s .entry))) ⌝ }
+// Whether, of the adjacent byte ranges from `start` up to `middle` and from `middle` up to `end`, the second is strictly below the first.
+pub fn next_below(s: &[u8], start: usize, middle: usize, end: usize) -> bool
+    ensures { λ r. ⌜ r ≡ below (between middle end (now (s .entry))) (between start middle (now (s .entry))) ⌝ }
 {
-    if s.len() < c {
-        return is_below(between(s, b, c), between(s, a, b));
+    if s.len() < end {
+        return is_below(between(s, middle, end), between(s, start, middle));
     }
-    if c < b {
-        return is_below(between(s, b, c), between(s, a, b));
+    if end < middle {
+        return is_below(between(s, middle, end), between(s, start, middle));
     }
-    if b < a {
-        return is_below(between(s, b, c), between(s, a, b));
+    if middle < start {
+        return is_below(between(s, middle, end), between(s, start, middle));
     }
-    is_below(&s[b..c], &s[a..b])
+    is_below(&s[middle..end], &s[start..middle])
 }
 
 fn id_order(a: [u8; 32], b: [u8; 32]) -> Order
@@ -323,12 +323,12 @@ pub fn address_below(a: [u8; 20], b: [u8; 20]) -> bool
 }
 
 // Compares keys by identifier, then by index.
-pub fn key_below(a: [u8; 32], i: u64, b: [u8; 32], j: u64) -> bool
-    ensures { λ r. ⌜ r ≡ keyBelow a i b j ⌝ }
+pub fn key_below(a: [u8; 32], a_index: u64, b: [u8; 32], b_index: u64) -> bool
+    ensures { λ r. ⌜ r ≡ keyBelow a «a_index» b «b_index» ⌝ }
 {
     match id_order(a, b) {
         Order::Below => true,
-        Order::Equal => i < j,
+        Order::Equal => a_index < b_index,
         Order::Above => false,
     }
 }
@@ -338,10 +338,10 @@ pub fn put_integer(room: &mut [u8], value: u64)
     ensures { λ _. ⌜ now (room .exit) ≡ digits (length (now (room .entry))) (value % 256 ^ length (now (room .entry))) ⌝ }
 {
     let mut i = room.len();
-    let mut v = value;
+    let mut rest = value;
     while 0 < i {
         i -= 1;
-        room[i] = (v % 256) as u8;
-        v = v / 256;
+        room[i] = (rest % 256) as u8;
+        rest = rest / 256;
     }
 }

@@ -1,4 +1,4 @@
--- `wire::put_integer` meets its contract. The invariant: the bytes from i on are written, and v is what is left of the integer. Assumes nothing.
+-- `wire::put_integer` meets its contract. The invariant: the bytes from i on are written, and rest is what is left of the integer. Assumes nothing.
 use Prim.Native.Nat.{_-_, _/_, _%_, _^_, _≤_}
 use mathlib.Core.Path.{_≡_, refl}
 use mathlib.Core.List.{_++_}
@@ -12,12 +12,12 @@ use Rattle.wire.proofs.put_integer.Statement.{statement}
 use Rattle.wire.proofs.put_integer.Tie as tie
 
 abbrev Inv-loop : tie.InvT-loop
-Inv-loop room₀ value i₀ v₀ room i v =
-    (i ≤ length room₀) × (length room ≡ length room₀) × (v ≡ value / 256 ^ (length room₀ - i))
+Inv-loop room₀ value i₀ rest₀ room i rest =
+    (i ≤ length room₀) × (length room ≡ length room₀) × (rest ≡ value / 256 ^ (length room₀ - i))
     × (room ≡ take i room₀ ++ digits (length room₀ - i) (value % 256 ^ (length room₀ - i)))
 
 abbrev μ-loop : tie.MeasureT-loop
-μ-loop room₀ value i₀ v₀ room i v = i
+μ-loop room₀ value i₀ rest₀ room i rest = i
 
 loop-holds : tie.Need-loop-holds Inv-loop μ-loop
 loop-holds c = let z = integer-none (c .args .room .now) (c .args .value) in (omega arith, refl, z .0, z .1)

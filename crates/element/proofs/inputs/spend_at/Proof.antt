@@ -10,14 +10,14 @@ unfolding spend
 spend-at-spec =
     tie.close
     (tie.spec
-    (λ c κs. search needs) (λ c. search needs) (λ c. search needs) (λ c κs. search needs)  -- field-at-requires, enum-known-k, enum-told, cut-requires
+    (λ c κs. search needs) (λ c. search needs) (λ c. search needs) (λ c κs. search needs)  -- field-at-requires, enum-known-type-at, enum-told, cut-requires
     (λ c. search reading depth 12)  -- returns
-    (λ c κs. search needs) (λ c. search needs) (λ c. search needs)  -- u32-at-requires, enum-known-kind, enum-told-2
+    (λ c κs. search needs) (λ c. search needs) (λ c. search needs)  -- u32-at-requires, enum-known-type-id, enum-told-2
     (λ c κs. search needs)  -- cut-requires-2
     (λ c. search reading depth 12)  -- returns-2
     (λ c κs. search needs)  -- refuse-requires
     (λ c. search reading depth 12)  -- returns-3
-    (λ c κs. search needs) (λ c. search needs) (λ c. search needs)  -- amount-at-requires, enum-known-refusal, enum-known-n
+    (λ c κs. search needs) (λ c. search needs) (λ c. search needs)  -- amount-at-requires, enum-known-refusal, enum-known-count-at
     (λ c κs. search needs) (λ c. search needs) (λ c. search needs)  -- u32-at-requires-2, enum-known-count, enum-told-3
     (λ c κs. search needs)  -- cut-requires-3
     (λ c. search reading depth 12)  -- returns-4

@@ -32,7 +32,7 @@ pairs-from-spec =
     Inv-loop
     μ-loop
     (λ c. (refl, search needs, refl))  -- loop-holds
-    (λ c κs. search needs) (λ c. search needs) (λ c. search needs) (λ c κs. search needs)  -- field-at-requires, enum-known-i, enum-told, cut-requires
+    (λ c κs. search needs) (λ c. search needs) (λ c. search needs) (λ c κs. search needs)  -- field-at-requires, enum-known-index-at, enum-told, cut-requires
     (λ c. search key-cut depth 10)  -- returns
     (λ c κs. search needs) (λ c κs. search needs) (λ c. search needs)  -- id-at-requires, u32-at-requires, enum-known-index
     (λ c. search needs) (λ c κs. search needs)  -- enum-told-2, cut-requires-2

@@ -2,7 +2,6 @@
 -- Assumes nothing.
 use borrow.Author.Needs.{needs}
 use Rattle.wire.proofs.Reading.{on-value, on-short}
-use Rattle.element.proofs.Reading.{on-secp, on-nft}
 use Rattle.element.specs.Operations.{stateOutputs}
 use Rattle.element.proofs.operations.state_outputs_at.Statement.{statement}
 use Rattle.element.proofs.operations.state_outputs_at.Tie as tie
@@ -15,7 +14,5 @@ state-outputs-at-spec =
     (λ c κs. search needs) (λ c. search needs) (λ c. search needs)  -- u32-at-requires, enum-known-count, enum-told
     (λ c κs. search needs)  -- cut-requires
     (λ c. search (on-value, on-short) depth 8)  -- returns
-    (λ c κs. search needs)  -- secp-from-requires
-    (λ c. search (on-value, on-short, on-secp) depth 8)  -- returns-2
-    (λ c κs. search needs)  -- nft-from-requires
-    (λ c. search (on-value, on-short, on-secp, on-nft) depth 8))  -- returns-3
+    (λ c κs. search needs)  -- outputs-under-requires
+    (λ c. search (on-value, on-short) depth 8))  -- returns-2

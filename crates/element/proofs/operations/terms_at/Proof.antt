@@ -13,8 +13,8 @@ terms-at-spec =
     (λ c κs. search needs) (λ c. search needs) (λ c. search needs)  -- u32-at-requires, enum-known-count, enum-told
     (λ c κs. search needs)  -- cut-requires
     (λ c. search reading depth 12)  -- returns
-    (λ c κs. search needs) (λ c. search needs) (λ c. search needs)  -- indices-from-requires, enum-known-refusal, enum-known-g
-    (λ c κs. search needs) (λ c. search needs) (λ c. search needs)  -- u32-at-requires-2, enum-known-p, enum-told-2
+    (λ c κs. search needs) (λ c. search needs) (λ c. search needs)  -- indices-from-requires, enum-known-refusal, enum-known-group-at
+    (λ c κs. search needs) (λ c. search needs) (λ c. search needs)  -- u32-at-requires-2, enum-known-payload-at, enum-told-2
     (λ c κs. search needs)  -- cut-requires-2
     (λ c. search reading depth 12)  -- returns-2
     (λ c κs. search needs)  -- string-at-requires

@@ -11,7 +11,7 @@ unfolding output
 secp-at-spec =
     tie.close
     (tie.spec
-    (λ c κs. search needs) (λ c. search needs) (λ c. search needs)  -- u32-at-requires, enum-known-kind, enum-told
+    (λ c κs. search needs) (λ c. search needs) (λ c. search needs)  -- u32-at-requires, enum-known-type-id, enum-told
     (λ c κs. search needs)  -- cut-requires
     (λ c. search reading depth 12)  -- returns
     (λ c κs. search needs)  -- owners-at-requires

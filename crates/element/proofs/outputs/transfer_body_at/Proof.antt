@@ -10,7 +10,7 @@ unfolding transferBody
 transfer-body-at-spec =
     tie.close
     (tie.spec
-    (λ c κs. search needs) (λ c. search needs) (λ c. search needs)  -- amount-at-requires, enum-known-refusal, enum-known-o
+    (λ c κs. search needs) (λ c. search needs) (λ c. search needs)  -- amount-at-requires, enum-known-refusal, enum-known-after-amount
     (λ c κs. search needs)  -- owners-at-requires
     (λ c. search reading depth 12)  -- returns
     (λ c. search reading depth 12))  -- returns-2

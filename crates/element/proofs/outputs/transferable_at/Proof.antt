@@ -11,9 +11,9 @@ unfolding transferableOutput
 transferable-at-spec =
     tie.close
     (tie.spec
-    (λ c κs. search needs) (λ c. search needs) (λ c. search needs) (λ c κs. search needs)  -- field-at-requires, enum-known-k, enum-told, cut-requires
+    (λ c κs. search needs) (λ c. search needs) (λ c. search needs) (λ c κs. search needs)  -- field-at-requires, enum-known-type-at, enum-told, cut-requires
     (λ c. search reading depth 12)  -- returns
-    (λ c κs. search needs) (λ c. search needs) (λ c. search needs)  -- u32-at-requires, enum-known-kind, enum-told-2
+    (λ c κs. search needs) (λ c. search needs) (λ c. search needs)  -- u32-at-requires, enum-known-type-id, enum-told-2
     (λ c κs. search needs)  -- cut-requires-2
     (λ c. search reading depth 12)  -- returns-2
     (λ c κs. search needs)  -- refuse-requires

@@ -7,7 +7,7 @@ use Rattle.wire.specs.Fields.{blob}
 use Rattle.wire.specs.Series.{increasing}
 use Rattle.wire.specs.Answer.{ended}
 use Rattle.element.proofs.Reading.{addressThen, AddressTurn, address-turn}
-use Rattle.element.proofs.Reading.{no-address, address-first, first-gone, address-gone, address-cut, address-last}
+use Rattle.element.proofs.Reading.{no-address, address-first, address-gone, address-cut, address-last}
 use Rattle.element.proofs.owners.addresses_from.Statement.{statement}
 use Rattle.element.proofs.owners.addresses_from.Tie as tie
 
@@ -22,7 +22,7 @@ abbrev μ-loop : tie.MeasureT-loop
 abbrev Compared : Type 0
 Compared = tie.After-address-below Inv-loop μ-loop
 
-abbrev second : Compared → tie.After-enum-told4 Inv-loop μ-loop
+abbrev second : Compared → tie.After-enum-told2 Inv-loop μ-loop
 second c = c .before .before .before
 
 abbrev first : Compared → tie.After-at Inv-loop μ-loop
@@ -32,16 +32,16 @@ abbrev head : Compared → tie.At-loop Inv-loop μ-loop
 head c = let asked = first c .before .before in asked .before .before
 
 abbrev start : Compared → tie.After-shared-slice-known Inv-loop μ-loop
-start c = let asked = head c .before .before .before in asked .before .before
+start c = head c .before .before
 
 turn : (c : Compared)
     → AddressTurn (start c .before .args .s .now) (head c .loop .left) (first c .at .given .0 .0)
     (ended (increasing (blob 20) (start c .before .args .count)) (start c .before .args .s .now) (start c .before .args .start))
     (c .address-below .result)
 turn c =
-    address-turn _ (start c .shared-slice-known .given) _ (head c .loop .prev) _ (head c .loop .inv) _ _ (first c .before .before .field-at2 .ensures)
+    address-turn _ (start c .shared-slice-known .given) _ (head c .loop .prev) _ (head c .loop .inv) _ _ (first c .before .before .field-at .ensures)
     (first c .at .given .1) (omega arith) _ _ _ (c .address-below .ensures) (c .before .before .address-at .ensures) (c .before .address-at2 .ensures)
-    _ (second c .before .before .field-at3 .ensures) _ (second c .enum-told4 .given .1)
+    _ (second c .before .before .field-at2 .ensures) _ (second c .enum-told2 .given .1)
 
 pub addresses-from-spec : {M : Type 1} → statement M
 addresses-from-spec =
@@ -50,20 +50,18 @@ addresses-from-spec =
     Inv-loop
     μ-loop
     (λ c. search no-address)  -- returns
-    (λ c κs. search needs) (λ c. search needs) (λ c. search needs) (λ c κs. search needs)  -- field-at-requires, enum-told, enum-told-2, cut-requires
-    (λ c. search first-gone)  -- returns-2
     (λ c. search needs)  -- sub-left
     (λ c. search address-first)  -- loop-holds
-    (λ c κs. search needs) (λ c. search needs) (λ c. search needs)  -- field-at-requires-2, enum-known-at, enum-told-3
+    (λ c κs. search needs) (λ c. search needs) (λ c. search needs)  -- field-at-requires, enum-known-at, enum-told
+    (λ c κs. search needs)  -- cut-requires
+    (λ c. search address-gone)  -- returns-2
+    (λ c κs. search needs) (λ c. search needs) (λ c. search needs)  -- field-at-requires-2, enum-told-2, enum-told-3
     (λ c κs. search needs)  -- cut-requires-2
-    (λ c. search address-gone)  -- returns-3
-    (λ c κs. search needs) (λ c. search needs) (λ c. search needs)  -- field-at-requires-3, enum-told-4, enum-told-5
-    (λ c κs. search needs)  -- cut-requires-3
-    (λ c. search address-cut)  -- returns-4
+    (λ c. search address-cut)  -- returns-3
     (λ c κs. search needs) (λ c κs. search needs) (λ c κs. search needs)  -- address-at-requires, address-at-requires-2, address-below-requires
     (λ c. search needs) (λ c. search needs)  -- sub-left-2, loop-less
     (λ c. turn (c .before) .again (c .if2 .taken))  -- loop-again
     (λ c κs. search needs)  -- refuse-requires
-    (λ c. turn (c .before .before) .out-of-order (c .before .if2 .left) _ (c .refuse .ensures))  -- returns-5
-    (λ c κs. search needs)  -- field-at-requires-4
-    (λ c. search address-last))  -- returns-6
+    (λ c. turn (c .before .before) .out-of-order (c .before .if2 .left) _ (c .refuse .ensures))  -- returns-4
+    (λ c κs. search needs)  -- field-at-requires-3
+    (λ c. search address-last))  -- returns-5

@@ -11,7 +11,7 @@ unfolding owners
 owners-at-spec =
     tie.close
     (tie.spec
-    (λ c κs. search needs) (λ c. search needs) (λ c. search needs) (λ c κs. search needs)  -- u64-at-requires, enum-known-t, enum-told, cut-requires
+    (λ c κs. search needs) (λ c. search needs) (λ c. search needs) (λ c κs. search needs)  -- u64-at-requires, enum-known-threshold-at, enum-told, cut-requires
     (λ c. search reading depth 12)  -- returns
     (λ c κs. search needs) (λ c. search needs) (λ c. search needs)  -- u32-at-requires, enum-known-threshold, enum-told-2
     (λ c κs. search needs)  -- cut-requires-2

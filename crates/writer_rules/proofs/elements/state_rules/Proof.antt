@@ -51,7 +51,7 @@ state-rules-spec =
     on-fx (a .bytes .now) 0 _ _ _ _ number _ _ fx (known .if1 .left)
     (if-after (a .last .now) (a .bytes .now) (bytes .shared-slice-known2 .given) _ number _ _ fx (known .if1 .left) _ _ _
     (first .between .ensures) (second .between2 .ensures) (compared .is-below .ensures) _ _ _ (tested .if2 .taken)
-    (on-state-outputs-refused _ (a .bytes .now) _ _ _ _ _ _ (outputs .state-outputs-at .ensures)
+    (on-state-outputs-refused _ _ (a .bytes .now) _ _ _ _ _ _ (outputs .state-outputs-at .ensures)
     (c .before .before .refusal .given .1) (ap J.Refuse (c .without-place .ensures)))))  -- returns-3
     (λ c. search needs)  -- enum-known-end
     (λ c.
@@ -71,7 +71,7 @@ state-rules-spec =
     on-fx (a .bytes .now) 0 _ _ _ _ number _ _ fx (known .if1 .left)
     (if-after (a .last .now) (a .bytes .now) (bytes .shared-slice-known2 .given) _ number _ _ fx (known .if1 .left) _ _ _
     (first .between .ensures) (second .between2 .ensures) (compared .is-below .ensures) _ _ _ (tested .if2 .taken)
-    (on-state-outputs _ (a .bytes .now) _ _ _ _ _ _ (outputs .state-outputs-at .ensures)
+    (on-state-outputs _ _ (a .bytes .now) _ _ _ _ _ _ (outputs .state-outputs-at .ensures)
     (c .before .before .end .given .1) (λ v. if-eq _ (length (a .bytes .now)) _ _ _ (c .if3 .taken) refl))))  -- returns-4
     (λ c κs. search needs)  -- refuse-step-requires-3
     (λ c.
@@ -91,7 +91,7 @@ state-rules-spec =
     on-fx (a .bytes .now) 0 _ _ _ _ number _ _ fx (known .if1 .left)
     (if-after (a .last .now) (a .bytes .now) (bytes .shared-slice-known2 .given) _ number _ _ fx (known .if1 .left) _ _ _
     (first .between .ensures) (second .between2 .ensures) (compared .is-below .ensures) _ _ _ (tested .if2 .taken)
-    (on-state-outputs _ (a .bytes .now) _ _ _ _ _ _ (outputs .state-outputs-at .ensures)
+    (on-state-outputs _ _ (a .bytes .now) _ _ _ _ _ _ (outputs .state-outputs-at .ensures)
     (c .before .before .before .end .given .1) (λ v. if-ne _ (length (a .bytes .now)) _ _ _ (c .before .if3 .left) (c .refuse-step3 .ensures)))))  -- returns-5
     (λ c κs. search needs)  -- refuse-step-requires-4
     (λ c.

@@ -1,0 +1,15 @@
+-- `element::outputs::output_under` meets its contract.
+-- Assumes nothing.
+use borrow.Author.Needs.{needs}
+use Rattle.element.proofs.Reading.{under-secp, under-nft}
+use Rattle.element.proofs.outputs.output_under.Statement.{statement}
+use Rattle.element.proofs.outputs.output_under.Tie as tie
+
+pub output-under-spec : {M : Type 1} → statement M
+output-under-spec =
+    tie.close
+    (tie.spec
+    (λ c κs. search needs)  -- secp-at-requires
+    (λ c. search under-secp)  -- returns
+    (λ c κs. search needs)  -- nft-at-requires
+    (λ c. search under-nft))  -- returns-2

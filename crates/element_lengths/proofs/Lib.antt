@@ -1,0 +1,2 @@
+-- What is proved of skipping elements by their lengths
+pub mod Passing

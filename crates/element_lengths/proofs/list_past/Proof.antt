@@ -1,0 +1,21 @@
+-- `element_lengths::list_past` meets its contract.
+-- Assumes nothing.
+use borrow.Author.Needs.{needs}
+use Rattle.wire.proofs.Reading.{value-small}
+use Rattle.element_lengths.specs.Lengths.{byCount}
+use Rattle.element_lengths.proofs.Passing.{passing, list-answered, product-fits}
+use Rattle.element_lengths.proofs.list_past.Statement.{statement}
+use Rattle.element_lengths.proofs.list_past.Tie as tie
+
+pub list-past-spec : {M : Type 1} → statement M
+unfolding byCount
+list-past-spec =
+    tie.close
+    (tie.spec
+    (λ c κs. search needs) (λ c. search needs) (λ c. search needs)  -- u32-at-requires, enum-known-count, enum-told
+    (λ c κs. search needs)  -- cut-requires
+    (λ c. list-answered _ _ _ _ (search passing depth 8))  -- returns
+    (λ c. search (product-fits, value-small))  -- mul-field-at
+    (λ c κs. search needs) (λ c. search needs) (λ c. search needs)  -- field-at-requires, enum-known-refusal, enum-known-next
+    (λ c. list-answered _ _ _ _ (search passing depth 8))  -- returns-2
+    (λ c. list-answered _ _ _ _ (search passing depth 8)))  -- returns-3
