@@ -1,3 +1,4 @@
 -- Laws of the answers to a test
-pub mod Telling
+pub mod Encoding
 pub mod Putting
+pub mod Turns

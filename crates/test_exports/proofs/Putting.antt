@@ -13,7 +13,7 @@ use Rattle.entry.specs.declared.EntryAnswer.{EntryAnswer}
 use Rattle.entry.specs.declared.EntryAnswer.the-variants as A
 use Rattle.entry.specs.declared.EntryRead.{EntryRead}
 use Rattle.test_exports.specs.Values.{Value, putAt, ownersValues, outputValues, recipientsValues, operationValues, entryValues, answerValues}
-use Rattle.test_exports.specs.Values.{putId, probedEntry, encodedEntry}
+use Rattle.test_exports.specs.Values.{putId, exportedEntry, encodedEntry}
 
 pub put-one : (i v : ℕ) (l : List Value) (t u w : List ℕ) → u ≡ set t i v → w ≡ putAt l u → w ≡ putAt ((i, v) ∷ l) t
 unfolding putAt
@@ -72,6 +72,6 @@ put-past (x ∷ t) zero v h = absurd (omega arith)
 put-past (x ∷ t) (suc i) v h = ap (λ r. x ∷ r) (put-past t i v (omega arith))
 
 -- the entry r that was read is e, and its encoding is that of e
-pub told-entry : (r e : EntryRead) (n a t m b u : List ℕ) → r ≡ e → m ≡ putAt (answerValues (r .answer)) n → b ≡ putId (r .asset) a → u ≡ putId (r .txid) t
-    → probedEntry m b u ≡ encodedEntry e n a t
-told-entry r e n a t m b u h hm hb hu = rw (hm, hb, hu) (ap (λ (x : EntryRead). encodedEntry x n a t) h)
+pub entry-encoded : (r e : EntryRead) (n a t m b u : List ℕ) → r ≡ e → m ≡ putAt (answerValues (r .answer)) n → b ≡ putId (r .asset) a → u ≡ putId (r .txid) t
+    → exportedEntry m b u ≡ encodedEntry e n a t
+entry-encoded r e n a t m b u h hm hb hu = rw (hm, hb, hu) (ap (λ (x : EntryRead). encodedEntry x n a t) h)

@@ -1,3 +1,4 @@
 -- The answers to a test
-pub mod Probed
+pub mod Encoded
 pub mod Values
+pub mod Turns

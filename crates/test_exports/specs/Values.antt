@@ -70,17 +70,17 @@ abbrev pub answerValues : EntryAnswer → List Value
 answerValues (A.Found f start end bytes) = (0, 0) ∷ (1, bytes) ∷ (3, start) ∷ (4, end) ∷ entryValues f
 answerValues (A.Refused e) = (0, numberOf e) ∷ (1, e .place) ∷ []
 
-pub record ProbedEntry : Type 0 where
+pub record ExportedEntry : Type 0 where
   pub numbers : List ℕ
   pub asset : List ℕ
   pub txid : List ℕ
 
-abbrev pub probedEntry : List ℕ → List ℕ → List ℕ → ProbedEntry
-probedEntry n a t = record { numbers = n; asset = a; txid = t }
+abbrev pub exportedEntry : List ℕ → List ℕ → List ℕ → ExportedEntry
+exportedEntry n a t = record { numbers = n; asset = a; txid = t }
 
 -- as many bytes of an identifier as there is room for
 abbrev pub putId : List ℕ → List ℕ → List ℕ
 putId id room = take (length room) id ++ drop (length id) room
 
-abbrev pub encodedEntry : EntryRead → List ℕ → List ℕ → List ℕ → ProbedEntry
-encodedEntry r n a t = probedEntry (putAt (answerValues (r .answer)) n) (putId (r .asset) a) (putId (r .txid) t)
+abbrev pub encodedEntry : EntryRead → List ℕ → List ℕ → List ℕ → ExportedEntry
+encodedEntry r n a t = exportedEntry (putAt (answerValues (r .answer)) n) (putId (r .asset) a) (putId (r .txid) t)

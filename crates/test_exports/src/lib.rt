@@ -1,4 +1,5 @@
-// Functions for tests in C or Rust: the check with a lent table, entry n as integers at fixed indices of a lent array, and filling a slot.
+// Functions for tests in C or Rust: the check with a lent table, entry n as integers at fixed indices of a lent array, filling a slot, and the
+// writer's steps.
 ghost use mathlib.Core.Path.{_≡_};
 ghost use lib.ListN.{set};
 ghost use Rattle.entry_table.specs.Table.{tabled};
@@ -7,9 +8,9 @@ ghost use Rattle.transaction.specs.Avm.{avm};
 ghost use Rattle.transaction.specs.Answer.{memoMost};
 ghost use Rattle.draft.specs.Reader.{reader};
 ghost use Rattle.draft.specs.Calls.{fillCall};
-ghost use Rattle.test_exports.specs.Probed.{probed, encoded, encodedFill};
+ghost use Rattle.test_exports.specs.Encoded.{exportedTable, encodedTable, encodedFill};
 ghost use Rattle.test_exports.specs.Values.{putAt, ownersValues, outputValues, inputValues, recipientsValues, operationValues};
-ghost use Rattle.test_exports.specs.Values.{credentialValues, entryValues, answerValues, probedEntry, encodedEntry};
+ghost use Rattle.test_exports.specs.Values.{credentialValues, entryValues, answerValues, exportedEntry, encodedEntry};
 use draft::Answer;
 use element::InputFields;
 use element::OperationFields;
@@ -21,10 +22,12 @@ use entry_table::Tabled;
 use transaction::CredentialFields;
 use transaction::Entry;
 
+mod steps;
+
 // Checks a transaction and lists its entries in a lent table. Returns number × 2^40 + rows × 2^20 + place.
 #[no_mangle]
 pub extern "C" fn cellfacet_test_table(bytes: &[u8], table: &mut [u32]) -> u64
-    ensures { λ r. ⌜ probed r (now (table .exit)) ≡ encoded (tabled memoMost (now (bytes .entry)) (now (table .entry))) ⌝ }
+    ensures { λ r. ⌜ exportedTable r (now (table .exit)) ≡ encodedTable (tabled memoMost (now (bytes .entry)) (now (table .entry))) ⌝ }
 {
     match entry_table::rows::check_table(bytes, table) {
         Tabled::Listed(rows, end) => (rows % 1048576) as u64 * 1048576 + (end % 1048576) as u64,
@@ -199,7 +202,7 @@ pub extern "C" fn cellfacet_test_entry(
     asset: &mut [u8],
     txid: &mut [u8],
 )
-    ensures { λ _. ⌜ probedEntry (now (numbers .exit)) (now (asset .exit)) (now (txid .exit)) ≡ encodedEntry (entryOf memoMost (now (bytes .entry)) n)
+    ensures { λ _. ⌜ exportedEntry (now (numbers .exit)) (now (asset .exit)) (now (txid .exit)) ≡ encodedEntry (entryOf memoMost (now (bytes .entry)) n)
         (now (numbers .entry)) (now (asset .entry)) (now (txid .entry)) ⌝ }
 {
     let read = entry::entry(bytes, n);

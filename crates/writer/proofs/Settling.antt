@@ -19,7 +19,7 @@ use Rattle.writer_rules.specs.Elements.{integersBytes}
 use Rattle.writer_rules.proofs.Verdicts.{both-true}
 use Rattle.plan.specs.Due.{due, dueOf, isList}
 use Rattle.writer_buffer.specs.Stores.{roomFor, overwrite, countOf, withInteger, stored}
-use Rattle.writer_buffer.proofs.Stores.{room-inv, length-overwrite, integer-put, told-refused, told-next}
+use Rattle.writer_buffer.proofs.Stores.{room-inv, length-overwrite, integer-put, stored-refused, stored-at}
 use Rattle.writer.specs.declared.Writer.{Writer}
 use Rattle.writer.specs.declared.Step.{Step}
 use Rattle.writer.specs.Steps.{answered, sane, grown, appended}
@@ -30,12 +30,12 @@ use Rattle.writer.specs.Code.{after, refusedStep, storedStep, settled, s
 module _ (v : Verdict) (n : ℕ) (w : Writer) (s t : List ℕ) (x : End) (u : List ℕ) (p : (x, u) ≡ stored v n s t) (w′ : Writer) (r : Step) where
   pub store-refused : (t′ : List ℕ) (e : Refusal) → x ≡ P.Refused e → r ≡ refusedStep w e → after r u ≡ answered v w s w′ t′
   unfolding answered
-  store-refused t′ e q h = let (i, j) = told-refused n s t x u v p e q in rw i (ap₂ after h j)
+  store-refused t′ e q h = let (i, j) = stored-refused n s t x u v p e q in rw i (ap₂ after h j)
 
   -- f gives the writer's state, by the offset just past what was stored
   pub store-done : (f : ℕ → Writer) (m : ℕ) → x ≡ P.At m → r ≡ storedStep (f m) → f n ≡ w′ → after r u ≡ answered v w s w′ t
   unfolding answered
-  store-done f m q h g = let (i, k, j) = told-next n s t x u v p m q in rw i (ap₂ after (h ∙ ap (λ (a : ℕ). storedStep (f a)) k ∙ ap storedStep g) j)
+  store-done f m q h g = let (i, k, j) = stored-at n s t x u v p m q in rw i (ap₂ after (h ∙ ap (λ (a : ℕ). storedStep (f a)) k ∙ ap storedStep g) j)
 
 -- ---- a field
 
@@ -69,7 +69,7 @@ module _ (w : Writer) (s : List ℕ) (first second : List ℕ) (opens : Bool) (f
     -- the end m is past the count, which has four bytes
     pub settle-place : (m : ℕ) → x ≡ P.At m → 4 * k ≤ m
     settle-place m q =
-        let (_, i, _) = told-next _ s _ x u _ stores m q in
+        let (_, i, _) = stored-at _ s _ x u _ stores m q in
         omega (arith, i, length-append (first ++ second) (countOf opens), counts-long opens, hk)
 
     pub settle-done : (m : ℕ) → x ≡ P.At m → (r : Step)
@@ -107,16 +107,16 @@ sane-inv w e =
 
 module _ (w : Writer) (s ys : List ℕ) (x : End) (u : List ℕ)
     (p : (x, u) ≡ stored (roomFor (w .at + length ys) s) (w .at + length ys) s (overwrite s (w .at) ys)) where
-  pub element-refused : (e : Refusal) → x ≡ P.Refused e → (r : Step) → r ≡ refusedStep w e → after r u ≡ elementStep w s ys
-  element-refused e q r h = store-refused _ _ w s _ x u p _ r _ e q h
+  pub append-refused : (e : Refusal) → x ≡ P.Refused e → (r : Step) → r ≡ refusedStep w e → after r u ≡ elementStep w s ys
+  append-refused e q r h = store-refused _ _ w s _ x u p _ r _ e q h
 
-  pub element-done : sane w ≡ true → (m : ℕ) → x ≡ P.At m → (z : List ℕ) → z ≡ withInteger u (w .list) (w .count + 1) → (r : Step)
+  pub append-done : sane w ≡ true → (m : ℕ) → x ≡ P.At m → (z : List ℕ) → z ≡ withInteger u (w .list) (w .count + 1) → (r : Step)
       → r ≡ storedStep record { «type_id» = w .«type_id»; phase = w .phase; at = m; list = w .list; count = w .count + 1; last = w .at }
       → after r z ≡ elementStep w s ys
   unfolding answered grown appended
-  element-done t m q z hz r h =
+  append-done t m q z hz r h =
       let (a, b) = sane-inv w t in
-      let (i, k, j) = told-next (w .at + length ys) s (overwrite s (w .at) ys) x u (roomFor (w .at + length ys) s) p m q in
+      let (i, k, j) = stored-at (w .at + length ys) s (overwrite s (w .at) ys) x u (roomFor (w .at + length ys) s) p m q in
       let (f, _) = room-inv (w .at + length ys) s i in
       let l : length u ≡ length s = ap length j ∙ length-overwrite s ys (w .at) f in
       rw i (ap₂ after (h ∙ ap

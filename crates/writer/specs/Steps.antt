@@ -17,7 +17,7 @@ use Rattle.writer_rules.specs.declared.Verdict.the-variants as J
 use Rattle.writer_rules.specs.Judged.{refusedBy, judged}
 use Rattle.writer_rules.specs.Given.{headBytes, Given}
 use Rattle.plan.specs.Due.{due, fieldCode, listCode}
-use Rattle.writer_blank.specs.Closing.{closing, closable}
+use Rattle.writer_buffer.specs.Closing.{closing, closable}
 use Rattle.writer.specs.declared.Writer.{Writer}
 use Rattle.writer.specs.declared.Step.{Step}
 use Rattle.writer.specs.declared.Written.{Written}

@@ -1,4 +1,4 @@
-// What the methods share: whether an element is due, and, after its rules are judged, the store and the next state.
+// What the methods share: whether the step is due, the order of its refusals, the store and the next state.
 ghost use Prim.Native.Nat.{_≤_};
 ghost use mathlib.Core.Path.{_≡_};
 ghost use mathlib.Core.Bool.{true, _&&_};
@@ -8,80 +8,83 @@ ghost use Rattle.plan.specs.Due.{lastPhase, isOpen};
 ghost use Rattle.writer_rules.specs.Elements.{integersBytes};
 ghost use Rattle.writer.specs.Steps.{prev, sane};
 ghost use Rattle.writer.specs.Code.{after, refusedStep, notDueStep, noRoomStep, storedStep, dueAt, settled, segmentStep, opensNext, elementStep};
+ghost use Rattle.writer.specs.Code.{PutsField, PutsElement};
 use crate::Step;
 use crate::Writer;
 use crate::Written;
 use plan::questions;
+use transaction::FieldName;
 use transaction::ListName;
 use wire::End;
 use wire::Refusal;
 use wire::Rule;
+use writer_rules::Verdict;
 
 // The answer of a refused step, which changes neither state nor buffer.
-pub fn refused(w: Writer, refusal: Refusal) -> Step
-    ensures { λ r. ⌜ r ≡ refusedStep w refusal ⌝ }
+pub fn refused(writer: Writer, refusal: Refusal) -> Step
+    ensures { λ r. ⌜ r ≡ refusedStep writer refusal ⌝ }
 {
     Step {
-        next: w,
+        next: writer,
         answer: Written::Refused(refusal),
     }
 }
 
-pub fn not_due(w: Writer) -> Step
-    ensures { λ r. ⌜ r ≡ notDueStep w ⌝ }
+pub fn not_due(writer: Writer) -> Step
+    ensures { λ r. ⌜ r ≡ notDueStep writer ⌝ }
 {
-    refused(w, wire::refuse(Rule::StepNotDue, 0))
+    refused(writer, wire::refuse(Rule::StepNotDue, 0))
 }
 
 // The answer if the buffer is shorter than the bytes written.
-pub fn no_room(w: Writer) -> Step
-    ensures { λ r. ⌜ r ≡ noRoomStep w ⌝ }
+pub fn no_room(writer: Writer) -> Step
+    ensures { λ r. ⌜ r ≡ noRoomStep writer ⌝ }
 {
-    refused(w, wire::refuse(Rule::NoRoom, 0))
+    refused(writer, wire::refuse(Rule::NoRoom, 0))
 }
 
-pub fn stored(w: Writer) -> Step
-    ensures { λ r. ⌜ r ≡ storedStep w ⌝ }
+pub fn stored(writer: Writer) -> Step
+    ensures { λ r. ⌜ r ≡ storedStep writer ⌝ }
 {
-    let at = w.at;
+    let at = writer.at;
     Step {
-        next: w,
+        next: writer,
         answer: Written::Done(at),
     }
 }
 
 // Do the count and the last element of the open list lie inside the bytes written?
-fn is_sane(w: Writer) -> bool
-    ensures { λ r. ⌜ r ≡ sane w ⌝ }
+fn is_sane(writer: Writer) -> bool
+    ensures { λ r. ⌜ r ≡ sane writer ⌝ }
 {
-    if w.at < 4 {
+    if writer.at < 4 {
         return false;
     }
-    if w.at - 4 < w.list {
+    if writer.at - 4 < writer.list {
         return false;
     }
-    if w.at < w.last {
+    if writer.at < writer.last {
         return false;
     }
-    (w.count as usize) < transaction::MOST_BYTES
+    (writer.count as usize) < transaction::MOST_BYTES
 }
 
 // The bytes of the open list's last element, empty if the list is.
-pub fn last_of(w: Writer, buf: &[u8]) -> &[u8]
-    ensures { λ r. ⌜ now r ≡ prev w (now (buf .entry)) ⌝ }
+pub fn last_of(writer: Writer, buf: &[u8]) -> &[u8]
+    ensures { λ r. ⌜ now r ≡ prev writer (now (buf .entry)) ⌝ }
 {
-    if w.count == 0 {
+    if writer.count == 0 {
         return &buf[..0];
     }
-    wire::between(buf, w.last, w.at)
+    wire::between(buf, writer.last, writer.at)
 }
 
 // Is an element of this list due, in a consistent state?
-pub fn is_element_due(w: Writer, list: ListName) -> bool
-    ensures { λ r. ⌜ r ≡ isOpen list (dueAt w) && sane w ⌝ }
+fn is_element_due(writer: Writer, list: ListName) -> bool
+    ensures { λ r. ⌜ r ≡ isOpen list (dueAt writer) && sane writer ⌝ }
 {
-    if questions::open_at(w.type_id, w.phase, list) {
-        return is_sane(w);
+    if questions::open_at(writer.type_id, writer.phase, list) {
+        return is_sane(writer);
     }
     false
 }
@@ -96,21 +99,21 @@ fn counts_of(opens: bool) -> usize
     0
 }
 
-// Stores a field at `from.at`, followed by the next list's count if one opens. A refusal keeps the state `w`.
+// Stores a field at `from.at`, followed by the next list's count if one opens. A refusal keeps the state `writer`.
 pub fn settle(
-    w: Writer,
+    writer: Writer,
     buf: &mut [u8],
     first: &[u8],
     second: &[u8],
     opens: bool,
     from: Writer,
 ) -> Step
-    ensures { λ r. ⌜ after r (now (buf .exit)) ≡ settled w (now (buf .entry)) (now (first .entry) ++ now (second .entry)) opens from ⌝ }
+    ensures { λ r. ⌜ after r (now (buf .exit)) ≡ settled writer (now (buf .entry)) (now (first .entry) ++ now (second .entry)) opens from ⌝ }
 {
     let zero = [0u32; 1];
     let counts = counts_of(opens);
     match writer_buffer::store(buf, from.at, first, second, &zero[..counts]) {
-        End::Refused(refusal) => refused(w, refusal),
+        End::Refused(refusal) => refused(writer, refusal),
         End::At(end) => stored(Writer {
             type_id: from.type_id,
             phase: from.phase,
@@ -123,48 +126,96 @@ pub fn settle(
 }
 
 // Stores the segment that is due, followed by the next list's count if one opens: the bytes of a field, or none to close a list.
-pub(crate) fn put_segment(w: Writer, buf: &mut [u8], first: &[u8], second: &[u8]) -> Step
-    requires { ⌜ w .phase ≤ lastPhase ⌝ }
-    ensures { λ r. ⌜ after r (now (buf .exit)) ≡ segmentStep w (now (buf .entry)) (now (first .entry) ++ now (second .entry)) (opensNext w) ⌝ }
+pub(crate) fn put_segment(writer: Writer, buf: &mut [u8], first: &[u8], second: &[u8]) -> Step
+    requires { ⌜ writer .phase ≤ lastPhase ⌝ }
+    ensures { λ r. ⌜ after r (now (buf .exit)) ≡ segmentStep writer (now (buf .entry)) (now (first .entry) ++ now (second .entry)) (opensNext writer) ⌝ }
 {
-    let phase = w.phase + 1;
-    let opens = questions::list_at(w.type_id, phase);
+    let phase = writer.phase + 1;
+    let opens = questions::list_at(writer.type_id, phase);
     let from = Writer {
-        type_id: w.type_id,
+        type_id: writer.type_id,
         phase,
-        at: w.at,
+        at: writer.at,
         list: 0,
         count: 0,
         last: 0,
     };
-    settle(w, buf, first, second, opens, from)
+    settle(writer, buf, first, second, opens, from)
+}
+
+// Stores a field whose rules gave the verdict `rules`, if it is due.
+pub fn put_field(
+    writer: Writer,
+    buf: &mut [u8],
+    field: FieldName,
+    rules: Verdict,
+    first: &[u8],
+    second: &[u8],
+) -> Step
+    ensures { λ r. ⌜ PutsField writer (now (buf .entry)) field rules (now (first .entry) ++ now (second .entry)) (after r (now (buf .exit))) ⌝ }
+{
+    if !questions::field_at(writer.type_id, writer.phase, field) {
+        return not_due(writer);
+    }
+    if buf.len() < writer.at {
+        return no_room(writer);
+    }
+    if let Verdict::Refuse(refusal) = rules {
+        return refused(writer, refusal);
+    }
+    put_segment(writer, buf, first, second)
 }
 
 // Stores an element after the others of the open list, and overwrites the list's count with the new one.
-pub(crate) fn put_element(
-    w: Writer,
+fn append_element(
+    writer: Writer,
     buf: &mut [u8],
     first: &[u8],
     second: &[u8],
     numbers: &[u32],
 ) -> Step
-    requires { ⌜ sane w ≡ true ⌝ }
-    ensures { λ r. ⌜ after r (now (buf .exit)) ≡ elementStep w (now (buf .entry))
+    requires { ⌜ sane writer ≡ true ⌝ }
+    ensures { λ r. ⌜ after r (now (buf .exit)) ≡ elementStep writer (now (buf .entry))
         ((now (first .entry) ++ now (second .entry)) ++ integersBytes (now (numbers .entry))) ⌝ }
 {
-    match writer_buffer::store(buf, w.at, first, second, numbers) {
-        End::Refused(refusal) => refused(w, refusal),
+    match writer_buffer::store(buf, writer.at, first, second, numbers) {
+        End::Refused(refusal) => refused(writer, refusal),
         End::At(end) => {
-            let count = w.count + 1;
-            writer_buffer::put_u32(buf, w.list, count as u64);
+            let count = writer.count + 1;
+            writer_buffer::put_u32(buf, writer.list, count as u64);
             stored(Writer {
-                type_id: w.type_id,
-                phase: w.phase,
+                type_id: writer.type_id,
+                phase: writer.phase,
                 at: end,
-                list: w.list,
+                list: writer.list,
                 count,
-                last: w.at,
+                last: writer.at,
             })
         }
     }
+}
+
+// Stores an element whose rules gave the verdict `rules`, if it is due.
+pub fn put_element(
+    writer: Writer,
+    buf: &mut [u8],
+    list: ListName,
+    rules: Verdict,
+    first: &[u8],
+    second: &[u8],
+    numbers: &[u32],
+) -> Step
+    ensures { λ r. ⌜ PutsElement writer (now (buf .entry)) list rules ((now (first .entry) ++ now (second .entry)) ++ integersBytes (now (numbers .entry)))
+        (after r (now (buf .exit))) ⌝ }
+{
+    if !is_element_due(writer, list) {
+        return not_due(writer);
+    }
+    if buf.len() < writer.at {
+        return no_room(writer);
+    }
+    if let Verdict::Refuse(refusal) = rules {
+        return refused(writer, refusal);
+    }
+    append_element(writer, buf, first, second, numbers)
 }

@@ -2,11 +2,11 @@
 use Prim.Native.Nat.{ℕ, _+_, _≤_, _-_, _%_, _^_, _<_}
 use mathlib.Core.Path.{_≡_, refl, sym, ap, _∙_, ap₂}
 use mathlib.Core.Bool.{Bool, true, false}
-use mathlib.Core.List.{List, [], _++_, append-assoc, append-nil}
+use mathlib.Core.List.{List, [], _++_, append-assoc}
 use native.Mathlib.Omega.{arith}
 use native.Mathlib.Nat.{mod-eq-of-lt}
-use lib.ListN.{length, take, drop, length-append, length-drop, take-append-drop}
-use lib.Seq.{length-take-le, take-at, drop-at, drop-length, take-length, drop-drop, take-append-le, take-take}
+use lib.ListN.{length, take, drop, replicate, length-append, length-drop, length-replicate, take-append-drop}
+use lib.Seq.{length-take-le, take-at, drop-at, drop-drop, take-append-le, take-take}
 use lib.Dec.{leb}
 use borrow.Author.Tests.{leb-true, le-leb, lt-leb}
 use Rattle.wire.specs.Bytes.{pick, digits, length-digits}
@@ -18,6 +18,7 @@ use Rattle.transaction.specs.Signed.{mostBytes}
 use Rattle.writer_rules.specs.declared.Verdict.{Verdict}
 use Rattle.writer_rules.specs.declared.Verdict.the-variants as J
 use Rattle.writer_rules.proofs.Verdicts.{pick-fine}
+use Rattle.writer_rules.proofs.Lent.{lent, length-lent, lent-bytes, lent-integer}
 use Rattle.writer_rules.specs.Judged.{refusedBy}
 use Rattle.writer_buffer.specs.Stores.{roomIn, roomFor, overwrite, withInteger, stored}
 
@@ -29,21 +30,6 @@ room-inv n s e =
     let (a, e₁) = pick-fine (leb n (length s)) _ noRoom e in
     let (b, _) = pick-fine (leb n mostBytes) J.Allowed noRoom e₁ in
     (leb-true n (length s) a, leb-true n mostBytes b)
-
-pub room-fine : (n : ℕ) (s : List ℕ) → n ≤ length s → n ≤ mostBytes → roomFor n s ≡ J.Allowed
-unfolding roomFor
-room-fine n s h k = rw (le-leb n (length s) h, le-leb n mostBytes k)
-
--- P holds of the verdict if it holds of `Allowed`, where there is room, and of refusal 14
-pub by-room : (n : ℕ) (s : List ℕ) (P : Verdict → Type 0) → (roomFor n s ≡ J.Allowed → P J.Allowed) → P (refusedBy noRoom) → P (roomFor n s)
-unfolding roomFor
-by-room n s P f r = go (leb n (length s)) (leb n mostBytes) f
-  where
-    go : (a c : Bool) → (pick a (pick c J.Allowed (refusedBy noRoom)) (refusedBy noRoom) ≡ J.Allowed → P J.Allowed)
-        → P (pick a (pick c J.Allowed (refusedBy noRoom)) (refusedBy noRoom))
-    go true true f = f refl
-    go true false f = r
-    go false c f = r
 
 module _ (n limit : ℕ) where
   pub no-room : limit < n → refusedBy noRoom ≡ roomIn n limit
@@ -58,6 +44,21 @@ module _ (n limit : ℕ) where
 
   pub enough : n ≤ limit → n ≤ mostBytes → J.Allowed ≡ roomIn n limit
   enough h k = rw (le-leb n limit h, le-leb n mostBytes k)
+
+pub room-fine : (n : ℕ) (s : List ℕ) → n ≤ length s → n ≤ mostBytes → roomFor n s ≡ J.Allowed
+unfolding roomFor
+room-fine n s h k = sym (enough n (length s) h k)
+
+-- P holds of the verdict if it holds of `Allowed`, where there is room, and of refusal 14
+pub by-room : (n : ℕ) (s : List ℕ) (P : Verdict → Type 0) → (roomFor n s ≡ J.Allowed → P J.Allowed) → P (refusedBy noRoom) → P (roomFor n s)
+unfolding roomFor
+by-room n s P f r = go (leb n (length s)) (leb n mostBytes) f
+  where
+    go : (a c : Bool) → (pick a (pick c J.Allowed (refusedBy noRoom)) (refusedBy noRoom) ≡ J.Allowed → P J.Allowed)
+        → P (pick a (pick c J.Allowed (refusedBy noRoom)) (refusedBy noRoom))
+    go true true f = f refl
+    go true false f = r
+    go false c f = r
 
 pub same-room : (v : Verdict) (n m limit : ℕ) → v ≡ roomIn n limit → n ≡ m → v ≡ roomIn m limit
 same-room v n m limit h e = rw (← e) h
@@ -117,29 +118,20 @@ module _ (s : List ℕ) (at : ℕ) where
 
 -- ---- ranges of the buffer that were lent
 
--- the bytes from `at` up to e were lent and are now y, a copy of b: that is a store of b
-pub lent-bytes : (s y b : List ℕ) (at e : ℕ) → y ≡ take (length (take (e - at) (drop at s))) b ++ drop (length b) (take (e - at) (drop at s))
-    → e ≡ at + length b → e ≤ length s
-    → take at s ++ (y ++ drop (e - at) (drop at s)) ≡ overwrite s at b
-unfolding overwrite
-lent-bytes s y b at e h there f =
-    let n : e - at ≡ length b = omega arith in
-    let m : length (take (length b) (drop at s)) ≡ length b = length-take-le (length b) (drop at s) (omega (arith, length-drop at s)) in
-    let whole : y ≡ b =
-    h ∙ rw (n, m) (ap₂ (λ (p q : List ℕ). p ++ q) (take-length b) (ap (λ (k : ℕ). drop k (take (length b) (drop at s))) (sym m)
-    ∙ drop-length (take (length b) (drop at s))) ∙ append-nil b) in
-    rw (whole, n)
+-- the n bytes from `at` on were lent and are now y
+module _ (s y : List ℕ) (at n : ℕ) where
+  part-back : (ys : List ℕ) → y ≡ ys → length ys ≡ at + n - at → take at s ++ (y ++ drop (at + n - at) (drop at s)) ≡ overwrite s at ys
+  unfolding overwrite
+  part-back ys e l = ap₂ (λ (x : List ℕ) (k : ℕ). take at s ++ (x ++ drop k (drop at s))) e (sym l)
 
--- the same where y is an integer of four bytes
-pub lent-integer : (s y : List ℕ) (at e v : ℕ) → y ≡ digits (length (take (e - at) (drop at s))) (v % 256 ^ length (take (e - at) (drop at s))) → e ≡ at + 4
-    → e ≤ length s
-    → take at s ++ (y ++ drop (e - at) (drop at s)) ≡ overwrite s at (digits 4 (v % 256 ^ 4))
-unfolding overwrite
-lent-integer s y at e v h there f =
-    let n : e - at ≡ 4 = omega arith in
-    let m : length (take 4 (drop at s)) ≡ 4 = length-take-le 4 (drop at s) (omega (arith, length-drop at s)) in
-    let whole : y ≡ digits 4 (v % 256 ^ 4) = h ∙ rw (n, m) in
-    rw (whole, n, length-digits 4 (v % 256 ^ 4))
+  pub zeros-back : at + n ≤ length s → y ≡ replicate (length (lent s at n)) 0
+      → take at s ++ (y ++ drop (at + n - at) (drop at s)) ≡ overwrite s at (replicate n 0)
+  zeros-back h e = part-back (replicate n 0) (e ∙ ap (λ (k : ℕ). replicate k 0) (length-lent s at n h)) (length-replicate n 0 ∙ omega arith)
+
+-- y is a copy of b
+pub bytes-back : (s y b : List ℕ) (at : ℕ) → at + length b ≤ length s → y ≡ take (length (lent s at (length b))) b ++ drop (length b) (lent s at (length b))
+    → take at s ++ (y ++ drop (at + length b - at) (drop at s)) ≡ overwrite s at b
+bytes-back s y b at h e = part-back s y at (length b) b (lent-bytes s at (length b) h b y refl e) (omega arith)
 
 -- ---- an integer in the buffer
 
@@ -148,9 +140,13 @@ module _ (s : List ℕ) (at n : ℕ) where
   unfolding withInteger
   not-there h = rw (lt-leb (at + 4) (length s) h)
 
-  pub integer-there : at + 4 ≤ length s → (t : List ℕ) → t ≡ overwrite s at (digits 4 (n % 256 ^ 4)) → t ≡ withInteger s at n
+  -- the four bytes were lent and are now y
+  pub integer-there : at + 4 ≤ length s → (y : List ℕ) → y ≡ digits (length (lent s at 4)) (n % 256 ^ length (lent s at 4))
+      → take at s ++ (y ++ drop (at + 4 - at) (drop at s)) ≡ withInteger s at n
   unfolding withInteger
-  integer-there h t e = rw (le-leb (at + 4) (length s) h) e
+  integer-there h y e =
+      rw (le-leb (at + 4) (length s) h)
+      (part-back s y at 4 (digits 4 (n % 256 ^ 4)) (lent-integer s at 4 h n y e) (length-digits 4 (n % 256 ^ 4) ∙ omega arith))
 
   -- if it fits into the buffer and into four bytes, it is stored
   pub integer-put : at + 4 ≤ length s → n < 256 ^ 4 → withInteger s at n ≡ overwrite s at (digits 4 n)
@@ -173,9 +169,9 @@ module _ (m : ℕ) (s : List ℕ) (x : Verdict) (p : x ≡ roomIn m (length s)) 
   room-made q = room-inv m s (sym p ∙ q) .0
 
   module _ (n : ℕ) (t : List ℕ) where
-    pub room-bars : (d : Refusal) → x ≡ J.Refuse d → (P.Refused d, s) ≡ stored (roomFor m s) n s t
+    pub room-refuses : (d : Refusal) → x ≡ J.Refuse d → (P.Refused d, s) ≡ stored (roomFor m s) n s t
     unfolding stored roomFor
-    room-bars d q = rw (sym p ∙ q)
+    room-refuses d q = rw (sym p ∙ q)
 
     pub all-done : x ≡ J.Allowed → (i : ℕ) → i ≡ n → (u : List ℕ) → u ≡ t → (P.At i, u) ≡ stored (roomFor m s) n s t
     unfolding stored roomFor
@@ -183,18 +179,18 @@ module _ (m : ℕ) (s : List ℕ) (x : Verdict) (p : x ≡ roomIn m (length s)) 
 
 -- what follows from the answer of a store
 module _ (n : ℕ) (s t : List ℕ) (x : End) (u : List ℕ) where
-  pub told-refused : (v : Verdict) → (x, u) ≡ stored v n s t → (e : Refusal) → x ≡ P.Refused e → (v ≡ J.Refuse e) × (u ≡ s)
+  pub stored-refused : (v : Verdict) → (x, u) ≡ stored v n s t → (e : Refusal) → x ≡ P.Refused e → (v ≡ J.Refuse e) × (u ≡ s)
   unfolding stored
-  told-refused J.Allowed p e q = let i : x ≡ P.At n = ap (λ (z : End × List ℕ). z .0) p in let z : _≡_ {A = ℕ} 0 1 = cc in absurd (omega arith)
-  told-refused (J.Refuse d) p e q =
+  stored-refused J.Allowed p e q = let i : x ≡ P.At n = ap (λ (z : End × List ℕ). z .0) p in let z : _≡_ {A = ℕ} 0 1 = cc in absurd (omega arith)
+  stored-refused (J.Refuse d) p e q =
       let i : x ≡ P.Refused d = ap (λ (z : End × List ℕ). z .0) p in
       let j : d ≡ e = cc in
       (ap J.Refuse j, ap (λ (z : End × List ℕ). z .1) p)
 
-  pub told-next : (v : Verdict) → (x, u) ≡ stored v n s t → (m : ℕ) → x ≡ P.At m → (v ≡ J.Allowed) × (m ≡ n) × (u ≡ t)
+  pub stored-at : (v : Verdict) → (x, u) ≡ stored v n s t → (m : ℕ) → x ≡ P.At m → (v ≡ J.Allowed) × (m ≡ n) × (u ≡ t)
   unfolding stored
-  told-next J.Allowed p m q =
+  stored-at J.Allowed p m q =
       let i : x ≡ P.At n = ap (λ (z : End × List ℕ). z .0) p in
       let j : m ≡ n = cc in
       (refl, j, ap (λ (z : End × List ℕ). z .1) p)
-  told-next (J.Refuse d) p m q = let i : x ≡ P.Refused d = ap (λ (z : End × List ℕ). z .0) p in let z : _≡_ {A = ℕ} 0 1 = cc in absurd (omega arith)
+  stored-at (J.Refuse d) p m q = let i : x ≡ P.Refused d = ap (λ (z : End × List ℕ). z .0) p in let z : _≡_ {A = ℕ} 0 1 = cc in absurd (omega arith)

@@ -1,2 +1,3 @@
 -- The buffer lent to the writer
 pub mod Stores
+pub mod Closing

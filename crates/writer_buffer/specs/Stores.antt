@@ -36,3 +36,7 @@ withInteger s at n = pick (leb (at + 4) (length s)) (overwrite s at (digits 4 (n
 unfoldable pub stored : Verdict → ℕ → List ℕ → List ℕ → End × List ℕ
 stored J.Allowed n s t = (P.At n, t)
 stored (J.Refuse e) n s t = (P.Refused e, s)
+
+-- the same for ys, written from `at` on
+abbrev pub written : Verdict → List ℕ → ℕ → List ℕ → End × List ℕ
+written v s at ys = stored v (at + length ys) s (overwrite s at ys)

@@ -1,13 +1,15 @@
-// The lent buffer: whether there is room in it, and stores that are made whole or not at all.
+// The lent buffer: whether there is room in it, stores that are made whole or not at all, and the blank credentials at its end.
 ghost use mathlib.Core.Path.{_≡_};
 ghost use Prim.Native.Nat.{_+_, _*_, _≤_};
 ghost use mathlib.Core.List.{_++_};
 ghost use lib.ListN.{length};
 ghost use Rattle.writer_rules.specs.Elements.{integersBytes};
-ghost use Rattle.writer_buffer.specs.Stores.{roomIn, roomFor, overwrite, withInteger, stored};
+ghost use Rattle.writer_buffer.specs.Stores.{roomIn, roomFor, overwrite, withInteger, written};
 use wire::End;
 use wire::Rule;
 use writer_rules::Verdict;
+
+pub mod blank;
 
 // Writes `value` into the four bytes at `at`, if the buffer has them.
 pub fn put_u32(buf: &mut [u8], at: usize, value: u64)
@@ -54,20 +56,20 @@ fn put_all(buf: &mut [u8], at: usize, first: &[u8], second: &[u8], numbers: &[u3
     put_integers(buf, at + first.len() + second.len(), numbers);
 }
 
-// Do `n` more bytes fit into a buffer of `limit` bytes, and into a transaction?
-fn room_for(at: usize, n: usize, limit: usize) -> Verdict
-    ensures { λ r. ⌜ r ≡ roomIn (at + n) limit ⌝ }
+// Do `width` more bytes fit into a buffer of `limit` bytes, and into a transaction?
+fn room_for(at: usize, width: usize, limit: usize) -> Verdict
+    ensures { λ r. ⌜ r ≡ roomIn (at + width) limit ⌝ }
 {
     if limit < at {
         return writer_rules::refuse_step(Rule::NoRoom);
     }
-    if limit - at < n {
+    if limit - at < width {
         return writer_rules::refuse_step(Rule::NoRoom);
     }
     if transaction::MOST_BYTES < at {
         return writer_rules::refuse_step(Rule::NoRoom);
     }
-    if transaction::MOST_BYTES - at < n {
+    if transaction::MOST_BYTES - at < width {
         return writer_rules::refuse_step(Rule::NoRoom);
     }
     Verdict::Allowed
@@ -91,10 +93,9 @@ fn room_of(at: usize, first: &[u8], second: &[u8], numbers: &[u32], limit: usize
 
 // Stores two byte strings and then integers, one after the other, if there is room. Returns the offset just past them.
 pub fn store(buf: &mut [u8], at: usize, first: &[u8], second: &[u8], numbers: &[u32]) -> End
-    ensures { λ r. ⌜ (r, now (buf .exit)) ≡ stored
+    ensures { λ r. ⌜ (r, now (buf .exit)) ≡ written
         (roomFor (at + length ((now (first .entry) ++ now (second .entry)) ++ integersBytes (now (numbers .entry)))) (now (buf .entry)))
-        (at + length ((now (first .entry) ++ now (second .entry)) ++ integersBytes (now (numbers .entry)))) (now (buf .entry))
-        (overwrite (now (buf .entry)) at ((now (first .entry) ++ now (second .entry)) ++ integersBytes (now (numbers .entry)))) ⌝ }
+        (now (buf .entry)) at ((now (first .entry) ++ now (second .entry)) ++ integersBytes (now (numbers .entry))) ⌝ }
 {
     match room_of(at, first, second, numbers, buf.len()) {
         Verdict::Refuse(refusal) => End::Refused(refusal),

@@ -42,8 +42,8 @@ module _ {X : Type 0} (w n : ℕ) (b : List ℕ) (stop : Refusal → X) where
   integer-front : (go : ℕ → ℕ → X) → integer (suc w) .parse (digits (suc w) n ++ b) 0 stop go ≡ go n (0 + suc w)
   integer-front go = integer-at (digits (suc w) n ++ b) 0 stop w n b go refl
 
-  bytes-behind : (go : List ℕ → ℕ → X) → blob (length b) .parse (digits (suc w) n ++ b) (0 + suc w) stop go ≡ go b (length (digits (suc w) n ++ b))
-  bytes-behind go =
+  bytes-after : (go : List ℕ → ℕ → X) → blob (length b) .parse (digits (suc w) n ++ b) (0 + suc w) stop go ≡ go b (length (digits (suc w) n ++ b))
+  bytes-after go =
       let d = length-digits (suc w) n in
       let there : 0 + suc w + length b ≡ length (digits (suc w) n ++ b) = omega (arith, length-append (digits (suc w) n) b) in
       bytes-at (digits (suc w) n ++ b) (0 + suc w) stop (length b) b go refl (drop-at (digits (suc w) n) b (0 + suc w) (omega arith)) ∙ ap (go b) there
@@ -67,14 +67,14 @@ pub string-judged : (most : ℕ) (b : List ℕ)
 unfolding judged string named andThen guard
 string-judged most b =
     integer-front 3 (length b) b _ _
-    ∙ ap (λ (x : Verdict). pick (leb (length b) most) x (refusedBy (ruleOf badLength))) (bytes-behind 3 (length b) b _ _ ∙ all-read (digits 4 (length b) ++ b))
+    ∙ ap (λ (x : Verdict). pick (leb (length b) most) x (refusedBy (ruleOf badLength))) (bytes-after 3 (length b) b _ _ ∙ all-read (digits 4 (length b) ++ b))
 
 pub text-judged : (most : ℕ) (b : List ℕ) → judged (text most) (given (digits 2 (length b) ++ b)) J.Allowed ≡ textRules most b
 unfolding judged text named andThen guard printable guardAt
 text-judged most b =
     integer-front 1 (length b) b _ _
     ∙ ap (λ (x : Verdict). pick (ltb 0 (length b)) (pick (leb (length b) most) x (refusedBy (ruleOf badLength))) (refusedBy (ruleOf badLength)))
-    (bytes-behind 1 (length b) b _ _
+    (bytes-after 1 (length b) b _ _
     ∙ ap (λ (x : Verdict). pick (eqb (unprintable b) (length b)) x (refusedBy (ruleOf notPrintable))) (all-read (digits 2 (length b) ++ b)))
 
 -- ---- integers and identifiers

@@ -1,32 +1,27 @@
 -- The fields of a head, written one after the other. Assumes nothing.
-use Prim.Native.Nat.{ℕ, _+_, _-_, _%_, _^_, _≤_}
-use mathlib.Core.Path.{_≡_, sym, ap, _∙_}
-use mathlib.Core.List.{List, _++_, append-assoc, append-nil}
+use Prim.Native.Nat.{ℕ, _+_, _%_, _^_, _≤_}
+use mathlib.Core.Path.{_≡_, refl, sym, ap, _∙_}
+use mathlib.Core.List.{List, _++_, append-assoc}
 use native.Mathlib.Omega.{arith}
-use lib.ListN.{length, take, drop, length-append, length-drop, drop-of-length-le}
+use lib.ListN.{length, take, drop, length-append}
 use lib.Seq.{length-take-le, take-at, take-all}
 use Rattle.wire.specs.Bytes.{digits, length-digits}
+use Rattle.writer_rules.proofs.Lent.{lent, lent-bytes, lent-integer}
 
--- the callee leaves y in the range lent to it: if y is ys, then ys is stored there
-put-behind : (s y ys r : List ℕ) (at n : ℕ) → at ≤ length s → y ≡ ys → length ys ≡ n → take (at + n) (take at s ++ (y ++ r)) ≡ take at s ++ ys
-put-behind s y ys r at n h e l =
+-- a call leaves y in the range lent to it: if y is ys, then ys follows the bytes before
+put-after : (s y ys r : List ℕ) (at n : ℕ) → at ≤ length s → y ≡ ys → length ys ≡ n → take (at + n) (take at s ++ (y ++ r)) ≡ take at s ++ ys
+put-after s y ys r at n h e l =
     rw (e, ← append-assoc) (take-at (take at s ++ ys) r (at + n) (omega (arith, length-append (take at s) ys, length-take-le at s h)))
 
-module _ (s y r : List ℕ) (at n : ℕ) (h : at + n ≤ length s) where
-  abbrev lent : List ℕ
-  lent = take (at + n - at) (drop at s)
+module _ (s y r : List ℕ) (at : ℕ) where
+  pub bytes-after : (b : List ℕ) (h : at + length b ≤ length s)
+      → y ≡ take (length (lent s at (length b))) b ++ drop (length b) (lent s at (length b))
+      → take (at + length b) (take at s ++ (y ++ r)) ≡ take at s ++ b
+  bytes-after b h e = put-after s y b r at (length b) (omega arith) (lent-bytes s at (length b) h b y refl e) refl
 
-  length-lent : length lent ≡ n
-  length-lent = let d : at + n - at ≡ n = omega arith in rw d (length-take-le n (drop at s) (rw length-drop (omega arith)))
-
-  pub bytes-behind : (b : List ℕ) → length b ≡ n → y ≡ take (length lent) b ++ drop (length b) lent → take (at + n) (take at s ++ (y ++ r)) ≡ take at s ++ b
-  bytes-behind b l e =
-      put-behind s y b r at n (omega arith)
-      (e ∙ rw (length-lent, l, drop-of-length-le lent {i = n} (omega (arith, length-lent)), append-nil) (take-all n b (omega arith))) l
-
-  pub integer-behind : (v : ℕ) → y ≡ digits (length lent) (v % 256 ^ length lent) → take (at + n) (take at s ++ (y ++ r)) ≡ take at s ++ digits n (v % 256 ^ n)
-  integer-behind v e = put-behind s y (digits n (v % 256 ^ n)) r at n (omega arith) (e ∙ ap (λ k. digits k (v % 256 ^ k)) length-lent)
-      (length-digits n (v % 256 ^ n))
+  pub integer-after : (n v : ℕ) (h : at + n ≤ length s) → y ≡ digits (length (lent s at n)) (v % 256 ^ length (lent s at n))
+      → take (at + n) (take at s ++ (y ++ r)) ≡ take at s ++ digits n (v % 256 ^ n)
+  integer-after n v h e = put-after s y (digits n (v % 256 ^ n)) r at n (omega arith) (lent-integer s at n h v y e) (length-digits n (v % 256 ^ n))
 
 pub all-put : (h f : List ℕ) (n : ℕ) → length h ≡ n → take n h ≡ f → h ≡ f
 all-put h f n l e = sym (take-all n h (omega arith)) ∙ e

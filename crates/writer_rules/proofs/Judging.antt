@@ -52,15 +52,15 @@ pub record Rest (s : List ℕ) (at : ℕ) (t : List ℕ) : Type 0 where
 pub rest-all : (s : List ℕ) → Rest s 0 s
 rest-all s = record { there = refl; ends = omega arith }
 
-pub rest-behind : (s : List ℕ) (at : ℕ) (w t : List ℕ) → Rest s at (w ++ t) → Rest s (at + length w) t
-rest-behind s at w t r = record { there = drop-step s at w t (r .there); ends = omega (arith, r .ends, length-append w t) }
+pub rest-after : (s : List ℕ) (at : ℕ) (w t : List ℕ) → Rest s at (w ++ t) → Rest s (at + length w) t
+rest-after s at w t r = record { there = drop-step s at w t (r .there); ends = omega (arith, r .ends, length-append w t) }
 
 pub rest-as : (s : List ℕ) (at : ℕ) (t u : List ℕ) → t ≡ u → Rest s at t → Rest s at u
 rest-as s at t u e r = rw e at r
 
 module _ {A R : Type 0} (F : Format A) (a : A) (back : Back F a) (s : List ℕ) (at : ℕ) (t : List ℕ) (stop : Refusal → R) (go : A → ℕ → R) (z : R) where
   pub field-back : Rest s at (F .write a ++ t) → (Rest s (at + length (F .write a)) t → go a (at + length (F .write a)) ≡ z) → F .parse s at stop go ≡ z
-  field-back r k = back R s at t stop go (r .there) ∙ k (rest-behind s at (F .write a) t r)
+  field-back r k = back R s at t stop go (r .there) ∙ k (rest-after s at (F .write a) t r)
 
 pub test-alike : {R : Type 0} (b : Bool) (x y z : R) → x ≡ y → pick b x z ≡ pick b y z
 test-alike b x y z e = ap (λ r. pick b r z) e

@@ -1,6 +1,7 @@
 -- Laws of verdicts
 pub mod Verdicts
 pub mod FieldLaws
+pub mod Lent
 pub mod Heads
 pub mod Judging
 pub mod Pieces

@@ -1,9 +1,12 @@
 -- Why a step is refused, by the bytes that it would add. No rule is stated here: the bytes are read by the format that is due. Assumes nothing.
+use Prim.Native.Nat.{ℕ}
 use lib.ListN.{length}
 use lib.Dec.{eqb}
 use Rattle.wire.specs.Bytes.{pick}
 use Rattle.wire.specs.declared.Rule.{Rule}
 use Rattle.wire.specs.Numbers.{refusal, ruleOf, cutShort, bytesAfterEnd}
+use Rattle.wire.specs.declared.End.{End}
+use Rattle.wire.specs.declared.End.the-variants as P
 use Rattle.wire.specs.Format.{Format}
 use Rattle.writer_rules.specs.declared.Verdict.{Verdict}
 use Rattle.writer_rules.specs.declared.Verdict.the-variants as J
@@ -19,6 +22,11 @@ judged F g v =
     pick (g .whole)
     (F .parse (g .bytes) 0 (λ e. refusedBy (e .rule)) λ a m. pick (eqb m (length (g .bytes))) v (refusedBy bytesAfterEnd))
     (refusedBy (ruleOf cutShort))
+
+-- the same by where the reading of n bytes ended
+unfoldable pub endJudged : ℕ → End → Verdict
+endJudged n (P.At m) = pick (eqb m n) J.Allowed (refusedBy bytesAfterEnd)
+endJudged n (P.Refused e) = refusedBy (e .rule)
 
 -- v if it refuses, else u
 abbrev pub onAllowed : Verdict → Verdict → Verdict

@@ -46,7 +46,7 @@ use Rattle.writer.specs.declared.Written.the-variants as W
 use Rattle.writer.specs.Steps.{fresh, Turn, putElementAt, dueFor, putElement, finish}
 use Rattle.writer_theorems.specs.Runs.{Act, starts, putsField, putsElement, closes, finishes, Fair, AllFair, act, run, AllDone, elementActs}
 use Rattle.writer_theorems.specs.Runs.{planActs, spelled}
-use Rattle.writer_theorems.specs.Claims.{finishBehind}
+use Rattle.writer_theorems.specs.Claims.{finishAfter}
 use Rattle.writer_theorems.specs.Calls as C
 use Rattle.writer_theorems.specs.Calls.{Call, Words, Id, Typed, AllTyped, call, calls}
 use Rattle.writer_theorems.proofs.Keeping.{list-inv}
@@ -118,7 +118,7 @@ module _ (most : ℕ) where
       subst (λ (t : Turn). (t .step .answer ≡ W.Done (t .step .next .at)) × C.AllCallsDone most l (t .step .next) (t .buffer)) (sym (h w s))
       (d, do-done l m hs (t .step .next) (t .buffer) ds)
 
-  do-finish : (l : List Call) (m : List Act) → Do l m → (s : List ℕ) → C.finishBehind most l s ≡ finishBehind (avm most) m s
+  do-finish : (l : List Call) (m : List Act) → Do l m → (s : List ℕ) → C.finishAfter most l s ≡ finishAfter (avm most) m s
   do-finish l m h s = ap (λ (x : Writer × List ℕ). finish (avm most) (x .0) (x .1)) (do-run l m h fresh s)
 
 -- ---- the arguments of the calls are bytes
@@ -316,21 +316,21 @@ module _ (most : ℕ) where
     spells : Do most (C.readingCalls most (v .0)) (spelled (avm most) (v .0))
     spells = reading-do (v .0) (parts-took (unsigned (avm most)) (wants (avm most)) d v n bs e .unsigned-good)
 
-    ends-alike : C.finishBehind most (C.readingCalls most (v .0)) s ≡ finishBehind (avm most) (spelled (avm most) (v .0)) s
+    ends-alike : C.finishAfter most (C.readingCalls most (v .0)) s ≡ finishAfter (avm most) (spelled (avm most) (v .0)) s
     ends-alike = do-finish most (C.readingCalls most (v .0)) (spelled (avm most) (v .0)) spells s
 
     done : C.AllCallsDone most (C.readingCalls most (v .0)) fresh s
     done = do-done most (C.readingCalls most (v .0)) (spelled (avm most) (v .0)) spells fresh s (avm-round-trip most .steps-done d v n bs e s room)
 
-    finish-done : C.finishBehind most (C.readingCalls most (v .0)) s .step .answer ≡ W.Done (length d)
+    finish-done : C.finishAfter most (C.readingCalls most (v .0)) s .step .answer ≡ W.Done (length d)
     finish-done = ap (λ (x : Turn). x .step .answer) ends-alike ∙ avm-round-trip most .finish-done d v n bs e s room
 
-    pub blank-written : take (length d) (C.finishBehind most (C.readingCalls most (v .0)) s .buffer)
+    pub blank-written : take (length d) (C.finishAfter most (C.readingCalls most (v .0)) s .buffer)
         ≡ Any.assemble (unsigned (avm most)) (wants (avm most)) (v .0) (blanks (layout (wants (avm most) (v .0))))
     blank-written = ap (λ (x : Turn). take (length d) (x .buffer)) ends-alike ∙ avm-round-trip most .blank-written d v n bs e s room
 
     filled : putAll (Any.slotsAt (unsigned (avm most)) (wants (avm most)) d) (slotAt d)
-        (take (length d) (C.finishBehind most (C.readingCalls most (v .0)) s .buffer)) ≡ d
+        (take (length d) (C.finishAfter most (C.readingCalls most (v .0)) s .buffer)) ≡ d
     filled =
         ap (λ (x : Turn). putAll (Any.slotsAt (unsigned (avm most)) (wants (avm most)) d) (slotAt d) (take (length d) (x .buffer))) ends-alike
         ∙ avm-round-trip most .filled d v n bs e s room

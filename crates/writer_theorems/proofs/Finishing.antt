@@ -35,14 +35,14 @@ use Rattle.plan.specs.Due.{due}
 use Rattle.plan.proofs.RowLaws.{due-next}
 use Rattle.writer_buffer.specs.Stores.{roomFor, overwrite}
 use Rattle.writer_buffer.proofs.Stores.{room-inv, by-room, take-overwrite, length-overwrite}
-use Rattle.writer_blank.specs.Closing.{blankOf, blankBehind, closing, closable}
+use Rattle.writer_buffer.specs.Closing.{blankOf, blankAfter, closing, closable}
 use Rattle.writer.specs.declared.Writer.{Writer}
 use Rattle.writer.specs.declared.Written.the-variants as W
 use Rattle.writer.specs.Steps.{fresh, Turn, answered, guarded, sane, grown, opening, opened, notDue, sameField, sameList}
 use Rattle.writer.specs.Steps.{putFieldAt, putElementAt, closeAt, finishAt, planFor, dueFor, start, putField, putElement, close, finish}
 use Rattle.writer.proofs.Laws.{guarded-inv, guarded-fine, answered-keeps}
 use Rattle.writer_theorems.specs.Runs.{Act, starts, putsField, putsElement, closes, finishes, FairBytes, Fair, AllFair, act, run}
-use Rattle.writer_theorems.specs.Claims.{finishBehind, FinishedIsAccepted}
+use Rattle.writer_theorems.specs.Claims.{finishAfter, FinishedIsAccepted}
 use Rattle.writer_theorems.proofs.Keeping.{leaves, Here, Stays, Begun, begun-stays, open-more, closed, begin, Reach, reach-field, reach-list, reach-shut}
 
 module _ (F : Family) where
@@ -260,7 +260,7 @@ module _ (F : Family) where
     closing-is : closing F (w .at) s ≡ blankOf F u
     unfolding closing
     closing-is =
-        ap (blankBehind F)
+        ap (blankAfter F)
         (subst (λ (z : List ℕ). read (unsigned F) z 0 ≡ took u (0 + length (unsigned F .write u))) stands-own
         (read-complete (unsigned F) (unsigned F .write u) 0 u [] g (sym (append-nil (unsigned F .write u)))))
 
@@ -332,7 +332,7 @@ module _ (F : Family) where
       (due-outcome (r .first) (r .good) (r .parts) w s (r .done) (r .reach) (r .stays))
 
   -- finish after any sequence of steps
-  run-outcome : (l : List Act) → AllFair l → (s : List ℕ) → Outcome (finishBehind F l s)
+  run-outcome : (l : List Act) → AllFair l → (s : List ℕ) → Outcome (finishAfter F l s)
   run-outcome l f s = finish-outcome (run F l fresh s .0) (run F l fresh s .1) (run-keeps l f fresh s (waiting refl))
 
   done-accepted : (t : Turn) (n : ℕ) → Outcome t → t .step .answer ≡ W.Done n → accepted F (take n (t .buffer)) ≡ true
@@ -351,6 +351,6 @@ module _ (F : Family) where
   pub finished-is-accepted : FinishedIsAccepted F
   finished-is-accepted =
       record {
-        is-accepted = λ l f s n h. done-accepted (finishBehind F l s) n (run-outcome l f s) h;
-        refused-by = λ l f s e h. refused-only (finishBehind F l s) e (run-outcome l f s) h;
+        is-accepted = λ l f s n h. done-accepted (finishAfter F l s) n (run-outcome l f s) h;
+        refused-by = λ l f s e h. refused-only (finishAfter F l s) e (run-outcome l f s) h;
       }

@@ -34,7 +34,7 @@ use Rattle.writer_rules.specs.Judged.{refusedBy, judged, onAllowed}
 use Rattle.writer_rules.proofs.Verdicts.{both-true, judged-on}
 use Rattle.writer_rules.proofs.FieldLaws.{string-write, string-judged}
 use Rattle.writer_buffer.specs.Stores.{roomFor}
-use Rattle.writer_blank.specs.Closing.{closing, closable}
+use Rattle.writer_buffer.specs.Closing.{closing, closable}
 use Rattle.writer.specs.declared.Writer.{Writer}
 use Rattle.writer.specs.Steps.{writtenNumber, answered, prev, putFieldAt, putElementAt, closeAt, finishAt, putField, putElement, close, finish}
 use Rattle.writer.specs.Steps as Steps

@@ -26,7 +26,7 @@ use Rattle.writer_rules.proofs.Verdicts.{pick-fine, both-true, judged-read, jud
 use Rattle.plan.specs.Due.{dueOf, isList, isField, isOpen, isFinish}
 use Rattle.writer_buffer.specs.Stores.{roomFor, overwrite}
 use Rattle.writer_buffer.proofs.Stores.{room-inv, length-overwrite}
-use Rattle.writer_blank.specs.Closing.{closing, closable}
+use Rattle.writer_buffer.specs.Closing.{closing, closable}
 use Rattle.writer.specs.declared.Writer.{Writer}
 use Rattle.writer.specs.Steps.{Turn, answered, guarded, sane, opening, opened, prev, grown, appended, notDue, sameField, sameList}
 use Rattle.writer.specs.Steps.{putFieldAt, putElementAt, closeAt, finishAt, planFor, start}

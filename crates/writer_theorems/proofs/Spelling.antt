@@ -210,12 +210,12 @@ module _ (F : Family) where
         (open-more (elementsOf l) w s b es o v good ys ey fits small) cs (omega arith) (omega arith))
 
     -- the elements are written, and then the list is closed
-    closed-behind : (es : List Element) (m : List Act) (w : Writer) (s : List ℕ) → least ≤ length es
+    closed-after : (es : List Element) (m : List Act) (w : Writer) (s : List ℕ) → least ≤ length es
         → length b + length (listOf l least .write es) + length (opening q) ≤ length s
         → length b + length (listOf l least .write es) + length (opening q) ≤ mostBytes
         → Grew es m w s → Reached q (b ++ listOf l least .write es) (m ++ (closes ∷ [])) w s
     unfolding close answered
-    closed-behind es m w s enough f k (w₁, s₁, does, o, d, el) =
+    closed-after es m w s enough f k (w₁, s₁, does, o, d, el) =
         let (_, here) = closed (elementsOf l) w₁ s₁ b es o least (omega (arith, o .number)) in
         let c : List ℕ = b ++ listOf l least .write es in
         let a = here-at w₁ s₁ c here in
@@ -245,7 +245,7 @@ module _ (F : Family) where
         let bytes : List ℕ = listed (elementsOf l) es in
         let whole : length (listOf l least .write es) ≡ 4 + length bytes =
         omega (arith, ap length (list-write (elementsOf l) least es), length-append (digits 4 (length es)) bytes, length-digits 4 (length es)) in
-        closed-behind es (elementActs l [] es) w s enough f k (adds es [] [] w s refl d o c (omega arith) (omega arith))
+        closed-after es (elementActs l [] es) w s enough f k (adds es [] [] w s refl d o c (omega arith) (omega arith))
 
   -- ---- the segments of a plan
 

@@ -27,13 +27,13 @@ use Rattle.writer_rules.specs.declared.Verdict.the-variants as J
 use Rattle.writer_rules.proofs.Verdicts.{judged-own}
 use Rattle.writer_buffer.specs.Stores.{roomFor, overwrite}
 use Rattle.writer_buffer.proofs.Stores.{room-fine, length-overwrite}
-use Rattle.writer_blank.specs.Closing.{blankOf}
+use Rattle.writer_buffer.specs.Closing.{blankOf}
 use Rattle.writer.specs.declared.Writer.{Writer}
 use Rattle.writer.specs.declared.Written.the-variants as W
 use Rattle.writer.specs.Steps.{fresh, Turn, turn, answered, opening, opened, finishAt, planFor, dueFor, start, finish}
 use Rattle.writer.proofs.Laws.{guarded-fine}
 use Rattle.writer_theorems.specs.Runs.{run, AllDone, Ends, spelled}
-use Rattle.writer_theorems.specs.Claims.{finishBehind, StepsRoundTrip}
+use Rattle.writer_theorems.specs.Claims.{finishAfter, StepsRoundTrip}
 use Rattle.writer_theorems.proofs.Keeping.{Here, here-at, Begun, begin}
 use Rattle.writer_theorems.proofs.Finishing.{blankSigned, finish-is, finished-parts}
 use Rattle.writer_theorems.proofs.Filling.{fill-all}
@@ -102,8 +102,8 @@ module _ (F : Family) (ends : (k : F .TransactionType) → Ends (F .plan k)) whe
   -- finish after those steps is done and leaves the transaction with empty slots
   Finishes : Unsigned F → List ℕ → ℕ → Type 0
   Finishes u s n =
-      AllDone F (spelled F u) fresh s × (finishBehind F (spelled F u) s .step .answer ≡ W.Done n)
-      × Any.Parts (unsigned F) (wants F) (take n (finishBehind F (spelled F u) s .buffer)) u (blankSigned F u)
+      AllDone F (spelled F u) fresh s × (finishAfter F (spelled F u) s .step .answer ≡ W.Done n)
+      × Any.Parts (unsigned F) (wants F) (take n (finishAfter F (spelled F u) s .buffer)) u (blankSigned F u)
 
   finishes : (u : Unsigned F) → unsigned F .Good u → (s : List ℕ) (n : ℕ) → n ≡ length (unsigned F .write u) + length (blankOf F u) → n ≤ length s
       → n ≤ mostBytes → Finishes u s n
@@ -129,7 +129,7 @@ module _ (F : Family) (ends : (k : F .TransactionType) → Ends (F .plan k)) whe
           let x : ℕ = w .at + length (blankOf F u) in
           let w′ : Writer = opened (w .«type_id») (suc (w .phase)) x shut in
           let s′ : List ℕ = overwrite t (w .at) (blankOf F u) in
-          let last : finishBehind F (spelled F u) s ≡ turn w′ (W.Done (x + 0)) s′ =
+          let last : finishAfter F (spelled F u) s ≡ turn w′ (W.Done (x + 0)) s′ =
           ap (λ (z : Writer × List ℕ). finish F (z .0) (z .1)) r ∙ ap (λ (z : Plan). finishAt F z w t) d ∙ is
           ∙ ap (λ (v : Verdict). answered v w t w′ s′) fits in (
             all,
@@ -155,17 +155,17 @@ module _ (F : Family) (ends : (k : F .TransactionType) → Ends (F .plan k)) whe
     unfolding Finishes
     trip-steps = trip .0
 
-    trip-done : finishBehind F (spelled F (v .0)) s .step .answer ≡ W.Done (length d)
+    trip-done : finishAfter F (spelled F (v .0)) s .step .answer ≡ W.Done (length d)
     unfolding Finishes
     trip-done = trip .1
 
-    trip-parts : Any.Parts (unsigned F) (wants F) (take (length d) (finishBehind F (spelled F (v .0)) s .buffer)) (v .0) (blankSigned F (v .0))
+    trip-parts : Any.Parts (unsigned F) (wants F) (take (length d) (finishAfter F (spelled F (v .0)) s .buffer)) (v .0) (blankSigned F (v .0))
     unfolding Finishes
     trip-parts = trip .2
 
-    trip-filled : putAll (Any.slotsAt (unsigned F) (wants F) d) (slotAt d) (take (length d) (finishBehind F (spelled F (v .0)) s .buffer)) ≡ d
+    trip-filled : putAll (Any.slotsAt (unsigned F) (wants F) d) (slotAt d) (take (length d) (finishAfter F (spelled F (v .0)) s .buffer)) ≡ d
     trip-filled =
-        fill-all (unsigned F) (wants F) d (take (length d) (finishBehind F (spelled F (v .0)) s .buffer)) (v .0) (v .1) (blankSigned F (v .0)) parts trip-parts
+        fill-all (unsigned F) (wants F) d (take (length d) (finishAfter F (spelled F (v .0)) s .buffer)) (v .0) (v .1) (blankSigned F (v .0)) parts trip-parts
 
   pub steps-round-trip : StepsRoundTrip F
   steps-round-trip =

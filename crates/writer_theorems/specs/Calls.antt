@@ -189,14 +189,14 @@ isDue finish w = isFinish (dueNow w)
 
 module _ (most : ℕ) where
   -- finish after a run of calls from a fresh writer over the buffer s
-  abbrev pub finishBehind : List Call → List ℕ → Turn
-  finishBehind l s = Steps.finish (avm most) (calls most l Steps.fresh s .0) (calls most l Steps.fresh s .1)
+  abbrev pub finishAfter : List Call → List ℕ → Turn
+  finishAfter l s = Steps.finish (avm most) (calls most l Steps.fresh s .0) (calls most l Steps.fresh s .1)
 
   -- for every run of calls, whichever of them are refused
   pub record MethodsFinish : Type 0 where
-    pub is-accepted : (l : List Call) → AllTyped l → (s : List ℕ) (n : ℕ) → finishBehind l s .step .answer ≡ W.Done n
-        → accepted (avm most) (take n (finishBehind l s .buffer)) ≡ true
-    pub refused-by : (l : List Call) → AllTyped l → (s : List ℕ) (e : Refusal) → finishBehind l s .step .answer ≡ W.Refused e
+    pub is-accepted : (l : List Call) → AllTyped l → (s : List ℕ) (n : ℕ) → finishAfter l s .step .answer ≡ W.Done n
+        → accepted (avm most) (take n (finishAfter l s .buffer)) ≡ true
+    pub refused-by : (l : List Call) → AllTyped l → (s : List ℕ) (e : Refusal) → finishAfter l s .step .answer ≡ W.Refused e
         → (e .rule ≡ noRoom) ⊎ (e .rule ≡ stepNotDue)
 
   -- d is accepted, v is its reading, and the buffer s has room for d, whatever s holds
@@ -205,9 +205,9 @@ module _ (most : ℕ) where
     pub calls-done : (d : List ℕ) (v : Signed (avm most)) (n : ℕ) → Bytes d → check (avm most) d ≡ took v n → (s : List ℕ) → length d ≤ length s
         → AllCallsDone most (readingCalls most (v .0)) Steps.fresh s
     pub finish-done : (d : List ℕ) (v : Signed (avm most)) (n : ℕ) → Bytes d → check (avm most) d ≡ took v n → (s : List ℕ) → length d ≤ length s
-        → finishBehind (readingCalls most (v .0)) s .step .answer ≡ W.Done (length d)
+        → finishAfter (readingCalls most (v .0)) s .step .answer ≡ W.Done (length d)
     pub filled : (d : List ℕ) (v : Signed (avm most)) (n : ℕ) → Bytes d → check (avm most) d ≡ took v n → (s : List ℕ) → length d ≤ length s
-        → putAll (Any.slotsAt (unsigned (avm most)) (wants (avm most)) d) (slotAt d) (take (length d) (finishBehind (readingCalls most (v .0)) s .buffer)) ≡ d
+        → putAll (Any.slotsAt (unsigned (avm most)) (wants (avm most)) d) (slotAt d) (take (length d) (finishAfter (readingCalls most (v .0)) s .buffer)) ≡ d
 
   -- a call's answer: its number, and its place
   abbrev pub numberOf : Call → Writer → List ℕ → ℕ

@@ -20,14 +20,14 @@ use Rattle.writer_theorems.specs.Runs.{Act, AllFair, run, AllDone, spell
 
 module _ (F : Family) where
   -- finish after a run of steps from a fresh writer over the buffer s
-  abbrev pub finishBehind : List Act → List ℕ → Turn
-  finishBehind l s = finish F (run F l fresh s .0) (run F l fresh s .1)
+  abbrev pub finishAfter : List Act → List ℕ → Turn
+  finishAfter l s = finish F (run F l fresh s .0) (run F l fresh s .1)
 
   -- for every run of steps, whichever of them are refused
   pub record FinishedIsAccepted : Type 0 where
-    pub is-accepted : (l : List Act) → AllFair l → (s : List ℕ) (n : ℕ) → finishBehind l s .step .answer ≡ W.Done n
-        → accepted F (take n (finishBehind l s .buffer)) ≡ true
-    pub refused-by : (l : List Act) → AllFair l → (s : List ℕ) (e : Refusal) → finishBehind l s .step .answer ≡ W.Refused e
+    pub is-accepted : (l : List Act) → AllFair l → (s : List ℕ) (n : ℕ) → finishAfter l s .step .answer ≡ W.Done n
+        → accepted F (take n (finishAfter l s .buffer)) ≡ true
+    pub refused-by : (l : List Act) → AllFair l → (s : List ℕ) (e : Refusal) → finishAfter l s .step .answer ≡ W.Refused e
         → (e .rule ≡ noRoom) ⊎ (e .rule ≡ stepNotDue)
 
   -- d is accepted, v is its reading, and the buffer s has room for d, whatever s holds
@@ -35,9 +35,9 @@ module _ (F : Family) where
     pub steps-done : (d : List ℕ) (v : Signed F) (n : ℕ) → Bytes d → check F d ≡ took v n → (s : List ℕ) → length d ≤ length s
         → AllDone F (spelled F (v .0)) fresh s
     pub finish-done : (d : List ℕ) (v : Signed F) (n : ℕ) → Bytes d → check F d ≡ took v n → (s : List ℕ) → length d ≤ length s
-        → finishBehind (spelled F (v .0)) s .step .answer ≡ W.Done (length d)
+        → finishAfter (spelled F (v .0)) s .step .answer ≡ W.Done (length d)
     pub blank-written : (d : List ℕ) (v : Signed F) (n : ℕ) → Bytes d → check F d ≡ took v n → (s : List ℕ) → length d ≤ length s
-        → take (length d) (finishBehind (spelled F (v .0)) s .buffer) ≡ Any.assemble (unsigned F) (wants F) (v .0) (blanks (layout (wants F (v .0))))
+        → take (length d) (finishAfter (spelled F (v .0)) s .buffer) ≡ Any.assemble (unsigned F) (wants F) (v .0) (blanks (layout (wants F (v .0))))
     -- d again, once each slot is filled with its signature
     pub filled : (d : List ℕ) (v : Signed F) (n : ℕ) → Bytes d → check F d ≡ took v n → (s : List ℕ) → length d ≤ length s
-        → putAll (Any.slotsAt (unsigned F) (wants F) d) (slotAt d) (take (length d) (finishBehind (spelled F (v .0)) s .buffer)) ≡ d
+        → putAll (Any.slotsAt (unsigned F) (wants F) d) (slotAt d) (take (length d) (finishAfter (spelled F (v .0)) s .buffer)) ≡ d

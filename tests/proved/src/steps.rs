@@ -1,4 +1,4 @@
-//! The writer's steps of the static library `test_writer_exports`, which is there for tests.
+//! The writer's steps of the static library `test_exports`, which is there for tests.
 
 use cellfacet_tests::lines::{Answer, Step};
 

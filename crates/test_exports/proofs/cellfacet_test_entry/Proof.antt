@@ -1,6 +1,6 @@
 -- `test_exports::cellfacet_test_entry` meets its contract. Assumes nothing.
 use borrow.Author.Needs.{needs}
-use Rattle.test_exports.proofs.Putting.{told-entry}
+use Rattle.test_exports.proofs.Putting.{entry-encoded}
 use Rattle.test_exports.proofs.cellfacet_test_entry.Statement.{statement}
 use Rattle.test_exports.proofs.cellfacet_test_entry.Tie as tie
 
@@ -11,4 +11,4 @@ cellfacet-test-entry-spec =
     (λ c κs. search needs) (λ c κs. search needs) (λ c κs. search needs)  -- entry-requires, put-answer-requires, put-bytes-requires
     (λ c κs. search needs) (λ c. search needs) (λ c. search needs)  -- put-bytes-requires-2, same-length, same-length-2
     (λ c. search needs)  -- same-length-3
-    (λ c. search told-entry))  -- returns
+    (λ c. search entry-encoded))  -- returns

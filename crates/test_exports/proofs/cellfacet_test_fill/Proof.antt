@@ -1,6 +1,6 @@
 -- `test_exports::cellfacet_test_fill` meets its contract. Assumes nothing.
 use borrow.Author.Needs.{needs}
-use Rattle.test_exports.proofs.Telling.{filling}
+use Rattle.test_exports.proofs.Encoding.{filling}
 use Rattle.test_exports.proofs.cellfacet_test_fill.Statement.{statement}
 use Rattle.test_exports.proofs.cellfacet_test_fill.Tie as tie
 

@@ -1,6 +1,6 @@
 -- `test_exports::cellfacet_test_table` meets its contract. Assumes nothing.
 use borrow.Author.Needs.{needs}
-use Rattle.test_exports.proofs.Telling.{telling}
+use Rattle.test_exports.proofs.Encoding.{encoding}
 use Rattle.test_exports.proofs.cellfacet_test_table.Statement.{statement}
 use Rattle.test_exports.proofs.cellfacet_test_table.Tie as tie
 
@@ -11,6 +11,6 @@ cellfacet-test-table-spec =
     (λ c κs. search needs) (λ c. search needs) (λ c. search needs)  -- check-table-requires, enum-known-rows, mul-result
     (λ c. search needs) (λ c. search needs) (λ c κs. search needs)  -- add-result, enum-known-refusal, number-of-requires
     (λ c. search needs) (λ c. search needs) (λ c. search needs) (λ c. search needs)  -- cast-result, mul-result-2, add-result-2, same-length
-    (λ c. search telling)  -- returns
+    (λ c. search encoding)  -- returns
     (λ c. search needs)  -- same-length-2
-    (λ c. search telling))  -- returns-2
+    (λ c. search encoding))  -- returns-2

@@ -1,9 +1,6 @@
 -- `writer_buffer::put_at` meets its contract. Assumes nothing.
-use Prim.Native.Nat.{_+_}
-use native.Mathlib.Omega.{arith}
-use lib.ListN.{length}
 use borrow.Author.Needs.{needs}
-use Rattle.writer_buffer.proofs.Stores.{lent-bytes}
+use Rattle.writer_buffer.proofs.Stores.{bytes-back}
 use Rattle.writer_buffer.proofs.put_at.Statement.{statement}
 use Rattle.writer_buffer.proofs.put_at.Tie as tie
 
@@ -13,9 +10,4 @@ put-at-spec =
     (tie.spec
     (λ c. search needs) (λ c. search needs) (λ c. search needs)  -- add-put-bytes, sub-put-bytes, part-put-bytes-start
     (λ c. search needs) (λ c κs. search needs) (λ c. search needs)  -- part-put-bytes-end, put-bytes-requires, same-length
-    (λ c.
-    let start : tie.Start = search in
-    let a = start .args in
-    lent-bytes (a .buf .now) _ (a .from .now) (a .at)
-    (a .at + length (a .from .now)) (c .before .before .put-bytes .ensures) (omega arith)
-    (omega (arith, start .pre))))  -- returns
+    (λ c. search bytes-back))  -- returns

@@ -1,8 +1,7 @@
 -- `writer_buffer::put_u32` meets its contract. Assumes nothing.
-use Prim.Native.Nat.{_+_}
 use native.Mathlib.Omega.{arith}
 use borrow.Author.Needs.{needs}
-use Rattle.writer_buffer.proofs.Stores.{lent-integer, not-there, integer-there}
+use Rattle.writer_buffer.proofs.Stores.{not-there, integer-there}
 use Rattle.writer_buffer.proofs.put_u32.Statement.{statement}
 use Rattle.writer_buffer.proofs.put_u32.Tie as tie
 
@@ -22,6 +21,4 @@ put-u32-spec =
     let start : tie.Start = search in
     let a = start .args in
     integer-there (a .buf .now) (a .at) (a .value)
-    (omega (arith, else2 .if2 .left, else1 .if1 .left)) _
-    (lent-integer (a .buf .now) _ (a .at) (a .at + 4) (a .value) (c .before .before .put-integer .ensures) (omega arith)
-    (omega (arith, else2 .if2 .left, else1 .if1 .left)))))  -- returns-3
+    (omega (arith, else2 .if2 .left, else1 .if1 .left)) _ (c .before .before .put-integer .ensures)))  -- returns-3

@@ -1,6 +1,6 @@
 -- `writer::Writer::close` meets its contract. Assumes nothing.
 use borrow.Author.Needs.{needs}
-use Rattle.writer.proofs.Methods.{close-not, close-small, close-short, close-barred, close-is}
+use Rattle.writer.proofs.Methods.{close-not, close-small, close-short, close-refused, close-is}
 use Rattle.writer.proofs.Writer.close.Statement.{statement}
 use Rattle.writer.proofs.Writer.close.Tie as tie
 
@@ -13,7 +13,7 @@ close-spec =
     (λ c κs. search needs) (λ c. search needs) (λ c κs. search needs)  -- not-due-requires-3, enum-known-least, no-room-requires
     (λ c. search close-short)  -- returns
     (λ c κs. search needs) (λ c. search needs) (λ c κs. search needs)  -- list-rules-requires, enum-known-refusal, refused-requires
-    (λ c. search close-barred)  -- returns-2
+    (λ c. search close-refused)  -- returns-2
     (λ c. search needs) (λ c. search needs) (λ c. search needs)  -- enum-told-4, array-share-prefix-none, slice-aggregate-put-segment
     (λ c. search needs) (λ c. search needs)  -- array-share-prefix-nothing, slice-aggregate-put-segment-2
     (λ c κs. search close-small)  -- put-segment-requires

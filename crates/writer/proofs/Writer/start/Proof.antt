@@ -4,7 +4,7 @@ use mathlib.Core.Path.{_≡_}
 use native.Mathlib.Omega.{arith}
 use lib.ListN.{length}
 use borrow.Author.Needs.{needs}
-use Rattle.writer.proofs.Methods.{start-not, start-short, start-barred, start-is}
+use Rattle.writer.proofs.Methods.{start-not, start-short, start-refused, start-is}
 use Rattle.writer.proofs.Writer.start.Statement.{statement}
 use Rattle.writer.proofs.Writer.start.Tie as tie
 
@@ -19,7 +19,7 @@ start-spec =
     (λ c κs. search needs) (λ c. search needs) (λ c κs. search needs)  -- type-rules-requires, enum-known-refusal, refused-requires
     (λ c.
     let start : tie.Start = search in
-    search (start-barred, start .good))  -- returns-3
+    search (start-refused, start .good))  -- returns-3
     (λ c. search needs) (λ c. search needs) (λ c. search needs)  -- enum-told, slice-aggregate-put-integer, mul-put-integer
     (λ c. search needs) (λ c κs. search needs) (λ c. search needs)  -- add-put-integer, put-integer-requires, slice-aggregate-settle
     (λ c. search needs) (λ c κs. search needs) (λ c. search needs)  -- slice-aggregate-settle-2, settle-requires, same-length

@@ -1,8 +1,8 @@
 -- `writer_rules::elements::operation_rules` meets its contract. Assumes nothing.
 use borrow.Author.Needs.{needs}
-use Rattle.wire.proofs.Reading.{tests}
-use Rattle.element.proofs.Reading.{on-operation, on-operation-refused}
+use Rattle.element.specs.Operations.{operation}
 use Rattle.writer_rules.specs.Judged.{judged}
+use Rattle.writer_rules.proofs.States.{read-judged}
 use Rattle.writer_rules.proofs.elements.operation_rules.Statement.{statement}
 use Rattle.writer_rules.proofs.elements.operation_rules.Tie as tie
 
@@ -11,9 +11,7 @@ unfolding judged
 operation-rules-spec =
     tie.close
     (tie.spec
-    (λ c κs. search needs) (λ c. search needs) (λ c κs. search needs)  -- operation-at-requires, enum-known-refusal, without-place-requires
-    (λ c. search needs)  -- enum-known-end
-    (λ c. search (on-operation, on-operation-refused, tests) depth 10)  -- returns
-    (λ c κs. search needs)  -- refuse-step-requires
-    (λ c. search (on-operation, on-operation-refused, tests) depth 10)  -- returns-2
-    (λ c. search (on-operation, on-operation-refused, tests) depth 10))  -- returns-3
+    (λ c κs. search needs) (λ c κs. search needs)  -- operation-at-requires, all-read-requires
+    (λ c.
+    let start : tie.Start = search in
+    read-judged operation (start .args .bytes .now) 0 _ (c .before .operation-at .ensures) _ (c .all-read .ensures)))  -- returns

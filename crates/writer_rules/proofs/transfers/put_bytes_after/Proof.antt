@@ -1,9 +1,6 @@
 -- `writer_rules::transfers::put_bytes_after` meets its contract. Assumes nothing.
-use mathlib.Core.Path.{refl}
-use native.Mathlib.Omega.{arith}
-use lib.ListN.{length}
 use borrow.Author.Needs.{needs}
-use Rattle.writer_rules.proofs.Heads.{bytes-behind}
+use Rattle.writer_rules.proofs.Heads.{bytes-after}
 use Rattle.writer_rules.proofs.transfers.put_bytes_after.Statement.{statement}
 use Rattle.writer_rules.proofs.transfers.put_bytes_after.Tie as tie
 
@@ -13,8 +10,4 @@ put-bytes-after-spec =
     (tie.spec
     (λ c. search needs) (λ c. search needs) (λ c. search needs)  -- add-put-bytes, sub-put-bytes, part-put-bytes-start
     (λ c. search needs) (λ c κs. search needs) (λ c. search needs)  -- part-put-bytes-end, put-bytes-requires, same-length
-    (λ c.
-    let start : tie.Start = search in
-    let a = start .args in
-    bytes-behind (a .room .now) _ _ (a .at) (length (a .from .now)) (omega arith)
-    (a .from .now) refl (c .before .before .put-bytes .ensures)))  -- returns
+    (λ c. search bytes-after))  -- returns

@@ -1,7 +1,6 @@
 -- `writer_rules::transfers::put_integer_after` meets its contract. Assumes nothing.
-use native.Mathlib.Omega.{arith}
 use borrow.Author.Needs.{needs}
-use Rattle.writer_rules.proofs.Heads.{integer-behind}
+use Rattle.writer_rules.proofs.Heads.{integer-after}
 use Rattle.writer_rules.proofs.transfers.put_integer_after.Statement.{statement}
 use Rattle.writer_rules.proofs.transfers.put_integer_after.Tie as tie
 
@@ -11,8 +10,4 @@ put-integer-after-spec =
     (tie.spec
     (λ c. search needs) (λ c. search needs) (λ c. search needs)  -- add-put-integer, sub-put-integer, part-put-integer-start
     (λ c. search needs) (λ c κs. search needs) (λ c. search needs)  -- part-put-integer-end, put-integer-requires, same-length
-    (λ c.
-    let start : tie.Start = search in
-    let a = start .args in
-    integer-behind (a .room .now) _ _ (a .at) (a .width) (omega arith) (a .value)
-    (c .before .before .put-integer .ensures)))  -- returns
+    (λ c. search integer-after))  -- returns

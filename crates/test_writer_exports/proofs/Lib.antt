@@ -1,2 +1,0 @@
--- Laws of the answers to a test of the writer
-pub mod Telling

@@ -1,2 +1,0 @@
--- The answers to a test of the writer
-pub mod Told

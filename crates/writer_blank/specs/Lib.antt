@@ -1,2 +1,0 @@
--- The blank credentials that end a transaction
-pub mod Closing
