@@ -4,6 +4,7 @@ pub mod damage;
 pub mod drafts;
 pub mod random;
 pub mod request;
+pub mod uploads;
 pub mod valid;
 
 pub use random::Random;

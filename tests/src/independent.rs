@@ -3,9 +3,9 @@
 use crate::cursor::List;
 use crate::element::{self, Credential, Output, Owners, Receivers};
 use crate::lines::{Answer, Answers, EntryFields, Field, Step};
-use crate::refusal::Refusal;
+use crate::refusal::{Number, Refusal};
 use crate::transaction::{check, Entry};
-use crate::{draft, entries, phone, writer};
+use crate::{draft, entries, phone, upload, writer};
 
 /// Answers with this library.
 pub struct Independent;
@@ -23,6 +23,7 @@ impl From<Result<usize, Refusal>> for Answer {
 
 impl Answers for Independent {
     type Writer = writer::Writer;
+    type Upload = upload::Upload;
 
     fn check(&self, bytes: &[u8]) -> Option<Answer> {
         Some(check(bytes).map(|transaction| transaction.length).into())
@@ -68,6 +69,21 @@ impl Answers for Independent {
         step: &Step,
     ) -> Option<Answer> {
         Some(make_step(writer, buffer, step).into())
+    }
+
+    fn piece(
+        &self,
+        upload: &mut upload::Upload,
+        store: &mut [u8],
+        piece: &[u8],
+    ) -> Option<Answer> {
+        // A piece that is not refused is shown as 2, need more.
+        let needed = |()| Refusal::placeless(Number::CutShort);
+        Some(Err(upload.piece(store, piece).map_or_else(|refusal| refusal, needed)).into())
+    }
+
+    fn end(&self, upload: &upload::Upload, store: &[u8]) -> Option<Answer> {
+        Some(upload.end(store).into())
     }
 }
 

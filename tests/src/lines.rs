@@ -73,6 +73,8 @@ pub struct Call {
 pub trait Answers {
     /// The writer's state before its first step is the default.
     type Writer: Default;
+    /// The state of an upload, whose fresh start is the default.
+    type Upload: Default;
 
     /// Checks with no table lent.
     fn check(&self, bytes: &[u8]) -> Option<Answer> {
@@ -109,6 +111,19 @@ pub trait Answers {
         buffer: &mut [u8],
         step: &Step,
     ) -> Option<Answer> {
+        None
+    }
+    /// Uploads one piece into the lent store.
+    fn piece(
+        &self,
+        upload: &mut Self::Upload,
+        store: &mut [u8],
+        piece: &[u8],
+    ) -> Option<Answer> {
+        None
+    }
+    /// Ends an upload over the lent store.
+    fn end(&self, upload: &Self::Upload, store: &[u8]) -> Option<Answer> {
         None
     }
 }
@@ -154,6 +169,7 @@ pub fn answer<A: Answers>(answers: &A, line: &str) -> Option<String> {
             shown_with(answer, &output)
         }
         ["write", length, ref steps @ ..] => write_line(answers, lent_room(length)?, steps),
+        ["upload", store, ref pieces @ ..] => upload_line(answers, lent_room(store)?, pieces),
         _ => None,
     }
 }
@@ -204,6 +220,21 @@ fn write_line<A: Answers>(answers: &A, length: usize, steps: &[&str]) -> Option<
         write!(line, "{answer} ").ok()?;
     }
     Some(format!("{line}{}", Hex(&buffer)))
+}
+
+fn upload_line<A: Answers>(answers: &A, length: usize, pieces: &[&str]) -> Option<String> {
+    let pieces: Option<Vec<Vec<u8>>> = pieces.iter().map(|piece| unhex(piece)).collect();
+    let mut store = vec![LENT; length];
+    let mut upload = A::Upload::default();
+    let mut line = String::new();
+    for piece in pieces? {
+        let Some(answer) = answers.piece(&mut upload, &mut store, &piece) else {
+            return Some(NOT_YET.into());
+        };
+        write!(line, "{answer} ").ok()?;
+    }
+    let end = answers.end(&upload, &store);
+    shown_with(end.map(|end| format!("{line}{end}")), &store)
 }
 
 /// Reads one writer's step: `CALL:ARG:ARG..`, with `@N` behind CALL where only the first

@@ -51,6 +51,12 @@ fn malformed_requests() {
         "write 5 memo",
         "write 5 denomination:256",
         "write 5 operation:0",
+        "upload",
+        "upload -",
+        "upload 5 0",
+        "upload 5 AA",
+        "upload 5 ",
+        "upload 99999999999",
         "edition",
     ];
     for request in bad {
@@ -69,6 +75,10 @@ fn answers_show_the_whole_buffer() {
     assert_eq!(asked("fill - 0 -"), Some("17 0 -".into()));
     assert_eq!(asked("write 3"), Some("a5a5a5".into()));
     assert_eq!(asked("write 0 close"), Some("16 0 -".into()));
+    assert_eq!(asked("upload 2"), Some("2 0 a5a5".into()));
+    assert_eq!(asked("upload 0 - 00 -"), Some("2 0 14 0 14 0 14 0 -".into()));
+    assert_eq!(asked("upload 3 00 - 01 00"), Some("2 0 2 0 3 0 3 0 3 0 00a5a5".into()));
+    assert_eq!(asked(&format!("upload 393 {a}")), Some(format!("2 0 0 392 {a}a5")));
     assert_eq!(asked(&format!("check {a} 8")), Some("14 0 0 kept".into()));
 }
 
@@ -116,6 +126,21 @@ fn random_requests_meet_every_number() {
     assert!(numbers(Kind::Entry, 3000).contains(&15));
     assert_eq!(numbers(Kind::Fill, 1000), [0, 15, 17, 20, 21].into());
     assert_eq!(numbers(Kind::Merge, 1000), [0, 14, 17, 18, 19, 20].into());
+}
+
+#[test]
+fn random_uploads_meet_every_number() {
+    let (mut pieces, mut ends) = (BTreeSet::new(), BTreeSet::new());
+    for request in Requests::new(4, vec![Kind::Upload]).take(6000) {
+        let answer = asked(&request).expect("a request");
+        let words: Vec<&str> = answer.split(' ').collect();
+        let mut met =
+            words.chunks_exact(2).map(|pair| pair[0].parse::<u32>().expect("a number"));
+        ends.extend(met.next_back());
+        pieces.extend(met);
+    }
+    assert_eq!(pieces, (1..=14).collect());
+    assert_eq!(ends, (0..=14).collect());
 }
 
 #[test]

@@ -16,6 +16,7 @@ pub struct Proved;
 
 impl Answers for Proved {
     type Writer = steps::Writer;
+    type Upload = ();
 
     fn check(&self, bytes: &[u8]) -> Option<Answer> {
         Some(unpacked(library::check(bytes)))

@@ -190,6 +190,7 @@ struct Nothing;
 
 impl Answers for Nothing {
     type Writer = ();
+    type Upload = ();
 }
 
 #[test]

@@ -4,6 +4,7 @@ use std::collections::VecDeque;
 
 use super::damage::damaged;
 use super::drafts::{copies, draft, places, Grouping};
+use super::uploads::{near_limit, Cutting};
 use super::valid::{of_length, signature, small_transaction, transaction};
 use super::Random;
 use crate::draft::merge;
@@ -28,11 +29,12 @@ pub enum Kind {
     PhoneCheck,
     PhoneMerge,
     Write,
+    Upload,
 }
 
 impl Kind {
     /// All kinds with their names.
-    pub const ALL: [(&'static str, Kind); 9] = [
+    pub const ALL: [(&'static str, Kind); 10] = [
         ("check", Kind::Check),
         ("check-none", Kind::CheckNone),
         ("entry", Kind::Entry),
@@ -42,6 +44,7 @@ impl Kind {
         ("phone-check", Kind::PhoneCheck),
         ("phone-merge", Kind::PhoneMerge),
         ("write", Kind::Write),
+        ("upload", Kind::Upload),
     ];
 
     /// The kind of this name.
@@ -91,6 +94,7 @@ fn request(random: &mut Random, kind: Kind) -> String {
         Kind::Phone | Kind::PhoneCheck => format!("phone-check {}", Hex(&bytes(random))),
         Kind::PhoneMerge => merge_request(random, "phone-merge"),
         Kind::Write => write_request(random),
+        Kind::Upload => upload_request(random),
     }
 }
 
@@ -229,6 +233,11 @@ fn write_request(random: &mut Random) -> String {
     }
     let calls: Vec<String> = calls.iter().map(Call::to_string).collect();
     format!("write {length} {}", calls.join(" "))
+}
+
+fn upload_request(random: &mut Random) -> String {
+    let bytes = if random.once_in(150) { near_limit(random) } else { bytes(random) };
+    Cutting::of(random, &bytes).to_string()
 }
 
 /// The bytes written behind each call.
