@@ -16,7 +16,7 @@ pub struct Proved;
 
 impl Answers for Proved {
     type Writer = steps::Writer;
-    type Upload = ();
+    type Upload = library::UploadState;
 
     fn check(&self, bytes: &[u8]) -> Option<Answer> {
         Some(unpacked(library::check(bytes)))
@@ -56,6 +56,19 @@ impl Answers for Proved {
         step: &Step,
     ) -> Option<Answer> {
         Some(writer.step(buffer, step))
+    }
+
+    fn piece(
+        &self,
+        upload: &mut library::UploadState,
+        store: &mut [u8],
+        piece: &[u8],
+    ) -> Option<Answer> {
+        Some(unpacked(library::upload_piece(upload, store, piece)))
+    }
+
+    fn end(&self, upload: &library::UploadState, store: &[u8]) -> Option<Answer> {
+        Some(unpacked(library::upload_end(upload, store)))
     }
 }
 

@@ -1,7 +1,13 @@
-//! The functions of the static libraries: of `phone`, as `include/cellfacet.h` has them, and
-//! of `test_exports`, which is there for tests.
+//! The functions of the static libraries: of `phone`, as `include/cellfacet.h` has them, the
+//! upload of `operator`, and those of `test_exports`, which is there for tests.
+
+/// An upload's state: how many bytes are stored, and the standing refusal as number × 2^32 +
+/// place, 0 where none stands. A fresh start is two zeros.
+pub type UploadState = [u64; 2];
 
 mod c {
+    use super::UploadState;
+
     extern "C" {
         pub fn cellfacet_check(bytes: *const u8, length: usize) -> u64;
         pub fn cellfacet_merge(
@@ -11,6 +17,18 @@ mod c {
             second_length: usize,
             output: *mut u8,
             room: usize,
+        ) -> u64;
+        pub fn cellfacet_upload_piece(
+            state: &mut UploadState,
+            store: *mut u8,
+            store_length: usize,
+            piece: *const u8,
+            piece_length: usize,
+        ) -> u64;
+        pub fn cellfacet_upload_end(
+            state: &UploadState,
+            store: *const u8,
+            store_length: usize,
         ) -> u64;
         pub fn cellfacet_test_fill(
             draft: *mut u8,
@@ -62,6 +80,22 @@ pub fn merge(first: &[u8], second: &[u8], output: &mut [u8]) -> u64 {
             room,
         )
     }
+}
+
+/// Uploads one piece into the lent store: number × 2^32 + place.
+pub fn upload_piece(state: &mut UploadState, store: &mut [u8], piece: &[u8]) -> u64 {
+    let (store, room) = (store.as_mut_ptr(), store.len());
+    // SAFETY: the pointers and the lengths are those of slices, of which the store is borrowed
+    // mutably, as the state is, so that neither overlaps another; the function asks for
+    // nothing else.
+    unsafe { c::cellfacet_upload_piece(state, store, room, piece.as_ptr(), piece.len()) }
+}
+
+/// Ends an upload over the lent store: number × 2^32 + place.
+pub fn upload_end(state: &UploadState, store: &[u8]) -> u64 {
+    // SAFETY: the pointer and the length are those of a slice, which nothing writes to while
+    // it is borrowed, as the state is; the function asks for nothing else.
+    unsafe { c::cellfacet_upload_end(state, store.as_ptr(), store.len()) }
 }
 
 /// Fills a slot of the lent draft: number and place.

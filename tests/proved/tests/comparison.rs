@@ -177,11 +177,11 @@ fn no_room_for_an_entry() {
 
 #[test]
 fn every_call_is_answered() {
-    let input =
-        b"check - none\ncheck - 0\nentry - 0\nfill - 0 -\nmerge - - 0\nwrite 0 finish\nfoo\n";
+    let input = b"check - none\ncheck - 0\nentry - 0\nfill - 0 -\nmerge - - 0\n\
+        write 0 finish\nupload 0 -\nfoo\n";
     let mut output = Vec::new();
     serve(&Proved, &input[..], &mut output).expect("no failing write");
-    let lines = "2 0\n2 0 0 kept\n2 0\n17 0 -\n17 0 -\n16 0 -\nbad request\n";
+    let lines = "2 0\n2 0 0 kept\n2 0\n17 0 -\n17 0 -\n16 0 -\n2 0 2 0 -\nbad request\n";
     assert_eq!(String::from_utf8(output).expect("text"), lines);
 }
 
