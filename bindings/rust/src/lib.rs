@@ -1,4 +1,4 @@
-//! Signed AVM (X-Chain) transactions, checked, listed and merged by proved code.
+//! Signed AVM (X-Chain) transactions, checked, listed, merged and uploaded by proved code.
 //!
 //! The functions are those of Cellfacet's static libraries, over slices. Any bytes may be
 //! passed to any of them: each returns, stays inside the slices, answers as the format's
@@ -22,11 +22,15 @@
 //! assert_eq!(&out[..length], signed);
 //! # Ok::<(), cellfacet::Refusal>(())
 //! ```
+//!
+//! A draft that arrives in pieces is joined and judged by an [`Upload`].
 
 mod library;
 mod refusal;
+mod upload;
 
 pub use refusal::{Reason, Refusal};
+pub use upload::Upload;
 
 /// The most bytes that a transaction may have.
 pub const MOST_BYTES: usize = 65_536;

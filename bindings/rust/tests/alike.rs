@@ -150,6 +150,47 @@ fn random_merges() {
 }
 
 #[test]
+fn random_uploads() {
+    let (mut met, mut ends) = (BTreeSet::new(), BTreeSet::new());
+    for request in Requests::new(SEED, vec![Kind::Upload]).take(4 * COUNT) {
+        let mut words = request.split(' ').skip(1);
+        let room: usize = words.next().and_then(|room| room.parse().ok()).expect("a number");
+        let (mut store, mut buffer) = (vec![0xa5; room], vec![0xa5; room]);
+        let mut upload = cellfacet::Upload::new(&mut store);
+        let mut independent = cellfacet_tests::Upload::new();
+        for piece in words.map(|word| unhex(word).expect("hex")) {
+            let answer = shown(upload.piece(&piece).map(|()| 0));
+            let piece = independent.piece(&mut buffer, &piece).map(|()| 0);
+            assert_eq!(answer, expected(piece), "{request}");
+            met.insert(answer.0);
+        }
+        let end = shown(upload.end());
+        assert_eq!(end, expected(independent.end(&buffer)), "{request}");
+        assert_eq!(store, buffer, "{request}");
+        ends.insert(end.0);
+    }
+    // Need more is no refusal of a piece; an end is refused as cut short at times.
+    assert_eq!(met, (0..=14).filter(|number| *number != 2).collect());
+    assert_eq!(ends, (0..=14).collect());
+}
+
+/// A refusal ends with its upload: over the same store a new one is fresh.
+#[test]
+fn a_fresh_start() {
+    let signed = include_bytes!("../../../tests/data/case-a.tx");
+    let mut store = [7; 392];
+    let mut upload = cellfacet::Upload::new(&mut store);
+    assert_eq!(shown(upload.piece(&[1; 393]).map(|()| 0)), (14, 0));
+    assert_eq!(shown(upload.piece(&[]).map(|()| 0)), (14, 0));
+    assert_eq!(shown(upload.end()), (14, 0));
+    let mut upload = cellfacet::Upload::new(&mut store);
+    assert_eq!(shown(upload.end()), (2, 0));
+    assert_eq!(upload.piece(signed), Ok(()));
+    assert_eq!(upload.end(), Ok(392));
+    assert_eq!(&store, signed);
+}
+
+#[test]
 fn numbers_of_the_header() {
     let header = include_str!("../../../include/cellfacet.h");
     assert!(Reason::ALL.windows(2).all(|pair| pair[0].number() < pair[1].number()));
