@@ -1,6 +1,7 @@
-//! Times the proved code against the independent program, and against a copy of the same bytes.
+//! Times the proved code against the independent program, and against a copy of the same bytes;
+//! uploads against one check of the whole.
 //!
-//! `cellfacet-bench` prints a table; `cellfacet-bench --once` does each thing once and times
+//! `cellfacet-bench` prints two tables; `cellfacet-bench --once` does each thing once and times
 //! nothing, for a profiler and the gate.
 
 mod sample;
@@ -9,8 +10,13 @@ mod work;
 
 use std::process::ExitCode;
 
+use cellfacet_tests::transaction::BASE;
+
 use sample::{samples, with_200_slots, Order, Sample, FULL};
-use work::{checked, filled, merged, written, Work};
+use work::{checked, filled, merged, uploaded, written, Work};
+
+/// The numbers of pieces in which a transaction is uploaded.
+const PIECES: [usize; 3] = [1, 16, 256];
 
 /// Every sample is checked; the full ones are written, filled and merged too, and those with 200
 /// slots are merged.
@@ -21,8 +27,16 @@ fn works<'a>(samples: &'a [Sample], drafts: &'a [Sample]) -> Vec<Work<'a>> {
     checks.chain(full().filter_map(filled)).chain(merges).collect()
 }
 
-fn print(works: Vec<Work>) {
-    println!("| call | type | bytes | lists | proved, ns | to independent | to a copy |");
+/// The full transactions of type 0, in pieces.
+fn uploads(samples: &[Sample]) -> Vec<Work<'_>> {
+    let of_base = |sample: &&Sample| sample.type_id == BASE && sample.length == FULL;
+    let uploads = |sample| PIECES.map(|count| uploaded(sample, count));
+    samples.iter().filter(of_base).flat_map(uploads).collect()
+}
+
+/// A table whose last column is the ratio to `other`.
+fn print(other: &str, works: Vec<Work>) {
+    println!("| call | type | bytes | lists | proved, ns | to independent | to {other} |");
     println!("|---|---|---|---|---|---|---|");
     for Work { call, sample, runs } in works {
         let (proved, ratios) = time::measured(runs);
@@ -43,9 +57,11 @@ fn main() -> ExitCode {
     };
     let (samples, drafts) = (samples(), [Order::Early, Order::Late].map(with_200_slots));
     // What is timed is done once here, and both programs must do it alike.
-    let works = works(&samples, &drafts);
+    let (works, uploads) = (works(&samples, &drafts), uploads(&samples));
     if !once {
-        print(works);
+        print("a copy", works);
+        println!();
+        print("one check", uploads);
     }
     ExitCode::SUCCESS
 }

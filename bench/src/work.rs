@@ -1,5 +1,5 @@
 //! What is timed: each call by the proved code, by the independent program, and a plain copy of
-//! as many bytes.
+//! as many bytes; of an upload, one check of the whole in the copy's stead.
 
 use std::hint::black_box;
 
@@ -7,7 +7,7 @@ use cellfacet_proved::{library, steps, Proved};
 use cellfacet_tests::element::SIGNATURE;
 use cellfacet_tests::generate::drafts::places;
 use cellfacet_tests::independent::{make_step, Independent};
-use cellfacet_tests::lines::Answers;
+use cellfacet_tests::lines::{Answer, Answers};
 use cellfacet_tests::phone;
 use cellfacet_tests::script::script;
 
@@ -17,10 +17,10 @@ use crate::time::Run;
 /// A line of the table.
 pub struct Work<'a> {
     /// The call's name.
-    pub call: &'static str,
+    pub call: String,
     /// What it is made of.
     pub sample: &'a Sample,
-    /// Proved, independent, copy.
+    /// Proved, independent, and what else it is compared with.
     pub runs: [Run<'a>; 3],
 }
 
@@ -30,17 +30,20 @@ fn copy(bytes: &[u8]) -> Run<'_> {
     Box::new(move || black_box(&mut buffer).copy_from_slice(black_box(bytes)))
 }
 
-/// Checks the transaction, which both accept, so that the whole of it is read.
-pub fn checked(sample: &Sample) -> Work<'_> {
+/// Checks the transaction, which is accepted, so that the whole of it is read.
+fn check(check: fn(&[u8]) -> u64, sample: &Sample) -> Run<'_> {
     let bytes = &sample.bytes[..];
-    let check = |check: fn(&[u8]) -> u64| -> Run {
-        assert_eq!(check(bytes), bytes.len() as u64, "not accepted: {sample}");
-        Box::new(move || {
-            black_box(check(black_box(bytes)));
-        })
-    };
-    let runs = [check(library::check), check(phone::check), copy(bytes)];
-    Work { call: "check", sample, runs }
+    assert_eq!(check(bytes), bytes.len() as u64, "not accepted: {sample}");
+    Box::new(move || {
+        black_box(check(black_box(bytes)));
+    })
+}
+
+/// Checks the transaction.
+pub fn checked(sample: &Sample) -> Work<'_> {
+    let runs =
+        [check(library::check, sample), check(phone::check, sample), copy(&sample.bytes)];
+    Work { call: "check".into(), sample, runs }
 }
 
 /// Writes the transaction step by step, from the start to the blank credentials. Both give the
@@ -71,7 +74,7 @@ pub fn written(sample: &Sample) -> Work<'_> {
         Box::new(move || independent(&mut second)),
         copy(&sample.bytes),
     ];
-    Work { call: "write", sample, runs }
+    Work { call: "write".into(), sample, runs }
 }
 
 /// A draft whose last slot is empty, and that slot's number and place; none without slots.
@@ -92,7 +95,7 @@ pub fn filled(sample: &Sample) -> Option<Work<'_>> {
         fill(Independent, draft, slot, place, sample, signature),
         copy(&sample.bytes),
     ];
-    Some(Work { call: "fill", sample, runs })
+    Some(Work { call: "fill".into(), sample, runs })
 }
 
 fn fill<'a>(
@@ -119,7 +122,7 @@ pub fn merged(sample: &Sample) -> Work<'_> {
         merge(Independent, drafts(), sample),
         copy(&sample.bytes),
     ];
-    Work { call: "merge", sample, runs }
+    Work { call: "merge".into(), sample, runs }
 }
 
 fn every_other_emptied(bytes: &[u8], first: usize) -> Vec<u8> {
@@ -139,4 +142,42 @@ fn merge<'a>(answers: impl Answers + 'a, drafts: [Vec<u8>; 2], sample: &Sample) 
         let output = black_box(&mut output);
         black_box(answers.merge(black_box(&first), black_box(&second), output));
     })
+}
+
+/// Uploads the transaction in `count` pieces, and ends; against one check of the whole.
+pub fn uploaded(sample: &Sample, count: usize) -> Work<'_> {
+    let runs = [
+        upload(Proved, count, sample),
+        upload(Independent, count, sample),
+        check(library::check, sample),
+    ];
+    Work { call: format!("upload, pieces: {count}"), sample, runs }
+}
+
+/// The answer to a piece that is not refused.
+const NEED_MORE: Answer = Answer { number: 2, place: 0 };
+
+fn upload<'a>(answers: impl Answers + 'a, count: usize, sample: &'a Sample) -> Run<'a> {
+    let bytes = &sample.bytes[..];
+    let pieces: Vec<&[u8]> = bytes.chunks(bytes.len().div_ceil(count)).collect();
+    assert_eq!(pieces.len(), count, "cut differently: {sample}");
+    let mut store = vec![0; bytes.len()];
+    let end = hand_over(&answers, &pieces, &mut store);
+    let accepted = Answer { number: 0, place: bytes.len() as u64 };
+    assert!(end == Some(accepted) && store == bytes, "uploaded differently: {sample}");
+    Box::new(move || {
+        black_box(hand_over(&answers, black_box(&pieces), black_box(&mut store)));
+    })
+}
+
+/// The end's answer after all pieces, or that of the first piece that is refused.
+fn hand_over<A: Answers>(answers: &A, pieces: &[&[u8]], store: &mut [u8]) -> Option<Answer> {
+    let mut upload = A::Upload::default();
+    for piece in pieces {
+        let answer = answers.piece(&mut upload, store, piece)?;
+        if answer != NEED_MORE {
+            return Some(answer);
+        }
+    }
+    answers.end(&upload, store)
 }
