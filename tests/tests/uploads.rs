@@ -185,7 +185,7 @@ fn a_piece_is_answered_as_the_bytes_joined_so_far() {
 #[test]
 fn an_end_changes_nothing() {
     let a = case_a();
-    let mut run = Run::new(392);
+    let mut run = Run::new(393);
     run.piece(&a[..100]);
     let before = (run.upload, run.store.clone());
     assert_eq!((run.end(), run.end()), ("2 98".into(), "2 98".into()));
@@ -193,8 +193,8 @@ fn an_end_changes_nothing() {
     // Its 2 does not stand: the next piece goes on.
     assert_eq!(run.piece(&a[100..]), "2 0");
     assert_eq!((run.end(), run.end()), ("0 392".into(), "0 392".into()));
-    // And neither does its 0: a byte more is refused.
-    assert_eq!(run.piece(&[]), "2 0");
+    // Nor does its 0: a byte more is refused. Without a piece, the check is of no bytes.
+    assert_eq!((run.piece(&[]), run.piece(&[0])), ("2 0".into(), "13 392".into()));
     assert_eq!(Run::new(1).end(), "2 0");
 }
 
