@@ -78,8 +78,8 @@ impl Answers for Independent {
         piece: &[u8],
     ) -> Option<Answer> {
         // A piece that is not refused is shown as 2, need more.
-        let needed = |()| Refusal::placeless(Number::CutShort);
-        Some(Err(upload.piece(store, piece).map_or_else(|refusal| refusal, needed)).into())
+        let need_more: Result<usize, Refusal> = Err(Refusal::placeless(Number::CutShort));
+        Some(upload.piece(store, piece).and(need_more).into())
     }
 
     fn end(&self, upload: &upload::Upload, store: &[u8]) -> Option<Answer> {
