@@ -121,7 +121,8 @@ impl<'a> Graph<'a> {
     }
 
     // The declarations at a path such as `Rattle.wire.specs.Bytes.value`; what stands behind the
-    // item, such as a constructor behind its type, is left.
+    // item, such as a constructor behind its type, is left. A file such as `specs/laws.antt` that
+    // declares no such item is passed by: the item may be in a file of the folder `specs/laws`.
     fn at<'b>(&self, path: impl Iterator<Item = &'b String>) -> Vec<Place<'a>> {
         let path: Vec<&str> = path.map(String::as_str).collect();
         let Some(name) = path[0].strip_prefix("Rattle·") else { return Vec::new() };
@@ -130,7 +131,10 @@ impl<'a> Graph<'a> {
             file = format!("{file}/{part}");
             let found = self.named.get_key_value(format!("{file}.antt").as_str());
             if let (Some((&file, _)), Some(item)) = (found, path.get(at + 1)) {
-                return self.declared(file, item);
+                let declared = self.declared(file, item);
+                if !declared.is_empty() {
+                    return declared;
+                }
             }
         }
         Vec::new()

@@ -12,6 +12,7 @@
 //!   definitions or proofs of another crate name.
 //! - `closed`: a `pub` definition of a `.antt` file that no root, no other file and no other `pub`
 //!   definition of its file names.
+//! - `layers`: an import of a file of `specs/code` in a file of `specs` that is not below it.
 //! - `links`: a relative link of a page that leads to no file, and a link to a `.antt` file named as
 //!   code that is not defined there.
 //!
@@ -23,6 +24,7 @@ pub mod dead;
 pub mod definitions;
 pub mod edits;
 pub mod imports;
+pub mod layers;
 pub mod links;
 pub mod rattle;
 pub mod scope;
@@ -55,11 +57,12 @@ pub struct Check {
 }
 
 /// All checks.
-pub const CHECKS: [Check; 6] = [
+pub const CHECKS: [Check; 7] = [
     Check { name: "imports", counted: "unused imports", findings: imports::findings },
     Check { name: "dead", counted: "dead definitions", findings: dead::findings },
     Check { name: "width", counted: "long lines", findings: width::findings },
     Check { name: "visibility", counted: "idle pub", findings: visibility::findings },
     Check { name: "closed", counted: "idle pub of definitions", findings: closed::findings },
+    Check { name: "layers", counted: "definitions over code", findings: layers::findings },
     Check { name: "links", counted: "bad links", findings: links::findings },
 ];

@@ -47,6 +47,22 @@ fn qualified_names_and_whole_paths() {
 }
 
 #[test]
+fn files_in_a_folder() {
+    let specs = [
+        ("crates/c/specs/Lib.antt", "pub mod laws\n"),
+        ("crates/c/specs/laws.antt", "pub mod L\n"),
+        ("crates/c/specs/laws/L.antt", "pub law : T\nlaw = x\n\npub far : T\nfar = x\n"),
+    ];
+    let by = |import: &str, text: &str| {
+        let proof = format!("{import}\n\npub f-spec : T\nf-spec = {text}\n");
+        names(&[&specs[..], &[("crates/d/proofs/f/Proof.antt", &proof)]].concat())
+    };
+    assert_eq!(by("use Rattle.c.specs.laws.L.{law}", "law"), ["far"]);
+    assert_eq!(by("use Rattle.c.specs.laws.L as L", "L.far"), ["law"]);
+    assert_eq!(by("use Rattle.c.specs.laws.M.{law}", "law"), ["law", "far"]);
+}
+
+#[test]
 fn operators_and_constructors() {
     let kinds = "pub data Kind : Type 0 where\n  one : Kind\n\npub _⊕_ : T\na ⊕ b = a\n\npub record R : Type 0 where\n  pub one : T\n";
     let specs = ("crates/c/specs/K.antt", kinds);

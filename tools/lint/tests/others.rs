@@ -1,7 +1,7 @@
-//! Long lines, idle `pub` and bad links are found, and what is repaired is not.
+//! Long lines, idle `pub`, definitions over code and bad links are found, and what is repaired is not.
 
 use cellfacet_lint::tree::Tree;
-use cellfacet_lint::{closed, links, visibility, width, Finding};
+use cellfacet_lint::{closed, layers, links, visibility, width, Finding};
 
 fn whats(found: Vec<Finding>) -> Vec<String> {
     found.into_iter().map(|finding| format!("{}: {}", finding.line, finding.what)).collect()
@@ -83,6 +83,26 @@ fn definitions_that_only_their_file_uses() {
     );
     assert!(idle("low : T\nlow = x\n\nmid : low\nmid = low\n\npub g : T\ng = mid\n").is_empty());
     assert!(idle("pub low : T\nlow = x\n\npub g : low\ng = x\n").is_empty());
+}
+
+#[test]
+fn definitions_that_name_what_mirrors_code() {
+    let over = |file: &str, text: &str| whats(layers::findings(&Tree::of(&[(file, text)])));
+    let text = "use Rattle.a.specs.code.S.{f}\n\ng : T\ng = f\n";
+    for file in ["crates/c/specs/S.antt", "crates/c/specs/laws/S.antt"] {
+        assert_eq!(over(file, text), ["1: import f is of specs/code"]);
+    }
+    let own = "use Rattle.c.specs.code.S as S\n\ng : T\ng = S.f\n";
+    assert_eq!(over("crates/c/specs/S.antt", own), ["1: import S is of specs/code"]);
+    for file in ["crates/c/specs/code/T.antt", "crates/c/proofs/L.antt"] {
+        assert!(over(file, text).is_empty());
+    }
+    assert!(
+        over("crates/c/specs/S.antt", "use Rattle.a.specs.S.{f}\n\ng : T\ng = f\n").is_empty()
+    );
+    assert!(
+        over("crates/c/specs/S.antt", "use lib.specs.code.{f}\n\ng : T\ng = f\n").is_empty()
+    );
 }
 
 fn bad(text: &str) -> Vec<String> {
