@@ -13,11 +13,13 @@ use Rattle.wire.specs.declared.Integer.{Integer}
 use Rattle.wire.specs.declared.Integer.the-variants as N
 use Rattle.wire.specs.Bytes.{pick}
 use Rattle.wire.specs.Numbers.{by, emptyList}
-use Rattle.wire.specs.Format.{Format, took, refused, read, parse-inv, pick-inv, took-refused}
+use Rattle.wire.specs.Format.{Format, took, refused, read}
+use Rattle.wire.specs.laws.Format.{parse-inv, pick-inv, took-refused}
 use Rattle.wire.specs.Fields.{integer}
-use Rattle.wire.specs.Sequence.{andThen}
-use Rattle.wire.specs.Series.{items, listParse, left, seriesFrom}
-use Rattle.wire.specs.Answer.{valued}
+use Rattle.wire.specs.Sequence.{andThen, items}
+use Rattle.wire.specs.Series.{left, seriesFrom}
+use Rattle.wire.specs.Parsers.{listParse}
+use Rattle.wire.specs.code.Answer.{valued}
 use Rattle.wire.proofs.Bytes.{found}
 use Rattle.wire.proofs.Reading as W
 use Rattle.transaction.specs.Credentials.{CredentialType, credentialCode, Want}
@@ -28,7 +30,8 @@ use Rattle.transaction.specs.declared.ListName.{ListName}
 use Rattle.transaction.specs.declared.ListName.the-variants as L
 use Rattle.plan.specs.declared.Due.{Due}
 use Rattle.plan.specs.declared.Due.the-variants as D
-use Rattle.plan.specs.Due.{tail, due, lastPhase, Live, dueOf, credentialAsked, FieldPast, FieldSigns, ElementTells, ElementsPast, AskingTells}
+use Rattle.plan.specs.Due.{tail, due, dueOf}
+use Rattle.plan.specs.code.Rows.{lastPhase, Live, credentialAsked, FieldPast, FieldSigns, ElementTells, ElementsPast, AskingTells}
 use Rattle.plan.proofs.Passing.{FirstOf, first-of}
 use Rattle.plan.proofs.RowLaws.{live-phase, live-next, if-nothing, if-end, if-field, if-list}
 use Rattle.checker.specs.declared.Wanting.{Wanting}
@@ -36,7 +39,7 @@ use Rattle.checker.specs.declared.Begun.{Begun}
 use Rattle.checker.specs.declared.Begun.the-variants as B
 use Rattle.checker.specs.declared.Wanted.{Wanted}
 use Rattle.checker.specs.declared.Wanted.the-variants as X
-use Rattle.checker.specs.Wanted.{WantsFrom, WantsIn, BegunAs, Wants, ListBegins, Begins, BegunLive, ElementWants, NextWants}
+use Rattle.checker.specs.code.Wanted.{WantsFrom, WantsIn, BegunAs, Wants, ListBegins, Begins, BegunLive, ElementWants, NextWants}
 use Rattle.checker.proofs.Planning.{none-wanted, none-asked}
 
 -- ---- the credential that an element or a field asks for

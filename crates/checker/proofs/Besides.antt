@@ -11,9 +11,10 @@ use Rattle.wire.specs.declared.End.the-variants as Q
 use Rattle.wire.specs.declared.Integer.{Integer}
 use Rattle.wire.specs.declared.Integer.the-variants as N
 use Rattle.wire.specs.Numbers.{by, cutAt, wrongCount}
-use Rattle.wire.specs.Format.{took, read, parse-inv}
+use Rattle.wire.specs.Format.{took, read}
+use Rattle.wire.specs.laws.Format.{parse-inv}
 use Rattle.wire.specs.Fields.{integer, constant}
-use Rattle.wire.specs.Answer.{ended, valued}
+use Rattle.wire.specs.code.Answer.{ended, valued}
 use Rattle.wire.proofs.Bytes.{Slice}
 use Rattle.wire.proofs.Reading as W
 use Rattle.transaction.specs.Credentials as Credentials
@@ -22,7 +23,8 @@ use Rattle.transaction.specs.Plan.{Plan, plan, typeOf-id}
 use Rattle.transaction.specs.Form.{listOf, Value, form, elementAsks, asked, wanted}
 use Rattle.transaction.specs.Avm.{avm}
 use Rattle.transaction.specs.Family.{Head, head, Unsigned, unsigned, wants}
-use Rattle.transaction.specs.Answer.{layout, CredentialsAt}
+use Rattle.transaction.specs.Answer.{layout}
+use Rattle.transaction.specs.code.Answer.{CredentialsAt}
 use Rattle.transaction.specs.declared.TransactionType.{TransactionType}
 use Rattle.transaction.specs.declared.Layout.{Layout}
 use Rattle.transaction.specs.declared.ListName.the-variants as L
@@ -33,7 +35,7 @@ use Rattle.plan.specs.Due.{tail}
 use Rattle.checker.specs.declared.Wanting.{Wanting}
 use Rattle.checker.specs.declared.Wanted.{Wanted}
 use Rattle.checker.specs.declared.Wanted.the-variants as X
-use Rattle.checker.specs.Wanted.{Wants, First, Nexts, NextWants, Beside, firstWanting}
+use Rattle.checker.specs.code.Wanted.{Wants, First, Nexts, NextWants, Beside, firstWanting}
 use Rattle.checker.proofs.Planning.{none-asked}
 use Rattle.checker.proofs.Ahead.{front-of, list-over}
 
@@ -115,8 +117,8 @@ body most s b d v a k ha e =
     let f = front-of most (listOf L.Output 0) o s a v k e in
     let ws : asked (elementAsks L.Output) (v .0) ++ wanted o (v .1) ≡ wanted o (v .1) =
     ap (λ (l : List Want). l ++ wanted o (v .1)) (none-asked none (λ v. 0) 0 refl refl (v .0)) in
-    let others : f .others ≡ v .1 = cc in
-    let outs : f .between ≡ v .0 = cc in
+    let others : f .others ≡ v .1 = sym (ap (λ (w : Value (plan (d .type))). w .1) (f .all)) in
+    let outs : f .between ≡ v .0 = sym (ap (λ (w : Value (plan (d .type))). w .0) (f .all)) in
     let place : f .next ≡ length (head (avm most) .write d) + length (listOf L.Output 0 .write (v .0)) =
     written-next (listOf L.Output 0) s a (f .between) (f .next) b (f .first)
     ∙ ap₂ (λ (i : ℕ) (l : List _). i + length (listOf L.Output 0 .write l)) ha outs in

@@ -11,17 +11,18 @@ use Rattle.wire.specs.declared.End.{End}
 use Rattle.wire.specs.declared.End.the-variants as Q
 use Rattle.wire.specs.declared.Integer.{Integer}
 use Rattle.wire.specs.declared.Integer.the-variants as N
-use Rattle.wire.specs.Format.{Format, took, read, parse-alike}
+use Rattle.wire.specs.Format.{Format, took, read}
+use Rattle.wire.proofs.Format.{parse-alike}
 use Rattle.wire.specs.Sequence.{guard}
 use Rattle.wire.specs.Fields.{integer}
-use Rattle.wire.specs.Answer.{ended}
+use Rattle.wire.specs.code.Answer.{ended}
 use Rattle.wire.proofs.Bytes.{Slice, slice-bytes}
 use Rattle.wire.proofs.Reading as W
 use Rattle.element.proofs.Reading.{answer-took, on-whole, on-refused}
 use Rattle.transaction.specs.Credentials.{CredentialType, secpCredential, nftCredential, Want}
 use Rattle.transaction.specs.Plan.{contentOf, wantOf, fieldCredential, fieldSignatures, elementsOf, Plan, shut, end, field, many, planOf}
 use Rattle.transaction.specs.Form.{atLeast, listOf, form, fieldAsks, elementAsks, asked, wanted}
-use Rattle.transaction.specs.Answer.{listAt}
+use Rattle.transaction.specs.code.Answer.{listAt}
 use Rattle.transaction.specs.declared.FieldName.{FieldName}
 use Rattle.transaction.specs.declared.ListName.{ListName}
 use Rattle.transaction.specs.declared.Layout.{Layout}
@@ -30,11 +31,12 @@ use Rattle.transaction.specs.declared.UnsignedRead.the-variants as U
 use Rattle.transaction.proofs.Reading.{on-answered, on-answered-refused}
 use Rattle.plan.specs.declared.Due.{Due}
 use Rattle.plan.specs.declared.Due.the-variants as D
-use Rattle.plan.specs.Due.{tail, due, lastPhase, Live, dueOf, credentialAsked}
+use Rattle.plan.specs.Due.{tail, due, dueOf}
+use Rattle.plan.specs.code.Rows.{lastPhase, Live, credentialAsked}
 use Rattle.plan.proofs.RowLaws.{live-phase, live-next, if-nothing, if-end, if-field, if-list}
 use Rattle.checker.specs.declared.Passed.{Passed}
 use Rattle.checker.specs.declared.Passed.the-variants as P
-use Rattle.checker.specs.Segments.{passedAt, planAt}
+use Rattle.checker.specs.code.Segments.{passedAt, planAt}
 
 -- ---- how many credentials are asked for: one for each value, or none
 

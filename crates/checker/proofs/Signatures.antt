@@ -16,14 +16,16 @@ use Rattle.wire.specs.declared.Integer.{Integer}
 use Rattle.wire.specs.declared.Integer.the-variants as N
 use Rattle.wire.specs.Bytes.{pick}
 use Rattle.wire.specs.Numbers.{cutAt}
-use Rattle.wire.specs.Format.{took, refused, read, pick-inv, took-refused}
-use Rattle.wire.specs.Fields.{integer, blob, blobParse}
-use Rattle.wire.specs.Answer.{ended, valued}
+use Rattle.wire.specs.Format.{took, refused, read}
+use Rattle.wire.specs.laws.Format.{pick-inv, took-refused}
+use Rattle.wire.specs.Fields.{integer, blob}
+use Rattle.wire.specs.Parsers.{blobParse}
+use Rattle.wire.specs.code.Answer.{ended, valued}
 use Rattle.wire.proofs.Bytes.{Slice}
 use Rattle.wire.proofs.Reading.{next-took, next-refused, blob-has, blob-ends, value-small}
 use Rattle.transaction.specs.Slots.{signatureWidth}
 use Rattle.transaction.specs.Credentials.{signatures, pieces}
-use Rattle.checker.specs.Cut.{firstCut}
+use Rattle.checker.specs.code.Cut.{firstCut}
 
 -- ---- one after the other
 

@@ -11,7 +11,7 @@ use Rattle.wire.specs.declared.End.the-variants as Q
 use Rattle.wire.specs.declared.Integer.{Integer}
 use Rattle.wire.specs.declared.Integer.the-variants as N
 use Rattle.wire.specs.Format.{Format, Result, took, refused, onResult, read}
-use Rattle.wire.specs.Answer.{ended}
+use Rattle.wire.specs.code.Answer.{ended}
 use Rattle.wire.proofs.Bytes.{Slice}
 use Rattle.wire.proofs.Reading as W
 use Rattle.element.proofs.Reading.{answer-took}
@@ -19,7 +19,8 @@ use Rattle.transaction.specs.Plan.{Plan, plan, typeId, typeOf, typeOf-id, planO
 use Rattle.transaction.specs.Form.{listOf, form, elementAsks, asked, wanted}
 use Rattle.transaction.specs.Avm.{avm}
 use Rattle.transaction.specs.Family.{Head, head}
-use Rattle.transaction.specs.Answer.{memoMost, headAt, layout}
+use Rattle.transaction.specs.Answer.{memoMost, layout}
+use Rattle.transaction.specs.code.Answer.{headAt}
 use Rattle.transaction.specs.declared.TransactionType.{TransactionType}
 use Rattle.transaction.specs.declared.ListName.the-variants as L
 use Rattle.transaction.specs.declared.Layout.{Layout}
@@ -28,7 +29,7 @@ use Rattle.transaction.specs.declared.UnsignedRead.the-variants as U
 use Rattle.transaction.proofs.Good.{typeId-fits}
 use Rattle.transaction.proofs.Reading.{on-answered, on-answered-refused, written-next}
 use Rattle.plan.specs.Due.{tail, due}
-use Rattle.checker.specs.Segments.{planAt}
+use Rattle.checker.specs.code.Segments.{planAt}
 use Rattle.checker.proofs.Planning.{none-asked}
 
 module _ {R : Type 0} (most : ℕ) (s : List ℕ) (z : R) (stop : Refusal → R) (go : Head TransactionType → ℕ → R) (x : Integer) (p : x ≡ headAt s 0) where

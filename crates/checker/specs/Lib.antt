@@ -1,4 +1,2 @@
--- What the loops over a plan return
-pub mod Segments
-pub mod Wanted
-pub mod Cut
+-- What functions below the public calls answer; no claim rests on it
+pub mod code

@@ -3,7 +3,7 @@
 ghost use Prim.Native.Nat.{_<_};
 ghost use Rattle.transaction.specs.Plan.{planOf};
 ghost use Rattle.plan.specs.Due.{due};
-ghost use Rattle.checker.specs.Wanted.{ListBegins, Begins, BegunLive, ElementWants, NextWants};
+ghost use Rattle.checker.specs.code.Wanted.{ListBegins, Begins, BegunLive, ElementWants, NextWants};
 use crate::Begun;
 use crate::Wanted;
 use crate::Wanting;

@@ -1,11 +1,11 @@
 // The unsigned part: codec, type, network, chain id, and the segments of the type's plan. A memo has at most `most` bytes.
 ghost use mathlib.Core.Path.{_≡_};
-ghost use Rattle.wire.specs.Answer.{ended};
+ghost use Rattle.wire.specs.code.Answer.{ended};
 ghost use Rattle.transaction.specs.Plan.{planOf};
 ghost use Rattle.transaction.specs.Form.{listOf};
-ghost use Rattle.transaction.specs.Answer.{headAt, listAt, unsignedAt};
+ghost use Rattle.transaction.specs.code.Answer.{headAt, listAt, unsignedAt};
 ghost use Rattle.plan.specs.Due.{due};
-ghost use Rattle.checker.specs.Segments.{passedAt, planAt};
+ghost use Rattle.checker.specs.code.Segments.{passedAt, planAt};
 use crate::Passed;
 use plan::Due;
 use plan::rows;

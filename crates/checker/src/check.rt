@@ -1,6 +1,7 @@
 // The check of a whole transaction.
 ghost use mathlib.Core.Path.{_≡_};
-ghost use Rattle.transaction.specs.Answer.{memoMost, SignedAt, checked};
+ghost use Rattle.transaction.specs.Answer.{memoMost, checked};
+ghost use Rattle.transaction.specs.code.Answer.{SignedAt};
 use crate::body;
 use crate::credentials;
 use transaction::Checked;

@@ -2,11 +2,11 @@
 ghost use mathlib.Core.Path.{_≡_};
 ghost use Prim.Native.Nat.{_<_, _^_};
 ghost use mathlib.Core.List.{[]};
-ghost use Rattle.wire.specs.Answer.{ended};
+ghost use Rattle.wire.specs.code.Answer.{ended};
 ghost use Rattle.transaction.specs.Credentials.{signatures, credentialPieces, pieces};
-ghost use Rattle.transaction.specs.Answer.{CredentialsAt};
-ghost use Rattle.checker.specs.Cut.{firstCut};
-ghost use Rattle.checker.specs.Wanted.{Beside, firstWanting};
+ghost use Rattle.transaction.specs.code.Answer.{CredentialsAt};
+ghost use Rattle.checker.specs.code.Cut.{firstCut};
+ghost use Rattle.checker.specs.code.Wanted.{Beside, firstWanting};
 use crate::Wanted;
 use crate::Wanting;
 use crate::asking;

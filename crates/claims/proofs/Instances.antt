@@ -10,8 +10,9 @@ use lib.Dec.{ltb}
 use lib.ListN.{take, drop, getD}
 use borrow.Author.Tests.{ltb-true}
 use Rattle.wire.specs.Bytes.{Bytes, value, digits, below}
-use Rattle.wire.specs.Fields.{integer, blobParse}
-use Rattle.wire.specs.Series.{items, listParse, listWrite}
+use Rattle.wire.specs.Fields.{integer}
+use Rattle.wire.specs.Sequence.{items}
+use Rattle.wire.specs.Parsers.{listParse, listWrite, blobParse}
 use Rattle.string.specs.Strings.{string}
 use Rattle.element.specs.Owners.{owners}
 use Rattle.element.specs.Outputs.{transferBody, transferableOutput}

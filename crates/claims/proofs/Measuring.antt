@@ -4,7 +4,7 @@ use mathlib.Core.Path.{_≡_, refl}
 use mathlib.Core.List.{List, [], _∷_}
 use native.Mathlib.Omega.{arith}
 use lib.ListN.{length, length-append}
-use Rattle.wire.specs.Bytes.{length-digits}
+use Rattle.wire.specs.laws.Bytes.{length-digits}
 use Rattle.wire.specs.Orders.{All}
 use Rattle.element.specs.Owners.{Owners}
 use Rattle.element.specs.PlainBytes.{u32, joined, ownersBytes, outputBytes, inputBytes}

@@ -12,11 +12,13 @@ use Rattle.wire.specs.declared.Rule.{Rule}
 use Rattle.wire.specs.declared.Rule.the-variants as R
 use Rattle.wire.specs.Numbers.{ruleNumber, refusal, numberOf, tooLong}
 use Rattle.wire.specs.Format.{onResult, refused}
-use Rattle.wire.specs.Fields.{integer, blobParse, constant}
-use Rattle.wire.specs.Sequence.{guard, tag}
-use Rattle.wire.specs.Series.{items, listParse, listWrite, countPrefixed}
+use Rattle.wire.specs.Fields.{integer, constant}
+use Rattle.wire.specs.Sequence.{guard, tag, items}
+use Rattle.wire.specs.Series.{countPrefixed}
+use Rattle.wire.specs.Parsers.{listParse, listWrite, blobParse}
 use Rattle.wire.specs.Orders.{OneOf}
-use Rattle.string.specs.Strings.{string, text, printable, unprintable, denomination}
+use Rattle.string.specs.Strings.{string, text, printable, denomination}
+use Rattle.string.specs.Characters.{unprintable}
 use Rattle.element.specs.Owners.{owners}
 use Rattle.element.specs.Outputs.{amount, transferBody, output, transferableOutput}
 use Rattle.element.specs.Inputs.{key, indices, spend, inputAfter}

@@ -9,11 +9,14 @@ use native.Mathlib.Omega.{arith}
 use lib.ListN.{length, drop, length-append}
 use lib.Seq.{drop-drop, drop-append-seam, take-at}
 use lib.Dec.{eqb}
-use Rattle.wire.specs.Bytes.{pick, between, length-digits}
+use Rattle.wire.specs.Bytes.{pick, between}
+use Rattle.wire.specs.laws.Bytes.{length-digits}
 use Rattle.wire.specs.Format.{Format}
-use Rattle.wire.specs.Fields.{integer, length-integer}
-use Rattle.wire.specs.Sequence.{guard, tag}
-use Rattle.wire.specs.Series.{items, left, listWrite, notBelow}
+use Rattle.wire.specs.Fields.{integer}
+use Rattle.wire.specs.laws.Sizes.{length-integer}
+use Rattle.wire.specs.Sequence.{guard, tag, items}
+use Rattle.wire.specs.Series.{left, notBelow}
+use Rattle.wire.specs.Parsers.{listWrite}
 use Rattle.wire.specs.Orders.{All}
 use Rattle.element.specs.Outputs.{output, TransferableOutput, transferableOutput}
 use Rattle.element.specs.Inputs.{Input, input}

@@ -5,10 +5,12 @@ use mathlib.Core.List.{List, [], _∷_, _++_}
 use lib.ListN.{length, take, drop, replicate}
 use Rattle.wire.specs.Bytes.{value, digits, below}
 use Rattle.wire.specs.Format.{read, verdict, Result, took, refused}
-use Rattle.wire.specs.Fields.{integer, blobParse, constant}
-use Rattle.wire.specs.Sequence.{guard, tag}
-use Rattle.wire.specs.Series.{items, listParse, listWrite, countPrefixed}
-use Rattle.string.specs.Strings.{string, text, printable, unprintable, denomination}
+use Rattle.wire.specs.Fields.{integer, constant}
+use Rattle.wire.specs.Sequence.{guard, tag, items}
+use Rattle.wire.specs.Series.{countPrefixed}
+use Rattle.wire.specs.Parsers.{listParse, listWrite, blobParse}
+use Rattle.string.specs.Strings.{string, text, printable, denomination}
+use Rattle.string.specs.Characters.{unprintable}
 use Rattle.element.specs.Owners.{owners}
 use Rattle.element.specs.Outputs.{amount, transferBody, output, transferableOutput}
 use Rattle.element.specs.Inputs.{key, indices, spend, inputAfter}

@@ -19,8 +19,8 @@ use Rattle.transaction.specs.declared.Layout.{Layout}
 use Rattle.transaction.specs.declared.Checked.{Checked}
 use Rattle.transaction.specs.declared.Checked.the-variants as C
 use Rattle.draft_slots.specs.Joining.{same, join, clashes, firstClash}
-use Rattle.draft_slots.specs.Scan as Scan
-use Rattle.draft_slots.specs.Scan.{scanFrom, placed, joinedAt, joinAll, joinedWith}
+use Rattle.draft_slots.specs.code.Scan as Scan
+use Rattle.draft_slots.specs.code.Scan.{scanFrom, placed, joinedAt, joinAll, joinedWith}
 use Rattle.draft_slots.specs.declared.Found.{Found}
 use Rattle.draft_slots.specs.declared.Found.the-variants as F
 use Rattle.draft_slots.proofs.Comparing.{same-eq}

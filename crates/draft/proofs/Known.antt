@@ -20,7 +20,7 @@ use Rattle.transaction.specs.declared.Checked.{Checked}
 use Rattle.transaction.specs.declared.Checked.the-variants as C
 use Rattle.transaction.proofs.Signed.{parts-took, check-of, read-body, slots-eq, length-eq, spaced-slots, same-unsigned}
 use Rattle.transaction.proofs.Verdicts.{refused-check, checked-accepted, layout-credentials}
-use Rattle.draft_slots.specs.Scan.{scanFrom}
+use Rattle.draft_slots.specs.code.Scan.{scanFrom}
 use Rattle.draft.specs.Reader.{Reader, reader, body}
 use Rattle.draft.proofs.Scanned.{count-fits, scanned}
 

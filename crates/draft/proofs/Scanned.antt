@@ -6,13 +6,15 @@ use Prim.Native.Nat.{ℕ, zero, suc, _+_, _*_, _≤_}
 use native.Mathlib.Omega.{arith}
 use lib.ListN.{length, drop, length-append}
 use lib.Seq.{drop-at}
-use Rattle.wire.specs.Bytes.{Bytes, bytes-append, drop-step}
+use Rattle.wire.specs.Bytes.{Bytes}
+use Rattle.wire.specs.laws.Bytes.{bytes-append, drop-step}
 use Rattle.wire.specs.Format.{Format}
-use Rattle.wire.specs.Fields.{integer, length-integer, blob}
+use Rattle.wire.specs.Fields.{integer, blob}
+use Rattle.wire.specs.laws.Sizes.{length-integer}
 use Rattle.transaction.specs.Slots.{signatureWidth}
 use Rattle.transaction.specs.Credentials.{Want, credentialCode, Piece, signatures, each, layout, pieces, credentials, places}
 use Rattle.transaction.specs.Signed.{assemble, Parts}
-use Rattle.draft_slots.specs.Scan.{rangeAt, onRange, slotRange, scanFrom}
+use Rattle.draft_slots.specs.code.Scan.{rangeAt, onRange, slotRange, scanFrom}
 use Rattle.draft_slots.specs.declared.SlotRange.{SlotRange}
 use Rattle.draft_slots.specs.declared.SlotRange.the-variants as R
 

@@ -5,7 +5,7 @@ ghost use mathlib.Core.List.{_++_};
 ghost use lib.ListN.{length, take, drop};
 ghost use lib.Dec.{leb};
 ghost use Rattle.draft_slots.specs.Joining.{clashes, firstClash};
-ghost use Rattle.draft_slots.specs.Scan.{scanFrom, joinedAt, joinedWith};
+ghost use Rattle.draft_slots.specs.code.Scan.{scanFrom, joinedAt, joinedWith};
 ghost use Rattle.transaction.specs.Slots.{slotAt};
 ghost use Rattle.transaction.specs.Avm.{avm};
 ghost use Rattle.transaction.specs.Answer.{memoMost};

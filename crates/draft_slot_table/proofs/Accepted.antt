@@ -10,11 +10,11 @@ use Rattle.transaction.specs.Slots.{signatureWidth}
 use Rattle.transaction.specs.Credentials.{Want, credentialCode, signatures, credential, each, layout, pieces, credentials, places, size}
 use Rattle.transaction.specs.Signed.{Parts}
 use Rattle.transaction.proofs.Signed.{read-body}
-use Rattle.draft_slots.specs.Scan.{onRange}
+use Rattle.draft_slots.specs.code.Scan.{onRange}
 use Rattle.draft_slots.specs.declared.SlotRange.{SlotRange}
 use Rattle.draft.proofs.Scanned.{Split, split, after-signatures, range-there, regroup, past-count}
 use Rattle.draft_slot_table.specs.Slots.{Slot, slotIn, slotsFrom, slotsOf, slotList}
-use Rattle.draft_slot_table.specs.Scan.{slotsIn, scanFrom}
+use Rattle.draft_slot_table.specs.code.Scan.{slotsIn, scanFrom}
 
 range-places : (k n p : ℕ) → slotsIn k n p ≡ map (slotIn k) (places p (signatures n []))
 unfolding slotsIn places signatures signatureWidth

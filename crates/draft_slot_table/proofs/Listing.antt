@@ -23,7 +23,7 @@ use Rattle.entry_table.specs.declared.Tabled.the-variants as T
 use Rattle.draft.proofs.Known.{known}
 use Rattle.draft_slot_table.specs.Slots.{Slot, rows}
 use Rattle.draft_slot_table.specs.Table.{listed, slots, tabledSlots}
-use Rattle.draft_slot_table.specs.Scan.{scanFrom, put}
+use Rattle.draft_slot_table.specs.code.Scan.{scanFrom, put}
 use Rattle.draft_slot_table.proofs.Rows.{length-rows}
 use Rattle.draft_slot_table.proofs.Accepted.{scanned-slots}
 

@@ -8,12 +8,12 @@ use native.Mathlib.Nat.{not-suc-le-zero}
 use lib.ListN.{length, set, length-append}
 use lib.Seq.{length-sets}
 use Rattle.wire.proofs.Bytes.{found}
-use Rattle.draft_slots.specs.Scan.{rangeAt, onRange}
+use Rattle.draft_slots.specs.code.Scan.{rangeAt, onRange}
 use Rattle.draft_slots.specs.declared.SlotRange.{SlotRange}
 use Rattle.draft_slots.specs.declared.SlotRange.the-variants as R
 use Rattle.draft_slots.proofs.Scanning.{range-inside}
 use Rattle.draft_slot_table.specs.Slots.{Slot, slotIn, filledAt, row, rows}
-use Rattle.draft_slot_table.specs.Scan.{slotsIn, scanFrom, put}
+use Rattle.draft_slot_table.specs.code.Scan.{slotsIn, scanFrom, put}
 use Rattle.draft_slot_table.proofs.Rows.{length-rows, rows-append}
 
 length-range : (k n p : ℕ) → length (slotsIn k n p) ≡ n

@@ -1,4 +1,5 @@
 -- The table of a transaction's slots
 pub mod Slots
 pub mod Table
-pub mod Scan
+-- what functions below the public calls answer; no claim rests on it
+pub mod code

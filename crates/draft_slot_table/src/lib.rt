@@ -6,7 +6,7 @@ ghost use Rattle.transaction.specs.Answer.{memoMost};
 ghost use Rattle.entry_table.specs.Table.{filled};
 ghost use Rattle.draft_slot_table.specs.Slots.{slotIn, filledAt, row, rows};
 ghost use Rattle.draft_slot_table.specs.Table.{tabledSlots};
-ghost use Rattle.draft_slot_table.specs.Scan.{slotsIn, scanFrom, put};
+ghost use Rattle.draft_slot_table.specs.code.Scan.{slotsIn, scanFrom, put};
 use draft_slots::SlotRange;
 use entry_table::Tabled;
 use transaction::Checked;

@@ -11,9 +11,10 @@ use lib.Seq.{take-all, drop-drop, length-take-le}
 use lib.Dec.{eqb}
 use borrow.Author.Tests.{eqb-true, eq-eqb, ne-eqb}
 use Rattle.wire.specs.Bytes.{pick}
-use Rattle.transaction.specs.Slots.{signatureWidth, blank, slotAt, putSlot, putAll, Spaced, length-slotAt}
+use Rattle.transaction.specs.Slots.{signatureWidth, blank, slotAt, putSlot, putAll, Spaced}
+use Rattle.transaction.proofs.Slots.{length-slotAt}
 use Rattle.draft_slots.specs.Joining.{same, join}
-use Rattle.draft_slots.specs.Scan.{slotRange, joinedAt, joinAll}
+use Rattle.draft_slots.specs.code.Scan.{slotRange, joinedAt, joinAll}
 use Rattle.draft_slots.proofs.Comparing.{same-of-eq, same-no, dec-same, join-blank, join-filled, length-join}
 use Rattle.draft_slots.proofs.Putting.{spaced-le, put-own, length-put, put-slot-after}
 use Rattle.draft_slots.proofs.Blocks.{blank-fits}

@@ -8,8 +8,10 @@ use native.Mathlib.Decide.{decLe}
 use native.Mathlib.Omega.{arith}
 use lib.ListN.{length, take, drop, getD, length-append, length-drop, take-append-drop, List·getD-append}
 use lib.Seq.{getD-take, getD-drop, ext-getD, take-at, drop-at, drop-drop, length-take-le}
-use Rattle.wire.specs.Bytes.{Bytes, bytes-take, bytes-drop, bytes-append}
-use Rattle.transaction.specs.Slots.{signatureWidth, slotAt, putSlot, putAll, Outside, Spaced, length-slotAt}
+use Rattle.wire.specs.Bytes.{Bytes}
+use Rattle.wire.specs.laws.Bytes.{bytes-take, bytes-drop, bytes-append}
+use Rattle.transaction.specs.Slots.{signatureWidth, slotAt, putSlot, putAll, Outside, Spaced}
+use Rattle.transaction.proofs.Slots.{length-slotAt}
 
 -- ---- the offsets of slots
 

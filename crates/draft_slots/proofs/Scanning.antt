@@ -13,13 +13,14 @@ use borrow.Author.Tests.{leb-true, lt-ltb, le-ltb}
 use lib.ListN.{length, take, drop, getD, length-append, List·getD-append}
 use lib.Seq.{getD-append-add}
 use Rattle.wire.specs.Bytes.{pick, value}
-use Rattle.wire.specs.Fields.{integer, blob, blobParse}
+use Rattle.wire.specs.Fields.{integer, blob}
+use Rattle.wire.specs.Parsers.{blobParse}
 use Rattle.wire.proofs.Bytes.{found}
 use Rattle.wire.proofs.Reading as W
 use Rattle.transaction.specs.Slots.{slotAt}
 use Rattle.draft_slots.specs.Joining.{clashes, firstClash}
-use Rattle.draft_slots.specs.Scan as Scan
-use Rattle.draft_slots.specs.Scan.{rangeAt, onRange, slotRange, scanFrom, placed, joinAll}
+use Rattle.draft_slots.specs.code.Scan as Scan
+use Rattle.draft_slots.specs.code.Scan.{rangeAt, onRange, slotRange, scanFrom, placed, joinAll}
 use Rattle.draft_slots.specs.declared.SlotRange.{SlotRange}
 use Rattle.draft_slots.specs.declared.SlotRange.the-variants as R
 use Rattle.draft_slots.specs.declared.Found.{Found}

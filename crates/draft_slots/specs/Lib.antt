@@ -1,3 +1,4 @@
--- What slots hold, how two slots are joined, and how the code finds them
+-- What slots hold, and how two slots are joined
 pub mod Joining
-pub mod Scan
+-- what functions below the public calls answer; no claim rests on it
+pub mod code

@@ -2,7 +2,7 @@
 ghost use mathlib.Core.Path.{_≡_};
 ghost use Prim.Native.Nat.{_+_, _*_, _≤_};
 ghost use lib.ListN.{length};
-ghost use Rattle.draft_slots.specs.Scan.{slotRange, joinedAt, joinAll, joinedWith};
+ghost use Rattle.draft_slots.specs.code.Scan.{slotRange, joinedAt, joinAll, joinedWith};
 use crate::SlotRange;
 use crate::compare;
 use crate::ranges;

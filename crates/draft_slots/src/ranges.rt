@@ -3,7 +3,7 @@ ghost use mathlib.Core.Path.{_≡_};
 ghost use Prim.Native.Nat.{_+_, _*_, _≤_};
 ghost use lib.ListN.{length};
 ghost use Rattle.draft_slots.specs.Joining.{firstClash};
-ghost use Rattle.draft_slots.specs.Scan.{rangeAt, slotRange, scanFrom, found, placed};
+ghost use Rattle.draft_slots.specs.code.Scan.{rangeAt, slotRange, scanFrom, found, placed};
 use crate::Found;
 use crate::SlotRange;
 use crate::compare;

@@ -11,7 +11,8 @@ use lib.Seq.{drop-cons}
 use borrow.Author.Tests.{lt-ltb, eq-eqb}
 use Rattle.wire.specs.Bytes.{Bytes}
 use Rattle.wire.specs.Numbers.{conflict}
-use Rattle.transaction.specs.Slots.{signatureWidth, blank, slotAt, putSlot, putAll, length-slotAt, bytes-slotAt, length-blank, bytes-blank}
+use Rattle.transaction.specs.Slots.{signatureWidth, blank, slotAt, putSlot, putAll}
+use Rattle.transaction.proofs.Slots.{length-slotAt, bytes-slotAt, length-blank, bytes-blank}
 use Rattle.draft_slots.specs.Joining.{Clash, clashes, join}
 use Rattle.draft_slots.proofs.Comparing.{dec-same, join-second, join-empty, length-join, bytes-join, clashes-of, clashes-none}
 use Rattle.draft_slots.proofs.Putting.{spaced-at, spaced-before, outside-at, by-slots, length-put, bytes-put, put-own, put-before, put-after}

@@ -5,7 +5,8 @@ use mathlib.Core.List.{List}
 use Prim.Native.Nat.{ℕ, _+_, _≤_, _<_}
 use lib.ListN.{length, getD}
 use Rattle.wire.specs.Bytes.{Bytes}
-use Rattle.transaction.specs.Slots.{signatureWidth, slotAt, putAll, Spaced, length-slotAt}
+use Rattle.transaction.specs.Slots.{signatureWidth, slotAt, putAll, Spaced}
+use Rattle.transaction.proofs.Slots.{length-slotAt}
 use Rattle.draft_slots.proofs.Putting.{spaced-at, Long, bytes-putAll, length-putAll, putAll-outside, putAll-slot}
 use Rattle.draft.specs.Reader.{Reader, Draft, body, slot}
 use Rattle.draft_theorems.specs.Demand.{Frame}

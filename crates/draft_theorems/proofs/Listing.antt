@@ -6,7 +6,8 @@ use Prim.Native.Nat.{ℕ, zero, suc, _<_, suc-le-suc}
 use native.Mathlib.Nat.{le-of-suc-le-suc, not-suc-le-zero, zero-lt-suc}
 use lib.ListN.{length, getD}
 use Rattle.wire.specs.Bytes.{Bytes}
-use Rattle.transaction.specs.Slots.{signatureWidth, blank, slotAt, bytes-slotAt, length-blank, bytes-blank}
+use Rattle.transaction.specs.Slots.{signatureWidth, blank, slotAt}
+use Rattle.transaction.proofs.Slots.{bytes-slotAt, length-blank, bytes-blank}
 use Rattle.draft_slots.specs.Joining.{Filled, join}
 use Rattle.draft_slots.proofs.Comparing.{dec-same, join-filled, join-blank, join-one, length-join, bytes-join}
 use Rattle.draft_slots.proofs.Putting.{Long, by-slots}

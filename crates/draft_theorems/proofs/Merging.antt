@@ -11,7 +11,8 @@ use lib.ListN.{length, drop, getD}
 use borrow.Author.Tests.{le-leb}
 use Rattle.wire.specs.Bytes.{Bytes}
 use Rattle.wire.specs.Numbers.{conflict}
-use Rattle.transaction.specs.Slots.{slotAt, putAll, bytes-slotAt}
+use Rattle.transaction.specs.Slots.{slotAt, putAll}
+use Rattle.transaction.proofs.Slots.{bytes-slotAt}
 use Rattle.draft_slots.specs.Joining.{same, Clash, join, firstClash}
 use Rattle.draft_slots.proofs.Comparing.{same-of-eq, ClashFrom, first-none, first-some, length-join, bytes-join}
 use Rattle.draft_slots.proofs.Putting.{Long}

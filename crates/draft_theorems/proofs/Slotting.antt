@@ -5,7 +5,8 @@ use Prim.Native.Nat.{ℕ, _+_}
 use native.Mathlib.Nat.{le-refl}
 use native.Mathlib.Omega.{arith}
 use lib.ListN.{length}
-use Rattle.transaction.specs.Slots.{Spaced, length-slotAt}
+use Rattle.transaction.specs.Slots.{Spaced}
+use Rattle.transaction.proofs.Slots.{length-slotAt}
 use Rattle.transaction.specs.Credentials.{each, layout, places, size}
 use Rattle.transaction.specs.Signed.{endOf, Parts}
 use Rattle.transaction.specs.Family.{Family, Signed, unsigned, wants, check}

@@ -8,16 +8,19 @@ use mathlib.Core.List.{List, [], _∷_, _++_, map, map-congr-left}
 use lib.ListN.{length, take, length-append}
 use lib.Dec.{leb}
 use borrow.Author.Tests.{ltb-true, lt-ltb, leb-true, le-leb, eqb-true, eq-eqb}
-use Rattle.wire.specs.Bytes.{Bytes, digits, length-digits, below, pick}
+use Rattle.wire.specs.Bytes.{Bytes, digits, below, pick}
+use Rattle.wire.specs.laws.Bytes.{length-digits}
 use Rattle.wire.specs.Numbers.{unknownType}
-use Rattle.wire.specs.Fields.{Sized, integer, blob}
+use Rattle.wire.specs.Fields.{integer, blob}
 use Rattle.wire.specs.Sequence.{guard, andThen, tag}
-use Rattle.wire.specs.Series.{left, Chain, above, notBelow, series, countPrefixed}
+use Rattle.wire.specs.Series.{left, above, notBelow, series, countPrefixed}
+use Rattle.wire.specs.Parsers.{Chain, Sized}
 use Rattle.wire.specs.Orders.{All, OneOf, Increasing, Nondecreasing, Ascending}
 use Rattle.wire.proofs.Bytes.{key-below}
 use Rattle.wire.proofs.Orders.{constant-good, tag-good, keyBelow-order, above-good, notBelow-good, unordered-good, ascending-good, series-good}
 use Rattle.wire.proofs.Orders.{counted-good, adjacent-map}
-use Rattle.string.specs.Strings.{string, payload, isPrintable, unprintable, text, denomination}
+use Rattle.string.specs.Strings.{string, payload, text, denomination}
+use Rattle.string.specs.Characters.{isPrintable, unprintable}
 use Rattle.element.specs.Owners.{Owners, owners}
 use Rattle.element.specs.Outputs.{amount, transferBody, OutputType, secpMint, secpTransfer, nftMint, nftTransfer, outputCode, OutputBody}
 use Rattle.element.specs.Outputs.{outputBody, outputType, outputType-code, Output, output, TransferableOutput, transferableOutput}

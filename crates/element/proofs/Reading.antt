@@ -21,14 +21,18 @@ use Rattle.wire.specs.declared.End.{End}
 use Rattle.wire.specs.declared.End.the-variants as P
 use Rattle.wire.specs.declared.Integer.{Integer}
 use Rattle.wire.specs.declared.Integer.the-variants as N
-use Rattle.wire.specs.Bytes.{Bytes, digits, length-digits, below, pick, between}
-use Rattle.wire.specs.Format.{Format, Result, took, refused, onResult, read, Stands, stands-part, parse-alike-read}
+use Rattle.wire.specs.Bytes.{Bytes, digits, below, pick, between}
+use Rattle.wire.specs.laws.Bytes.{length-digits}
+use Rattle.wire.specs.Format.{Format, Result, took, refused, onResult, read, Stands}
+use Rattle.wire.proofs.Format.{stands-part, parse-alike-read}
 use Rattle.wire.specs.Numbers.{by, cutAt, unknownType, outOfOrder}
-use Rattle.wire.specs.Fields.{blob, integer, length-integer}
-use Rattle.wire.specs.Sequence.{guard, tag}
-use Rattle.wire.specs.Series.{items, listParse, left, above, notBelow, increasing, seriesFrom, series}
-use Rattle.wire.specs.Order.{keyBelow}
-use Rattle.wire.specs.Answer.{ended, valued, wholeAt}
+use Rattle.wire.specs.Fields.{blob, integer}
+use Rattle.wire.specs.laws.Sizes.{length-integer}
+use Rattle.wire.specs.Sequence.{guard, tag, items}
+use Rattle.wire.specs.Series.{left, above, notBelow, increasing, seriesFrom, series}
+use Rattle.wire.specs.Parsers.{listParse}
+use Rattle.wire.specs.code.Order.{keyBelow}
+use Rattle.wire.specs.code.Answer.{ended, valued, wholeAt}
 use Rattle.wire.proofs.Bytes.{Slice, slice-bytes, found, below-digits, key-below}
 use Rattle.wire.proofs.Orders.{empty-below}
 use Rattle.wire.proofs.Reading as W
@@ -39,7 +43,7 @@ use Rattle.element.specs.Inputs.{key, Input, spend, inputAfter, input}
 use Rattle.element.specs.Operations.{OperationType, mintNft, transferNft, operationCode, operationType, operationType-code, operationOwners}
 use Rattle.element.specs.Operations.{terms, operation, Fx, secpFx, nftFx, fxCode, fxOf, fxOf-code, fxOutputs, fxId, stateOutputs, InitialState}
 use Rattle.element.specs.Operations.{initialStateAfter, initialState}
-use Rattle.element.specs.Answer.{inOrder}
+use Rattle.element.specs.code.Answer.{inOrder}
 
 -- ---- answers: what an answer with one case for a value and one for a refusal says about the parse
 

@@ -5,8 +5,9 @@ use mathlib.Core.List.{List, [], _∷_, _++_, append-assoc}
 use lib.ListN.{length, take}
 use Rattle.wire.specs.Format.{Format}
 use Rattle.wire.specs.Fields.{integer, blob}
-use Rattle.wire.specs.Sequence.{guard, tag}
-use Rattle.wire.specs.Series.{left, listWrite, items, above, notBelow, countPrefixed}
+use Rattle.wire.specs.Sequence.{guard, tag, items}
+use Rattle.wire.specs.Series.{left, above, notBelow, countPrefixed}
+use Rattle.wire.specs.Parsers.{listWrite}
 use Rattle.string.specs.Strings.{string, printable, text, denomination}
 use Rattle.element.specs.Owners.{Owners, owners}
 use Rattle.element.specs.Outputs.{OutputType, secpMint, secpTransfer, nftMint, nftTransfer, transferBody, Output, output, TransferableOutput}

@@ -4,7 +4,7 @@ use Prim.Native.Nat.{ℕ, _^_, _≤_, _<_}
 use mathlib.Core.List.{List, [], _∷_, map}
 use lib.ListN.{length}
 use Rattle.wire.specs.Bytes.{Bytes}
-use Rattle.wire.specs.Fields.{Sized}
+use Rattle.wire.specs.Parsers.{Sized}
 use Rattle.wire.specs.Orders.{All, OneOf, Increasing, Nondecreasing, Ascending}
 use Rattle.element.specs.Owners.{Owners}
 use Rattle.element.specs.Outputs.{OutputType, secpMint, secpTransfer, nftMint, nftTransfer, OutputBody, Output, TransferableOutput}

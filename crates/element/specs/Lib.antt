@@ -5,4 +5,5 @@ pub mod Inputs
 pub mod Operations
 pub mod PlainBytes
 pub mod Good
-pub mod Answer
+-- what functions below the public calls answer; no claim rests on it
+pub mod code

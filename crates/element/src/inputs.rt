@@ -2,9 +2,9 @@
 ghost use mathlib.Core.Path.{_≡_};
 ghost use Rattle.wire.specs.Fields.{integer};
 ghost use Rattle.wire.specs.Series.{increasing, series};
-ghost use Rattle.wire.specs.Answer.{ended};
+ghost use Rattle.wire.specs.code.Answer.{ended};
 ghost use Rattle.element.specs.Inputs.{input, spend};
-ghost use Rattle.element.specs.Answer.{integerFollows, keyFollows};
+ghost use Rattle.element.specs.code.Answer.{integerFollows, keyFollows};
 use crate::SECP_INPUT;
 use crate::outputs;
 use wire::End;

@@ -1,7 +1,7 @@
 // Operations, and the initial states of an asset.
 ghost use mathlib.Core.Path.{_≡_};
 ghost use Rattle.wire.specs.Series.{increasing, series, unordered};
-ghost use Rattle.wire.specs.Answer.{ended};
+ghost use Rattle.wire.specs.code.Answer.{ended};
 ghost use Rattle.element.specs.Inputs.{key};
 ghost use Rattle.element.specs.Operations.{terms, action, operation, operationOwners, operationType, fxOf, stateOutputs, initialState};
 use crate::MINT_OPERATION;

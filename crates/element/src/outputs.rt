@@ -1,10 +1,10 @@
 // Outputs of the four types, and lists of them.
 ghost use mathlib.Core.Path.{_≡_};
 ghost use Rattle.wire.specs.Series.{nondecreasing};
-ghost use Rattle.wire.specs.Answer.{ended};
+ghost use Rattle.wire.specs.code.Answer.{ended};
 ghost use Rattle.element.specs.Outputs.{amount, transferBody, output, transferableOutput};
 ghost use Rattle.element.specs.Operations.{secpFx, nftFx, fxOf, fxOutputs};
-ghost use Rattle.element.specs.Answer.{inOrder};
+ghost use Rattle.element.specs.code.Answer.{inOrder};
 use crate::NFT_MINT;
 use crate::NFT_TRANSFER;
 use crate::SECP_MINT;

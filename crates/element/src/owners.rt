@@ -2,7 +2,7 @@
 ghost use mathlib.Core.Path.{_≡_};
 ghost use Rattle.wire.specs.Fields.{blob};
 ghost use Rattle.wire.specs.Series.{increasing, unordered};
-ghost use Rattle.wire.specs.Answer.{ended};
+ghost use Rattle.wire.specs.code.Answer.{ended};
 ghost use Rattle.element.specs.Owners.{owners, thresholdFits};
 use wire::End;
 use wire::Integer;

@@ -18,10 +18,13 @@ use Rattle.wire.specs.declared.Integer.the-variants as N
 use Rattle.wire.specs.Bytes.{pick}
 use Rattle.wire.specs.Numbers.{unknownType}
 use Rattle.wire.specs.Format.{Format, Result, took, refused}
-use Rattle.wire.specs.Fields.{blob, integer, constant, length-integer}
-use Rattle.wire.specs.Sequence.{andThen, guard, tag}
-use Rattle.wire.specs.Series.{items, listWrite, list-bytes, left, above, notBelow, countPrefixed, unordered, nondecreasing}
-use Rattle.wire.specs.Answer.{ended, valued, Passes, Tells}
+use Rattle.wire.specs.Fields.{blob, integer, constant}
+use Rattle.wire.specs.laws.Sizes.{length-integer}
+use Rattle.wire.specs.Sequence.{andThen, guard, tag, items}
+use Rattle.wire.specs.Series.{left, above, notBelow, countPrefixed, unordered, nondecreasing}
+use Rattle.wire.specs.Parsers.{listWrite}
+use Rattle.wire.specs.laws.Items.{list-bytes}
+use Rattle.wire.specs.code.Answer.{ended, valued, Passes, Tells}
 use Rattle.wire.proofs.Bytes.{Slice}
 use Rattle.wire.proofs.Reading.{wide-chain, blob-wide, blob-ends, part-ends, value-ends}
 use Rattle.wire.proofs.Passing as W
@@ -37,8 +40,8 @@ use Rattle.element.specs.Inputs.{key, indices, spend, inputAfter, input}
 use Rattle.element.specs.Operations.{OperationType, mintNft, transferNft, operationCode, operationType, operationType-code}
 use Rattle.element.specs.Operations.{OperationOwners, operationOwners, terms, action, operation}
 use Rattle.element.specs.Operations.{Fx, secpFx, fxCode, fxOutputs, fxId, stateOutputs, initialStateAfter, initialState}
-use Rattle.element.specs.Answer.{Terms, Action}
-use Rattle.element_lengths.specs.Lengths.{byCount}
+use Rattle.element.specs.code.Answer.{Terms, Action}
+use Rattle.element_lengths.specs.code.Lengths.{byCount}
 use Rattle.element.proofs.Reading.{key-wide}
 
 -- ---- widths

@@ -1,2 +1,2 @@
--- What the functions that skip elements by their lengths are measured against
-pub mod Lengths
+-- What the functions that skip elements by their lengths answer; no claim rests on it
+pub mod code

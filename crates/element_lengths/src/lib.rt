@@ -5,13 +5,13 @@ ghost use lib.ListN.{length};
 ghost use Rattle.wire.specs.Fields.{blob};
 ghost use Rattle.wire.specs.Sequence.{andThen};
 ghost use Rattle.wire.specs.Series.{unordered, notBelow, nondecreasing};
-ghost use Rattle.wire.specs.Answer.{Passes, Tells};
+ghost use Rattle.wire.specs.code.Answer.{Passes, Tells};
 ghost use Rattle.string.specs.Strings.{payload};
 ghost use Rattle.element.specs.Owners.{owners};
 ghost use Rattle.element.specs.Outputs.{output, transferableOutput};
 ghost use Rattle.element.specs.Inputs.{input};
 ghost use Rattle.element.specs.Operations.{terms, action, operation, operationOwners, operationType, Fx, fxOutputs, initialState};
-ghost use Rattle.element_lengths.specs.Lengths.{byCount};
+ghost use Rattle.element_lengths.specs.code.Lengths.{byCount};
 use wire::End;
 use wire::Integer;
 

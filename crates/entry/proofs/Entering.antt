@@ -17,15 +17,15 @@ use Rattle.transaction.specs.declared.Layout.{Layout}
 use Rattle.transaction.specs.declared.Checked.{Checked}
 use Rattle.transaction.specs.declared.Checked.the-variants as C
 use Rattle.transaction.proofs.Verdicts.{refused-check, checked-accepted}
-use Rattle.entry_walk.specs.Walk.{located, start, Ahead}
+use Rattle.entry_walk.specs.code.Walk.{located, start, Ahead}
 use Rattle.entry_walk.proofs.Starting.{started}
 use Rattle.entry_walk.proofs.Each.{Each}
-use Rattle.entry_table.specs.Rows.{rowOf, Finds}
+use Rattle.entry_table.specs.code.Rows.{rowOf, Finds}
 use Rattle.entry_walk.specs.declared.Row.{Row}
 use Rattle.entry_table.specs.declared.Nth.{Nth}
 use Rattle.entry_table.specs.declared.Nth.the-variants as N
 use Rattle.entry.specs.Entry.{refusedEntry, missingEntry, foundEntry, entryAnswer, entryOf}
-use Rattle.entry.specs.Typed.{onTyped, rowEntry}
+use Rattle.entry.specs.code.Typed.{onTyped, rowEntry}
 use Rattle.entry.specs.declared.EntryRead.{EntryRead}
 use Rattle.entry.specs.declared.EntryAnswer.the-variants as A
 use Rattle.entry.specs.declared.Typed.{Typed}

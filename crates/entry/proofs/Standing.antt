@@ -6,11 +6,12 @@ use mathlib.Core.List.{List, [], _∷_, append-nil}
 use lib.ListN.{take}
 use Rattle.wire.specs.Bytes.{below}
 use Rattle.wire.specs.Numbers.{ReadingRule, by, outOfOrder, unknownType}
-use Rattle.wire.specs.Format.{Format, took, read, moved, parse-inv, pick-inv}
+use Rattle.wire.specs.Format.{Format, took, read}
+use Rattle.wire.specs.laws.Format.{moved, parse-inv, pick-inv}
 use Rattle.wire.specs.Fields.{integer, blob, constant}
 use Rattle.wire.specs.Sequence.{guard, andThen, named}
 use Rattle.wire.specs.Series.{above, notBelow, countPrefixed}
-use Rattle.wire.specs.Answer.{wholeAt}
+use Rattle.wire.specs.code.Answer.{wholeAt}
 use Rattle.wire.proofs.Bytes.{Slice, slice-bytes}
 use Rattle.wire.proofs.Reading as W
 use Rattle.element.specs.Outputs.{amount, secpTransfer, Output, output, TransferableOutput, transferableOutput, outputFields}
@@ -19,34 +20,22 @@ use Rattle.element.specs.Operations.{action, Operation, operation, InitialState
 use Rattle.element.specs.declared.OutputFields.{OutputFields}
 use Rattle.transaction.specs.declared.Entry.{Entry}
 use Rattle.transaction.specs.declared.Entry.the-variants as E
-use Rattle.transaction.specs.Entries.{
-  EntryAt,
-  entryKind,
-  noId,
-  outputEntry,
-  exportedEntry,
-  inputEntry,
-  importedEntry,
-  operationEntry,
-  credentialEntry,
-  stateOutputEntry,
-  stateEntries,
-  entriesFrom,
-}
+use Rattle.transaction.specs.Entries.{EntryAt, entryKind, noId, outputEntry, exportedEntry, inputEntry, importedEntry, operationEntry, credentialEntry}
+use Rattle.transaction.specs.Entries.{stateOutputEntry, stateEntries, entriesFrom}
 use Rattle.transaction.specs.Plan.{elementsOf, planOf}
 use Rattle.transaction.specs.declared.ListName.{ListName}
 use Rattle.transaction.specs.declared.ListName.the-variants as L
 use Rattle.transaction.specs.Credentials.{Want, credentialCode}
 use Rattle.transaction.proofs.Reading.{written-next}
-use Rattle.entry_walk.specs.Walk.{start, Ahead}
+use Rattle.entry_walk.specs.code.Walk.{start, Ahead}
 use Rattle.entry_walk.proofs.Advancing.{state-of, Leading}
 use Rattle.entry_walk.proofs.Each.{Each, rest-each, plan-each}
-use Rattle.entry_fields.specs.Found.{outputFound, inputFound}
+use Rattle.entry_fields.specs.code.Found.{outputFound, inputFound}
 use Rattle.entry_fields.specs.declared.OutputFound.{OutputFound}
 use Rattle.entry_fields.specs.declared.InputFound.{InputFound}
 use Rattle.entry_fields.specs.declared.InputFound.the-variants as I
 use Rattle.entry_fields.proofs.Finding.{output-found, input-found, operation-found}
-use Rattle.entry.specs.Typed.{onOutput, onInput, onOperation, typedAt, afterKey, assetAt, txidAt}
+use Rattle.entry.specs.code.Typed.{onOutput, onInput, onOperation, typedAt, afterKey, assetAt, txidAt}
 use Rattle.entry.specs.declared.Typed.the-variants as T
 
 operation-asset : (s : List ℕ) (at : ℕ) (v : Operation) (m : ℕ) → read operation s at ≡ took v m → wholeAt 32 s at ≡ v .asset

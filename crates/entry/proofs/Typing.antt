@@ -17,7 +17,7 @@ use Rattle.entry_fields.specs.declared.InputFound.the-variants as I
 use Rattle.entry_fields.specs.declared.OperationFound.{OperationFound}
 use Rattle.entry_fields.specs.declared.OperationFound.the-variants as Y
 use Rattle.entry.specs.Entry.{missingEntry}
-use Rattle.entry.specs.Typed.{onOutput, onInput, onOperation, assetAt, txidAt, onTyped}
+use Rattle.entry.specs.code.Typed.{onOutput, onInput, onOperation, assetAt, txidAt, onTyped}
 use Rattle.entry.specs.declared.Typed.{Typed}
 use Rattle.entry.specs.declared.Typed.the-variants as T
 use Rattle.entry.specs.declared.EntryRead.{EntryRead}

@@ -1,3 +1,4 @@
 -- Entry n as typed fields
 pub mod Entry
-pub mod Typed
+-- what functions below the public calls answer; no claim rests on it
+pub mod code

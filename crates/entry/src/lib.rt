@@ -2,8 +2,8 @@
 ghost use mathlib.Core.Path.{_≡_};
 ghost use Rattle.transaction.specs.Answer.{memoMost};
 ghost use Rattle.entry.specs.Entry.{refusedEntry, missingEntry, entryOf};
-ghost use Rattle.entry.specs.Typed.{outputTyped, stateOutputTyped, inputTyped, operationTyped, credentialTyped};
-ghost use Rattle.entry.specs.Typed.{typedAt, afterKey, assetAt, txidAt, rowEntry};
+ghost use Rattle.entry.specs.code.Typed.{typedAt, afterKey, assetAt, txidAt, rowEntry, outputTyped, stateOutputTyped, inputTyped, operationTyped};
+ghost use Rattle.entry.specs.code.Typed.{credentialTyped};
 use entry_fields::InputFound;
 use entry_fields::OperationFound;
 use entry_fields::OutputFound;

@@ -7,10 +7,14 @@ use lib.ListN.{length, take, drop, length-append, length-drop}
 use lib.Dec.{eqb, ltb, leb}
 use Rattle.wire.specs.Numbers.{by, badThreshold, zeroAmount, badLength, unknownType}
 use Rattle.wire.specs.declared.Refusal.{Refusal}
-use Rattle.wire.specs.Format.{Format, took, refused, read, Stands, moved, parse-inv, pick-inv}
-use Rattle.wire.specs.Fields.{integer, length-integer, blob, blob-sized, constant}
-use Rattle.wire.specs.Sequence.{guard, andThen, named, tag, find-is, listed, listed-code}
-use Rattle.wire.specs.Series.{left, increasing, unordered, countPrefixed, items-sized}
+use Rattle.wire.specs.Format.{Format, took, refused, read, Stands}
+use Rattle.wire.specs.laws.Format.{moved, parse-inv, pick-inv}
+use Rattle.wire.specs.Fields.{integer, blob, constant}
+use Rattle.wire.specs.Sequence.{guard, andThen, named, tag}
+use Rattle.wire.specs.laws.Sequence.{find-is, listed-code}
+use Rattle.wire.specs.Parsers.{listed}
+use Rattle.wire.specs.Series.{left, increasing, unordered, countPrefixed}
+use Rattle.wire.specs.laws.Sizes.{items-sized, length-integer, blob-sized}
 use Rattle.wire.proofs.Bytes.{Slice, slice-bytes}
 use Rattle.wire.proofs.Reading as L
 use Rattle.string.specs.Strings.{string}
@@ -20,7 +24,7 @@ use Rattle.element.specs.Outputs.{OutputBody, transferBody, outputBody, Output,
 use Rattle.element.specs.Inputs.{key, keyWidth, indices, spend, inputFields}
 use Rattle.element.specs.Operations.{OperationType, mintNft, transferNft, operationCode, operationType, operationType-code, OperationOwners}
 use Rattle.element.specs.Operations.{operationOwners, terms, termsFields, recipients, action, Operation, operation, operationFields}
-use Rattle.element.specs.Answer.{Terms, Action}
+use Rattle.element.specs.code.Answer.{Terms, Action}
 use Rattle.element.specs.declared.OwnersFields.{OwnersFields}
 use Rattle.element.specs.declared.OutputFields.{OutputFields}
 use Rattle.element.specs.declared.OutputFields.the-variants as F
@@ -28,8 +32,8 @@ use Rattle.element.specs.declared.Recipients.the-variants as Q
 use Rattle.element.specs.declared.OperationFields.{OperationFields}
 use Rattle.element.proofs.Reading.{key-wide}
 use Rattle.transaction.proofs.Reading.{written-next}
-use Rattle.entry_fields.specs.Found.{ownersFound, outputOf, bodyFound, outputFound, inputFound, termsFound, transferTo, recipientsFound}
-use Rattle.entry_fields.specs.Found.{onTerms, onRecipients, operationOf, actionFound, operationFound}
+use Rattle.entry_fields.specs.code.Found.{onTerms, onRecipients, operationOf, actionFound, operationFound, ownersFound, outputOf, bodyFound, outputFound}
+use Rattle.entry_fields.specs.code.Found.{inputFound, termsFound, transferTo, recipientsFound}
 use Rattle.entry_fields.specs.declared.OwnersFound.{OwnersFound}
 use Rattle.entry_fields.specs.declared.OwnersFound.the-variants as W
 use Rattle.entry_fields.specs.declared.OutputFound.the-variants as O

@@ -9,7 +9,7 @@ use Rattle.element.specs.declared.TermsFields.{TermsFields}
 use Rattle.element.specs.declared.Recipients.{Recipients}
 use Rattle.element.specs.declared.Recipients.the-variants as Q
 use Rattle.element.specs.declared.OperationFields.{OperationFields}
-use Rattle.entry_fields.specs.Found.{outputOf, transferTo, onTerms, onRecipients}
+use Rattle.entry_fields.specs.code.Found.{outputOf, transferTo, onTerms, onRecipients}
 use Rattle.entry_fields.specs.declared.OwnersFound.{OwnersFound}
 use Rattle.entry_fields.specs.declared.OwnersFound.the-variants as W
 use Rattle.entry_fields.specs.declared.OutputFound.the-variants as O

@@ -1,2 +1,2 @@
--- The typed fields of elements, found by their offsets
-pub mod Found
+-- What functions below the public calls answer; no claim rests on it
+pub mod code

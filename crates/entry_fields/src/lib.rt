@@ -1,7 +1,7 @@
 // The typed fields of an element of an accepted transaction, found by their offsets alone: the check has already applied every rule.
 ghost use mathlib.Core.Path.{_≡_};
-ghost use Rattle.entry_fields.specs.Found.{ownersFound, mintFound, transferFound, nftMintFound, nftTransferFound, outputFound, inputFound};
-ghost use Rattle.entry_fields.specs.Found.{termsFound, recipientsFound, actionFound, operationFound};
+ghost use Rattle.entry_fields.specs.code.Found.{termsFound, recipientsFound, actionFound, operationFound, ownersFound, mintFound, transferFound};
+ghost use Rattle.entry_fields.specs.code.Found.{nftMintFound, nftTransferFound, outputFound, inputFound};
 use element::InputFields;
 use element::OperationFields;
 use element::OutputFields;

@@ -4,11 +4,12 @@ use mathlib.Core.Path.{_≡_, ap}
 use mathlib.Core.List.{List, [], _∷_, _++_}
 use native.Mathlib.Omega.{arith}
 use lib.ListN.{length, length-append}
-use Rattle.wire.specs.Bytes.{length-digits}
+use Rattle.wire.specs.laws.Bytes.{length-digits}
 use Rattle.wire.specs.Format.{Format}
 use Rattle.wire.specs.Fields.{integer}
-use Rattle.wire.specs.Sequence.{guard, tag}
-use Rattle.wire.specs.Series.{items, left, listWrite, notBelow}
+use Rattle.wire.specs.Sequence.{guard, tag, items}
+use Rattle.wire.specs.Series.{left, notBelow}
+use Rattle.wire.specs.Parsers.{listWrite}
 use Rattle.element.specs.Outputs.{secpMint, secpTransfer, nftMint, nftTransfer, OutputType, Output, output, TransferableOutput, transferableOutput}
 use Rattle.element.specs.Inputs.{Input, input}
 use Rattle.element.specs.Operations.{Operation, operation, InitialState, fxCode, fxOutputs, fxId, stateOutputs, initialStateAfter, initialState}

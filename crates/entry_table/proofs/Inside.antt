@@ -5,9 +5,11 @@ use mathlib.Core.List.{List, [], _∷_, _++_}
 use native.Mathlib.Omega.{arith}
 use lib.ListN.{length, length-append}
 use Rattle.wire.specs.Format.{Format}
-use Rattle.wire.specs.Fields.{integer, length-integer}
-use Rattle.wire.specs.Sequence.{guard, tag}
-use Rattle.wire.specs.Series.{items, left, listWrite, notBelow}
+use Rattle.wire.specs.Fields.{integer}
+use Rattle.wire.specs.laws.Sizes.{length-integer}
+use Rattle.wire.specs.Sequence.{guard, tag, items}
+use Rattle.wire.specs.Series.{left, notBelow}
+use Rattle.wire.specs.Parsers.{listWrite}
 use Rattle.element.specs.Outputs.{output}
 use Rattle.element.specs.Operations.{InitialState, fxCode, fxOutputs, fxId, stateOutputs, initialStateAfter, initialState}
 use Rattle.transaction.specs.Slots.{signatureWidth}

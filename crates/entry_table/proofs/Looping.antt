@@ -11,12 +11,12 @@ use lib.Seq.{sets-eq, length-take-le}
 use borrow.Author.Tests.{le-leb, lt-leb, eq-eqb, ne-eqb}
 use Rattle.wire.specs.Bytes.{pick}
 use Rattle.transaction.specs.Entries.{EntryAt, nth}
-use Rattle.entry_walk.specs.Walk.{located, start, Ahead, Advances, AdvanceAhead, ahead, Below, Shorter}
+use Rattle.entry_walk.specs.code.Walk.{located, start, Ahead, Advances, AdvanceAhead, ahead, Below, Shorter}
 use Rattle.entry_walk.specs.declared.Cursor.{Cursor}
 use Rattle.entry_walk.specs.declared.Row.{Row}
 use Rattle.entry_walk.specs.declared.Advance.{Advance}
 use Rattle.entry_walk.specs.declared.Advance.the-variants as T
-use Rattle.entry_table.specs.Rows.{numbers, putRow, putRows, rowOf, Counts, Finds, Puts}
+use Rattle.entry_table.specs.code.Rows.{numbers, putRow, putRows, rowOf, Counts, Finds, Puts}
 use Rattle.entry_table.specs.declared.Count.the-variants as C
 use Rattle.entry_table.specs.declared.Nth.the-variants as N
 

@@ -23,9 +23,9 @@ use Rattle.transaction.specs.declared.Checked.{Checked}
 use Rattle.transaction.specs.declared.Checked.the-variants as C
 use Rattle.transaction.proofs.Codec.{codec}
 use Rattle.transaction.proofs.Verdicts.{refused-check, checked-accepted}
-use Rattle.entry_walk.specs.Walk.{located, start, Ahead}
+use Rattle.entry_walk.specs.code.Walk.{located, start, Ahead}
 use Rattle.entry_walk.proofs.Starting.{started}
-use Rattle.entry_table.specs.Rows.{numbers, putRow, putRows, countedRows, Counts, Puts}
+use Rattle.entry_table.specs.code.Rows.{numbers, putRow, putRows, countedRows, Counts, Puts}
 use Rattle.entry_table.specs.Table.{filled, listed, tabled}
 use Rattle.entry_table.specs.declared.Count.{Count}
 use Rattle.entry_table.specs.declared.Count.the-variants as N

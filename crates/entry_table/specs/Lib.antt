@@ -1,3 +1,4 @@
 -- The table of entries
-pub mod Rows
 pub mod Table
+-- what functions below the public calls answer; no claim rests on it
+pub mod code

@@ -4,7 +4,7 @@ ghost use Prim.Native.Nat.{_+_, _-_, _*_, _≤_};
 ghost use lib.ListN.{length};
 ghost use Rattle.transaction.specs.Answer.{memoMost};
 ghost use Rattle.entry_table.specs.Table.{filled, tabled};
-ghost use Rattle.entry_table.specs.Rows.{putRow, Counts, Finds, Puts};
+ghost use Rattle.entry_table.specs.code.Rows.{putRow, Counts, Finds, Puts};
 use crate::Count;
 use crate::Nth;
 use crate::ROW_NUMBERS;

@@ -16,11 +16,16 @@ use Rattle.wire.specs.declared.Integer.{Integer}
 use Rattle.wire.specs.declared.Integer.the-variants as N
 use Rattle.wire.specs.Bytes.{below}
 use Rattle.wire.specs.Numbers.{by, outOfOrder, unknownType, wrongCount}
-use Rattle.wire.specs.Format.{Format, took, refused, read, parse-inv, pick-inv, read-complete}
-use Rattle.wire.specs.Fields.{integer, blob, blob-sized, length-integer, constant}
-use Rattle.wire.specs.Sequence.{guard, tag, andThen, «as»}
-use Rattle.wire.specs.Series.{items, listParse, list-inv, left, seriesFrom, notBelow}
-use Rattle.wire.specs.Answer.{ended, valued, Passes}
+use Rattle.wire.specs.Format.{Format, took, refused, read}
+use Rattle.wire.specs.laws.Format.{parse-inv, pick-inv}
+use Rattle.wire.proofs.Format.{read-complete}
+use Rattle.wire.specs.Fields.{integer, blob, constant}
+use Rattle.wire.specs.laws.Sizes.{blob-sized, length-integer}
+use Rattle.wire.specs.Sequence.{guard, tag, andThen, «as», items}
+use Rattle.wire.specs.Series.{left, seriesFrom, notBelow}
+use Rattle.wire.specs.Parsers.{listParse}
+use Rattle.wire.specs.laws.Items.{list-inv}
+use Rattle.wire.specs.code.Answer.{ended, valued, Passes}
 use Rattle.wire.proofs.Bytes.{Slice, slice-bytes, found}
 use Rattle.wire.proofs.Reading as W
 use Rattle.element.specs.Outputs.{Output, output}
@@ -35,11 +40,12 @@ use Rattle.transaction.specs.declared.ListName.the-variants as L
 use Rattle.transaction.proofs.Reading.{written-next}
 use Rattle.plan.specs.declared.Due.{Due}
 use Rattle.plan.specs.declared.Due.the-variants as D
-use Rattle.plan.specs.Due.{tail, due, lastPhase, Live, dueOf, entryOf, FieldPast, ElementTells}
+use Rattle.plan.specs.Due.{tail, due, dueOf}
+use Rattle.plan.specs.code.Rows.{lastPhase, Live, entryOf, FieldPast, ElementTells}
 use Rattle.plan.proofs.RowLaws.{live-phase, live-next, if-nothing, if-end, if-field, if-list}
-use Rattle.entry_walk.specs.Walk.{located, credentialBytes, Followed, Rest, Credentials, PlanAhead, ListAhead, StateAhead, AheadIn, Ahead, First}
-use Rattle.entry_walk.specs.Walk.{Advances, AdvanceAhead, ElementAdvance, StateOutputAdvance, CredentialAdvance, LaterAdvance, CountedAdvance}
-use Rattle.entry_walk.specs.Walk.{ahead, Below, Shorter, Entered}
+use Rattle.entry_walk.specs.code.Walk.{ahead, Below, Shorter, Entered, located, credentialBytes, Followed, Rest, Credentials, PlanAhead, ListAhead}
+use Rattle.entry_walk.specs.code.Walk.{StateAhead, AheadIn, Ahead, First, Advances, AdvanceAhead, ElementAdvance, StateOutputAdvance, CredentialAdvance}
+use Rattle.entry_walk.specs.code.Walk.{LaterAdvance, CountedAdvance}
 use Rattle.entry_walk.specs.declared.Cursor.{Cursor}
 use Rattle.entry_walk.specs.declared.Advance.{Advance}
 use Rattle.entry_walk.specs.declared.Advance.the-variants as T

@@ -11,7 +11,7 @@ use Rattle.transaction.specs.Credentials.{Want, each, pieces}
 use Rattle.transaction.specs.Entries.{EntryAt, credentialEntry, credentialEntries}
 use Rattle.transaction.specs.Plan.{elementsOf, Plan, shut, end, field, many}
 use Rattle.transaction.specs.declared.ListName.{ListName}
-use Rattle.entry_walk.specs.Walk.{Rest, Credentials, PlanAhead}
+use Rattle.entry_walk.specs.code.Walk.{Rest, Credentials, PlanAhead}
 use Rattle.entry_walk.proofs.Advancing.{rest-done, one-of, Leading, leading-of}
 
 module _ (P : EntryAt → Type 0) where

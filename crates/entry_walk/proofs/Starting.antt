@@ -8,8 +8,10 @@ use lib.Dec.{eqb, leb}
 use borrow.Author.Tests.{eqb-true}
 use Rattle.wire.specs.Bytes.{pick}
 use Rattle.wire.specs.Numbers.{by, emptyList, refusal, tooLong, bytesAfterEnd, wrongCount}
-use Rattle.wire.specs.Format.{Format, took, refused, read, parse-inv, pick-inv}
-use Rattle.wire.specs.Fields.{integer, length-integer, constant, blob}
+use Rattle.wire.specs.Format.{Format, took, refused, read}
+use Rattle.wire.specs.laws.Format.{parse-inv, pick-inv}
+use Rattle.wire.specs.Fields.{integer, constant, blob}
+use Rattle.wire.specs.laws.Sizes.{length-integer}
 use Rattle.wire.specs.Sequence.{andThen, tag}
 use Rattle.wire.specs.Series.{seriesFrom}
 use Rattle.wire.proofs.Bytes.{Slice, slice-bytes}
@@ -23,7 +25,7 @@ use Rattle.transaction.specs.Family.{Head, head, Unsigned, unsigned, wants, Sig
 use Rattle.transaction.specs.declared.TransactionType.{TransactionType}
 use Rattle.transaction.specs.declared.TransactionType.the-variants as K
 use Rattle.transaction.proofs.Reading.{written-next}
-use Rattle.entry_walk.specs.Walk.{start, PlanAhead, Ahead}
+use Rattle.entry_walk.specs.code.Walk.{start, PlanAhead, Ahead}
 use Rattle.entry_walk.proofs.Advancing.{integer-next}
 
 -- the head has 42 bytes, so the outputs' count starts at 42

@@ -1,2 +1,2 @@
--- The steps from one entry to the next
-pub mod Walk
+-- What functions below the public calls answer; no claim rests on it
+pub mod code

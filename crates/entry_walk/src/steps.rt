@@ -1,10 +1,10 @@
 // Steps from one entry of an accepted transaction to the next. On other bytes the steps end too, but the entries mean nothing.
 ghost use mathlib.Core.Path.{_≡_};
 ghost use Prim.Native.Nat.{_<_};
-ghost use Rattle.wire.specs.Answer.{ended};
+ghost use Rattle.wire.specs.code.Answer.{ended};
 ghost use Rattle.transaction.specs.declared.ListName.the-variants as L;
-ghost use Rattle.entry_walk.specs.Walk.{start, credentialBytes, Entered, Shorter};
-ghost use Rattle.entry_walk.specs.Walk.{CountedAdvance, LaterAdvance, ElementAdvance, StateOutputAdvance, CredentialAdvance, AdvanceAhead};
+ghost use Rattle.entry_walk.specs.code.Walk.{CountedAdvance, LaterAdvance, ElementAdvance, StateOutputAdvance, CredentialAdvance, AdvanceAhead, start};
+ghost use Rattle.entry_walk.specs.code.Walk.{credentialBytes, Entered, Shorter};
 use crate::Advance;
 use crate::CREDENTIAL;
 use crate::Cursor;

@@ -5,7 +5,8 @@ use mathlib.Core.List.{List}
 use native.Mathlib.Omega.{arith}
 use borrow.Author.Tests.{ne-eqb}
 use Rattle.wire.specs.declared.Refusal.{Refusal}
-use Rattle.wire.specs.Numbers.{numberOf, number-range}
+use Rattle.wire.specs.Numbers.{numberOf}
+use Rattle.wire.proofs.Numbers.{number-range}
 use Rattle.entry_table.specs.Table.{Filled, filled}
 use Rattle.entry_table.specs.declared.Tabled.{Tabled}
 use Rattle.entry_table.specs.declared.Tabled.the-variants as T

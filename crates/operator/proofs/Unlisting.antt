@@ -7,7 +7,8 @@ use native.Mathlib.Omega.{arith}
 use lib.Dec.{leb, eqb}
 use lib.ListN.{length, drop, length-map}
 use Rattle.wire.specs.Bytes.{Bytes, pick}
-use Rattle.wire.specs.Numbers.{refusal, numberOf, noRoom, number-range}
+use Rattle.wire.specs.Numbers.{refusal, numberOf, noRoom}
+use Rattle.wire.proofs.Numbers.{number-range}
 use Rattle.wire.specs.declared.Refusal.{Refusal}
 use Rattle.wire.specs.Format.{Result, took, refused, onResult}
 use Rattle.transaction.specs.Family.{Signed, unsigned, wants, check, entries}

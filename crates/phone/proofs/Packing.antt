@@ -13,7 +13,8 @@ use Rattle.wire.specs.declared.Rule.{Rule}
 use Rattle.wire.specs.declared.Refusal.{Refusal}
 use Rattle.wire.proofs.Bytes.{Slice, slice-bytes, found}
 use Rattle.wire.specs.Numbers.{refusal, numberOf, noRoom, firstNotAccepted, secondNotAccepted, draftsDiffer, conflict}
-use Rattle.transaction.specs.Slots.{slotAt, length-slotAt}
+use Rattle.transaction.specs.Slots.{slotAt}
+use Rattle.transaction.proofs.Slots.{length-slotAt}
 use Rattle.transaction.specs.Credentials.{Want}
 use Rattle.transaction.specs.Family.{Unsigned, unsigned, wants, check}
 use Rattle.transaction.specs.Avm.{avm}

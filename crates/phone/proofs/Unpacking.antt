@@ -4,7 +4,8 @@ use mathlib.Core.Path.{_≡_, refl, sym, ap}
 use mathlib.Core.List.{List}
 use native.Mathlib.Omega.{arith}
 use Rattle.wire.specs.Bytes.{Bytes}
-use Rattle.wire.specs.Numbers.{numberOf, number-range}
+use Rattle.wire.specs.Numbers.{numberOf}
+use Rattle.wire.proofs.Numbers.{number-range}
 use Rattle.wire.specs.Format.{Result, took, refused, onResult, verdict}
 use Rattle.transaction.specs.Family.{Signed, check}
 use Rattle.transaction.specs.Avm.{avm}

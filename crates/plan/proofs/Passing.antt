@@ -11,11 +11,15 @@ use Rattle.wire.specs.declared.End.{End}
 use Rattle.wire.specs.declared.End.the-variants as P
 use Rattle.wire.specs.declared.Integer.{Integer}
 use Rattle.wire.specs.declared.Integer.the-variants as N
-use Rattle.wire.specs.Format.{Format, took, refused, read, parse-inv}
-use Rattle.wire.specs.Fields.{length-integer, blob}
-use Rattle.wire.specs.Sequence.{guard}
-use Rattle.wire.specs.Series.{items, listParse, list-inv, left, seriesFrom, notBelow}
-use Rattle.wire.specs.Answer.{ended, Passes, Tells}
+use Rattle.wire.specs.Format.{Format, took, refused, read}
+use Rattle.wire.specs.laws.Format.{parse-inv}
+use Rattle.wire.specs.Fields.{blob}
+use Rattle.wire.specs.laws.Sizes.{length-integer}
+use Rattle.wire.specs.Sequence.{guard, items}
+use Rattle.wire.specs.Series.{left, seriesFrom, notBelow}
+use Rattle.wire.specs.Parsers.{listParse}
+use Rattle.wire.specs.laws.Items.{list-inv}
+use Rattle.wire.specs.code.Answer.{ended, Passes, Tells}
 use Rattle.wire.proofs.Bytes.{Slice}
 use Rattle.wire.proofs.Passing.{passes-wide}
 use Rattle.wire.proofs.Reading.{blob-wide}
@@ -28,7 +32,7 @@ use Rattle.transaction.specs.declared.FieldName.{FieldName}
 use Rattle.transaction.specs.declared.FieldName.the-variants as F
 use Rattle.transaction.specs.declared.ListName.{ListName}
 use Rattle.transaction.specs.declared.ListName.the-variants as L
-use Rattle.plan.specs.Due.{placeOf, FieldPast, FieldSigns, silentOf, ElementTells, ElementsPast, AskingTells}
+use Rattle.plan.specs.code.Rows.{placeOf, FieldPast, FieldSigns, silentOf, ElementTells, ElementsPast, AskingTells}
 
 -- ---- fields
 

@@ -10,7 +10,7 @@ use borrow.Author.Tests.{eq-eqb, ne-eqb, leb-true, leb-false}
 use Rattle.wire.specs.Bytes.{pick}
 use Rattle.wire.specs.declared.End.{End}
 use Rattle.wire.specs.Series.{series}
-use Rattle.wire.specs.Answer.{ended}
+use Rattle.wire.specs.code.Answer.{ended}
 use Rattle.wire.proofs.Bytes.{found}
 use Rattle.transaction.specs.Plan.{contentOf, elementsOf, Plan, shut, end, field, many, ownPlan, plan, typeOf, planOf}
 use Rattle.transaction.specs.declared.FieldName.{FieldName}
@@ -19,7 +19,8 @@ use Rattle.transaction.specs.declared.TransactionType.{TransactionType}
 use Rattle.transaction.specs.declared.TransactionType.the-variants as K
 use Rattle.plan.specs.declared.Due.{Due}
 use Rattle.plan.specs.declared.Due.the-variants as D
-use Rattle.plan.specs.Due.{tail, after, due, lastPhase, Live, dueOf, isList, isField, isOpen, isFinish}
+use Rattle.plan.specs.Due.{tail, after, due, dueOf, isList, isField, isOpen, isFinish}
+use Rattle.plan.specs.code.Rows.{lastPhase, Live}
 
 -- ---- rows: by the code's tests of how many segments are begun
 

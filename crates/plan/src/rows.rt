@@ -2,11 +2,11 @@
 // name here, a new type a row.
 ghost use mathlib.Core.Path.{_≡_};
 ghost use Rattle.wire.specs.Series.{series};
-ghost use Rattle.wire.specs.Answer.{ended};
+ghost use Rattle.wire.specs.code.Answer.{ended};
 ghost use Rattle.transaction.specs.Plan.{contentOf, fieldCredential, elementsOf, ownPlan, typeOf, isType, planOf};
 ghost use Rattle.transaction.specs.declared.TransactionType.the-variants as K;
-ghost use Rattle.plan.specs.Due.{after, due, dueOf, credentialAsked, entryOf, placeOf, FieldPast, FieldSigns, silentOf, ElementTells};
-ghost use Rattle.plan.specs.Due.{ElementsPast, AskingTells};
+ghost use Rattle.plan.specs.Due.{after, due, dueOf};
+ghost use Rattle.plan.specs.code.Rows.{ElementsPast, AskingTells, credentialAsked, entryOf, placeOf, FieldPast, FieldSigns, silentOf, ElementTells};
 use crate::Due;
 use transaction::FieldName;
 use transaction::ListName;

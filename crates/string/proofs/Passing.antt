@@ -9,7 +9,7 @@ use Rattle.wire.specs.declared.End.the-variants as P
 use Rattle.wire.specs.Format.{Format, Result, refused}
 use Rattle.wire.specs.Fields.{blob, integer}
 use Rattle.wire.specs.Sequence.{andThen}
-use Rattle.wire.specs.Answer.{ended, Passes}
+use Rattle.wire.specs.code.Answer.{ended, Passes}
 use Rattle.wire.proofs.Bytes.{Slice}
 use Rattle.wire.proofs.Passing.{Yields, next, passes, parse-next, parse-refused, leads-parse, leads-covered, Covers}
 use Rattle.string.specs.Strings.{string, memo, text}

@@ -15,10 +15,12 @@ use Rattle.wire.specs.declared.End.the-variants as P
 use Rattle.wire.specs.Bytes.{pick, between}
 use Rattle.wire.specs.Numbers.{by, notPrintable}
 use Rattle.wire.specs.Fields.{blob}
-use Rattle.wire.specs.Answer.{ended}
+use Rattle.wire.specs.code.Answer.{ended}
 use Rattle.wire.proofs.Bytes.{Slice}
 use Rattle.wire.proofs.Reading as W
-use Rattle.string.specs.Strings.{unprintable, unprintable-le, string}
+use Rattle.string.specs.Strings.{string}
+use Rattle.string.specs.Characters.{unprintable}
+use Rattle.string.specs.laws.Characters.{unprintable-le}
 
 module _ {R : Type 0} (most : ℕ) (s : List ℕ) (at : ℕ) (z : R) (stop : Refusal → R) (go : List ℕ → ℕ → R) (x : End) where
   pub on-string : (n : ℕ) → x ≡ ended (string 4 most) s at → x ≡ P.At n → ((v : List ℕ) → z ≡ go v n) → z ≡ string 4 most .parse s at stop go

@@ -7,7 +7,9 @@ use Rattle.wire.specs.Numbers.{ruleOf, cutShort, badLength, notPrintable, badDe
 use Rattle.wire.specs.Fields.{integer, blob}
 use Rattle.wire.specs.Sequence.{andThen, guard}
 use Rattle.wire.proofs.Refusing.{RefusesBy, blob-refuses, integer-refuses, then-refuses, guard-refuses, guardAt-refuses, mapped-refuses}
-use Rattle.string.specs.Strings.{lengthFits, notEmpty, textLength, denominationFits, lengthTo, string, unprintable, unprintable-within}
+use Rattle.string.specs.Strings.{lengthFits, notEmpty, textLength, denominationFits, lengthTo, string}
+use Rattle.string.specs.Characters.{unprintable}
+use Rattle.string.specs.laws.Characters.{unprintable-within}
 use Rattle.string.specs.Strings.{printable, text, denomination}
 
 module _ (P : Rule → Type 0) (short : P (ruleOf cutShort)) where

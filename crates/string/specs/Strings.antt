@@ -1,16 +1,17 @@
 -- Strings: a length, then that many bytes. The length is checked when it is read, the characters when the whole string is there. Assumes nothing.
 use mathlib.Core.Path.{refl, ap}
-use Prim.Native.Nat.{ℕ, suc, _+_, _≤_}
-use native.Mathlib.Omega.{arith}
-use mathlib.Core.Bool.{Bool, true, false, _&&_}
-use mathlib.Core.List.{List, [], _∷_}
+use Prim.Native.Nat.{ℕ, _+_}
+use mathlib.Core.Bool.{Bool}
+use mathlib.Core.List.{List}
 use lib.ListN.{length}
 use lib.Dec.{leb, ltb, eqb}
-use Rattle.wire.specs.Bytes.{pick}
 use Rattle.wire.specs.Numbers.{badLength, notPrintable, badDenomination}
 use Rattle.wire.specs.Format.{Format}
-use Rattle.wire.specs.Fields.{integer, blob, blob-sized}
+use Rattle.wire.specs.Fields.{integer, blob}
+use Rattle.wire.specs.laws.Sizes.{blob-sized}
 use Rattle.wire.specs.Sequence.{andThen, guard, guardAt, named}
+use Rattle.string.specs.Characters.{unprintable}
+use Rattle.string.specs.laws.Characters.{unprintable-within}
 
 -- the length is at most `most`
 abbrev pub lengthFits : ℕ → ℕ → Bool
@@ -33,27 +34,6 @@ abbrev pub payload : Format (List ℕ)
 payload = string 4 1024
 
 -- ---- text: 1 to `most` characters, each from 0x20 to 0x7e
-
-abbrev pub isPrintable : ℕ → Bool
-isPrintable x = leb 32 x && leb x 126
-
--- the index of the first character that is not printable, or the length if all are
-unfoldable pub unprintable : List ℕ → ℕ
-unprintable [] = 0
-unprintable (x ∷ xs) = pick (isPrintable x) (suc (unprintable xs)) 0
-
-pub unprintable-le : (s : List ℕ) → unprintable s ≤ length s
-unfolding unprintable
-unprintable-le [] = omega arith
-unprintable-le (x ∷ s) = go (isPrintable x) (unprintable-le s)
-  where
-    go : (t : Bool) → unprintable s ≤ length s → pick t (suc (unprintable s)) 0 ≤ suc (length s)
-    go true h = omega arith
-    go false h = omega arith
-
-pub unprintable-within : (n at : ℕ) (b : List ℕ) → at + unprintable b ≤ at + length (blob n .write b)
-unfolding blob
-unprintable-within n at b = omega (arith, unprintable-le b)
 
 unfoldable pub printable : ℕ → Format (List ℕ)
 unfolding guardAt

@@ -1,8 +1,9 @@
 // Strings: a length, then that many bytes.
 ghost use mathlib.Core.Path.{_≡_};
 ghost use Prim.Native.Nat.{ℕ};
-ghost use Rattle.wire.specs.Answer.{ended, Passes};
-ghost use Rattle.string.specs.Strings.{string, memo, unprintable, text, denomination};
+ghost use Rattle.wire.specs.code.Answer.{ended, Passes};
+ghost use Rattle.string.specs.Strings.{string, memo, text, denomination};
+ghost use Rattle.string.specs.Characters.{unprintable};
 use wire::End;
 use wire::Integer;
 use wire::Rule;

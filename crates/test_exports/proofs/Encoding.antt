@@ -11,7 +11,7 @@ use Rattle.entry_table.specs.declared.Tabled.{Tabled}
 use Rattle.entry_table.specs.declared.Tabled.the-variants as T
 use Rattle.draft.specs.declared.Answer.{Answer}
 use Rattle.draft.specs.declared.Answer.the-variants as A
-use Rattle.test_exports.specs.Encoded.{exportedTable, encodedTable, encodedFill}
+use Rattle.test_exports.specs.code.Encoded.{exportedTable, encodedTable, encodedFill}
 
 -- x is what the check answered, and u what the table holds then
 module _ (s t u : List ℕ) (x : Tabled) (p : filled x u ≡ tabled memoMost s t) where

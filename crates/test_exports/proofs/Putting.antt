@@ -12,8 +12,8 @@ use Rattle.transaction.specs.declared.Entry.{Entry}
 use Rattle.entry.specs.declared.EntryAnswer.{EntryAnswer}
 use Rattle.entry.specs.declared.EntryAnswer.the-variants as A
 use Rattle.entry.specs.declared.EntryRead.{EntryRead}
-use Rattle.test_exports.specs.Values.{Value, putAt, ownersValues, outputValues, recipientsValues, operationValues, entryValues, answerValues}
-use Rattle.test_exports.specs.Values.{putId, exportedEntry, encodedEntry}
+use Rattle.test_exports.specs.code.Values.{putId, exportedEntry, encodedEntry, Value, putAt, ownersValues, outputValues, recipientsValues}
+use Rattle.test_exports.specs.code.Values.{operationValues, entryValues, answerValues}
 
 pub put-one : (i v : ℕ) (l : List Value) (t u w : List ℕ) → u ≡ set t i v → w ≡ putAt l u → w ≡ putAt ((i, v) ∷ l) t
 unfolding putAt

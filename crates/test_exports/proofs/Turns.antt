@@ -8,9 +8,8 @@ use Rattle.writer.specs.declared.Writer.{Writer}
 use Rattle.writer.specs.declared.Step.{Step}
 use Rattle.writer.specs.declared.Written.{Written}
 use Rattle.writer.specs.declared.Written.the-variants as W
-use Rattle.writer.specs.Steps.{Turn, writtenNumber, writtenPlace}
-use Rattle.writer.specs.Code.{after}
-use Rattle.test_exports.specs.Turns.{numbersOf, encodedStep, exportedTurn, encodedTurn}
+use Rattle.writer.specs.Steps.{Turn, writtenNumber, writtenPlace, after}
+use Rattle.test_exports.specs.code.Turns.{numbersOf, encodedStep, exportedTurn, encodedTurn}
 
 abbrev encodedAnswer : Writer → Written → List ℕ
 encodedAnswer w a = numbersOf w (writtenNumber a) (writtenPlace a)

@@ -4,7 +4,7 @@ ghost use Rattle.transaction.specs.Avm.{avm};
 ghost use Rattle.transaction.specs.Answer.{memoMost};
 ghost use Rattle.writer.specs.Fields.{addOutput, addInput, addOperation, addInitialState, putMemo, putName, putSymbol, putDenomination, putChain};
 ghost use Rattle.writer.specs.Steps.{fresh, start, close, finish};
-ghost use Rattle.test_exports.specs.Turns.{writerOf, numbersOf, encodedStep, exportedTurn, encodedTurn};
+ghost use Rattle.test_exports.specs.code.Turns.{writerOf, numbersOf, encodedStep, exportedTurn, encodedTurn};
 use writer::Step;
 use writer::Writer;
 use writer::Written;

@@ -11,15 +11,16 @@ use Rattle.wire.specs.declared.End.the-variants as P
 use Rattle.wire.specs.Bytes.{pick}
 use Rattle.wire.specs.Numbers.{refusal, tooLong, bytesAfterEnd}
 use Rattle.wire.specs.Format.{took, read}
-use Rattle.wire.specs.Whole.{whole-same}
-use Rattle.wire.specs.Answer.{ended}
+use Rattle.wire.proofs.Whole.{whole-same}
+use Rattle.wire.specs.code.Answer.{ended}
 use Rattle.wire.proofs.Reading as W
 use Rattle.element.proofs.Reading.{answer-took, answer-refused}
 use Rattle.transaction.specs.Credentials.{credentials}
 use Rattle.transaction.specs.Signed as Any
 use Rattle.transaction.specs.Family.{Unsigned, unsigned, wants, signed}
 use Rattle.transaction.specs.Avm.{avm}
-use Rattle.transaction.specs.Answer.{layout, unsignedAt, CredentialsAt, SignedAt, checked}
+use Rattle.transaction.specs.Answer.{layout, checked}
+use Rattle.transaction.specs.code.Answer.{unsignedAt, CredentialsAt, SignedAt}
 use Rattle.transaction.specs.declared.Layout.{Layout}
 use Rattle.transaction.specs.declared.UnsignedRead.{UnsignedRead}
 use Rattle.transaction.specs.declared.UnsignedRead.the-variants as U

@@ -4,8 +4,9 @@ use Prim.Native.Nat.{ℕ, _≤_}
 use mathlib.Core.List.{List}
 use lib.ListN.{length}
 use Rattle.wire.specs.Bytes.{Bytes}
-use Rattle.wire.specs.Format.{took, refused, local, write-inj}
-use Rattle.wire.specs.Whole.{whole-sound, whole-complete, whole-ruled, whole-placed}
+use Rattle.wire.specs.Format.{took, refused}
+use Rattle.wire.proofs.Format.{local, write-inj}
+use Rattle.wire.proofs.Whole.{whole-sound, whole-complete, whole-ruled, whole-placed}
 use Rattle.transaction.specs.Signed.{mostBytes, taken}
 use Rattle.transaction.specs.Signed as Any
 use Rattle.transaction.specs.Family.{Family, unsigned, Signed, signed, check}

@@ -10,12 +10,14 @@ use lib.Dec.{eqb}
 use lib.ListN.{length, take, getD, length-append, List·getD-append}
 use lib.Seq.{take-at, drop-at, getD-append-add}
 use borrow.Author.Tests.{eq-eqb}
-use Rattle.wire.specs.Bytes.{Bytes, digits, length-digits, pick}
+use Rattle.wire.specs.Bytes.{Bytes, digits, pick}
+use Rattle.wire.specs.laws.Bytes.{length-digits}
 use Rattle.wire.specs.Numbers.{by, unknownType, wrongCount}
-use Rattle.wire.specs.Format.{parse-alike}
+use Rattle.wire.proofs.Format.{parse-alike}
 use Rattle.wire.specs.Fields.{integer, blob}
 use Rattle.wire.specs.declared.Refusal.{Refusal}
-use Rattle.transaction.specs.Slots.{signatureWidth, blank, slotAt, Outside, Spaced, length-slotAt, bytes-slotAt, bytes-blank, length-blank}
+use Rattle.transaction.specs.Slots.{signatureWidth, blank, slotAt, Outside, Spaced}
+use Rattle.transaction.proofs.Slots.{length-slotAt, bytes-slotAt, bytes-blank, length-blank}
 use Rattle.transaction.specs.Credentials.{CredentialType, secpCredential, nftCredential, credentialCode, Want, Piece, due, signature}
 use Rattle.transaction.specs.Credentials.{signatures, credential, each, layout, pieces, credentials, places, size, blanks, total}
 

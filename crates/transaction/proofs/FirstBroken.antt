@@ -11,12 +11,17 @@ use lib.ListN.{length, take, drop, length-take, take-append-drop}
 use lib.Seq.{take-length, take-take, length-take-le}
 use lib.Dec.{leb, eqb}
 use borrow.Author.Tests.{le-leb, lt-leb, leb-true, leb-false, eqb-false, eq-eqb, ne-eqb}
-use Rattle.wire.specs.Bytes.{Bytes, pick, bytes-take}
-use Rattle.wire.specs.Format.{Format, Result, took, refused, onResult, read, read-complete, kept, local, took-refused, stands-inside}
+use Rattle.wire.specs.Bytes.{Bytes, pick}
+use Rattle.wire.specs.laws.Bytes.{bytes-take}
+use Rattle.wire.specs.Format.{Format, Result, took, refused, onResult, read}
+use Rattle.wire.proofs.Format.{read-complete, local}
+use Rattle.wire.specs.laws.Format.{kept, took-refused, stands-inside}
 use Rattle.wire.specs.declared.Rule.{Rule}
-use Rattle.wire.specs.Numbers.{refusal, numberOf, ruleOf, cutShort, tooLong, bytesAfterEnd, ruled-range}
+use Rattle.wire.specs.Numbers.{refusal, numberOf, ruleOf, cutShort, tooLong, bytesAfterEnd}
+use Rattle.wire.proofs.Numbers.{ruled-range}
 use Rattle.wire.proofs.Refusing.{cut-or-other}
-use Rattle.wire.specs.Whole.{whole, whole-sound}
+use Rattle.wire.specs.Whole.{whole}
+use Rattle.wire.proofs.Whole.{whole-sound}
 use Rattle.wire.specs.declared.Refusal.{Refusal}
 use Rattle.transaction.specs.Signed.{mostBytes, taken}
 use Rattle.transaction.specs.Signed as Any

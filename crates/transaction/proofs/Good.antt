@@ -9,12 +9,14 @@ use mathlib.Core.List.{List, [], _∷_, _++_, map, map-congr-left, append-nil}
 use lib.ListN.{length}
 use lib.Dec.{leb}
 use borrow.Author.Tests.{leb-true, le-leb}
-use Rattle.wire.specs.Bytes.{digits, length-digits, below}
+use Rattle.wire.specs.Bytes.{digits, below}
+use Rattle.wire.specs.laws.Bytes.{length-digits}
 use Rattle.wire.specs.Numbers.{wrongCodec, unknownType, wrongCount, emptyList}
 use Rattle.wire.specs.Format.{Format}
-use Rattle.wire.specs.Fields.{Sized, integer, blob}
+use Rattle.wire.specs.Fields.{integer, blob}
 use Rattle.wire.specs.Sequence.{guard}
-use Rattle.wire.specs.Series.{left, Chain, notBelow}
+use Rattle.wire.specs.Series.{left, notBelow}
+use Rattle.wire.specs.Parsers.{Chain, Sized}
 use Rattle.wire.specs.Orders.{All, OneOf, Increasing, Nondecreasing, Ascending}
 use Rattle.wire.proofs.Orders.{constant-good, tag-good, digits-order, notBelow-good, unordered-good, keyed-good, counted-good, adjacent-map}
 use Rattle.element.specs.Outputs.{TransferableOutput, transferableOutput}

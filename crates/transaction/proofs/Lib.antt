@@ -1,4 +1,5 @@
 -- What is proved of a signed transaction
+pub mod Slots
 pub mod CredentialLaws
 pub mod Reading
 pub mod Checking

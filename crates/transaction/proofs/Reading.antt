@@ -14,11 +14,14 @@ use Rattle.wire.specs.declared.Integer.{Integer}
 use Rattle.wire.specs.declared.Integer.the-variants as N
 use Rattle.wire.specs.Bytes.{pick}
 use Rattle.wire.specs.Numbers.{by, cutAt, unknownType}
-use Rattle.wire.specs.Format.{Format, took, read, parse-alike}
+use Rattle.wire.specs.Format.{Format, took, read}
+use Rattle.wire.proofs.Format.{parse-alike}
 use Rattle.wire.specs.Fields.{integer}
-use Rattle.wire.specs.Sequence.{tag, find-is, listed-code}
-use Rattle.wire.specs.Series.{items, listParse, items-sized}
-use Rattle.wire.specs.Answer.{ended, valued}
+use Rattle.wire.specs.Sequence.{tag, items}
+use Rattle.wire.specs.laws.Sequence.{find-is, listed-code}
+use Rattle.wire.specs.Parsers.{listParse}
+use Rattle.wire.specs.laws.Sizes.{items-sized}
+use Rattle.wire.specs.code.Answer.{ended, valued}
 use Rattle.wire.proofs.Bytes.{Slice, slice-bytes}
 use Rattle.wire.proofs.Reading as W
 use Rattle.element.proofs.Reading.{on-whole, on-refused}

@@ -8,8 +8,9 @@ use native.Mathlib.Omega.{arith}
 use lib.ListN.{length, take, getD, length-append}
 use lib.Seq.{take-append-seam}
 use Rattle.wire.specs.Bytes.{Bytes}
-use Rattle.wire.specs.Format.{Format, Result, took, refused, read, write-inj, read-complete}
-use Rattle.wire.specs.Whole.{whole-sound, whole-complete}
+use Rattle.wire.specs.Format.{Format, Result, took, refused, read}
+use Rattle.wire.proofs.Format.{write-inj, read-complete}
+use Rattle.wire.proofs.Whole.{whole-sound, whole-complete}
 use Rattle.transaction.specs.Slots.{slotAt, Spaced}
 use Rattle.transaction.specs.Credentials.{Want, layout, pieces, credentials, places, size, blanks, total}
 use Rattle.transaction.specs.Signed.{mostBytes, taken, endOf, slotsOf, signed, check, accepted, credentialsAt, slotsAt, assemble, Parts}

@@ -10,7 +10,8 @@ use borrow.Author.Tests.{leb-true}
 use Rattle.wire.specs.declared.Refusal.{Refusal}
 use Rattle.wire.specs.Bytes.{Bytes}
 use Rattle.wire.specs.Numbers.{numberOf, refusal, tooLong}
-use Rattle.wire.specs.Format.{Result, took, refused, onResult, verdict, refused-placed}
+use Rattle.wire.specs.Format.{Result, took, refused, onResult, verdict}
+use Rattle.wire.specs.laws.Format.{refused-placed}
 use Rattle.transaction.specs.Signed as Any
 use Rattle.transaction.specs.Plan.{plan}
 use Rattle.transaction.specs.Form.{form}

@@ -4,9 +4,9 @@ use Prim.Native.Nat.{ℕ, zero, suc}
 use mathlib.Core.List.{List, [], _∷_, _++_, append-nil, append-assoc}
 use lib.ListN.{length, take, drop}
 use Rattle.wire.specs.Fields.{integer, blob, constant}
-use Rattle.wire.specs.Sequence.{guard, tag}
+use Rattle.wire.specs.Sequence.{guard, tag, items}
 use Rattle.wire.specs.Format.{Format}
-use Rattle.wire.specs.Series.{items, notBelow}
+use Rattle.wire.specs.Series.{notBelow}
 use Rattle.element.specs.PlainBytes.{u16, u32, joined, listBytes, transferableOutputBytes, inputBytes, operationBytes, initialStateBytes}
 use Rattle.element.proofs.Writing.{joined-write, string-bytes, text-bytes, denomination-bytes, transferableOutput-bytes, input-bytes, operation-bytes}
 use Rattle.element.proofs.Writing.{initialState-bytes}

@@ -13,3 +13,7 @@ pub mod Answer
 pub mod Transaction
 pub mod PlainBytes
 pub mod Accepted
+-- proved: laws that the definitions carry
+pub mod laws
+-- what functions below the public calls answer; no claim rests on it
+pub mod code

@@ -2,23 +2,23 @@
 -- order, and the least number of elements of each list. Value, format, credentials wanted, entries and the writer's order of steps come from the
 -- names (specs/Form). A new field is a name here, a new type a row. Assumes nothing.
 use mathlib.Core.Path.{_≡_, refl}
-use Prim.Native.Nat.{ℕ, suc, _<_}
-use native.Mathlib.Omega.{arith}
+use Prim.Native.Nat.{ℕ, _<_}
 use mathlib.Core.Bool.{Bool}
-use mathlib.Core.List.{List, [], _∷_, _++_}
+use mathlib.Core.List.{List, [], _∷_}
 use mathlib.Core.Option.{Option, none, some}
-use lib.ListN.{length, length-append}
+use lib.ListN.{length}
 use lib.Dec.{eqb}
 use Rattle.wire.specs.Bytes.{pick}
 use Rattle.wire.specs.Format.{Format}
-use Rattle.wire.specs.Fields.{integer, length-integer, blob}
-use Rattle.wire.specs.Sequence.{guard, listed}
+use Rattle.wire.specs.Fields.{blob}
+use Rattle.wire.specs.Parsers.{listed}
 use Rattle.wire.specs.Series.{notBelow}
 use Rattle.string.specs.Strings.{memo, name, symbol, denomination}
 use Rattle.element.specs.Outputs.{TransferableOutput, transferableOutput}
-use Rattle.element.specs.Inputs.{Input, key, inputAfter, input}
-use Rattle.element.specs.Operations.{Operation, operation, InitialState, fxCode, fxId, initialStateAfter, initialState}
+use Rattle.element.specs.Inputs.{Input, input}
+use Rattle.element.specs.Operations.{Operation, operation, InitialState, initialState}
 use Rattle.transaction.specs.Credentials.{CredentialType, secpCredential, nftCredential, Want}
+use Rattle.transaction.specs.laws.NonEmpty.{output-nonEmpty, input-nonEmpty, operation-nonEmpty, state-nonEmpty}
 use Rattle.transaction.specs.Entries.{EntryAt, outputEntry, exportedEntry, inputEntry, importedEntry, operationEntry, stateEntries}
 use Rattle.transaction.specs.declared.TransactionType.{TransactionType}
 use Rattle.transaction.specs.declared.TransactionType.the-variants as K
@@ -44,29 +44,6 @@ pub record Elements : Type 1 where
 abbrev pub wantOf : Option CredentialType → ℕ → List Want
 wantOf none n = []
 wantOf (some t) n = record { type = t; signatures = n } ∷ []
-
--- ---- every element is non-empty: it starts with a field of fixed width
-
-longer : (a b : List ℕ) (n : ℕ) → length a ≡ suc n → 0 < length (a ++ b)
-longer a b n h = omega (arith, length-append a b)
-
-pub output-nonEmpty : (prev : List ℕ) (v : TransferableOutput) → notBelow transferableOutput prev .Good v
-    → 0 < length (notBelow transferableOutput prev .write v)
-unfolding guard transferableOutput blob
-output-nonEmpty prev v h = longer (v .asset) _ 31 (h .0 .0 .0)
-
-pub input-nonEmpty : (prev : List ℕ) (v : Input) → input prev .Good v → 0 < length (input prev .write v)
-unfolding inputAfter guard key blob
-input-nonEmpty prev v h = longer (v .txid ++ integer 4 .write (v .index)) _ 35
-    (omega (arith, h .0 .0 .0 .0, length-append (v .txid) (integer 4 .write (v .index)), length-integer 4 (v .index)))
-
-pub operation-nonEmpty : (prev : List ℕ) (v : Operation) → operation .Good v → 0 < length (operation .write v)
-unfolding operation blob
-operation-nonEmpty prev v h = longer (v .asset) _ 31 (h .0 .0)
-
-pub state-nonEmpty : (prev : List ℕ) (v : InitialState) → initialState prev .Good v → 0 < length (initialState prev .write v)
-unfolding initialStateAfter guard fxId
-state-nonEmpty prev v h = longer (integer 4 .write (fxCode (v .fx))) _ 3 (length-integer 4 (fxCode (v .fx)))
 
 -- ---- fields
 

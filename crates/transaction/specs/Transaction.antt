@@ -4,7 +4,7 @@ use mathlib.Core.Path.{_≡_}
 use Prim.Native.Nat.{ℕ, _^_, _≤_, _<_}
 use mathlib.Core.List.{List, [], _++_, map}
 use lib.ListN.{length}
-use Rattle.wire.specs.Fields.{Sized}
+use Rattle.wire.specs.Parsers.{Sized}
 use Rattle.wire.specs.Orders.{All, Increasing, Nondecreasing, Ascending}
 use Rattle.element.specs.Outputs.{TransferableOutput}
 use Rattle.element.specs.Inputs.{Input}

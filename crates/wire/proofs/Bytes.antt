@@ -17,8 +17,9 @@ use mir.Syntax.{w8}
 use borrow.Author.Tests.{lt-ltb, le-ltb, ltb-true, ltb-false, leb-true}
 use Rattle.wire.specs.declared.Order.{Order}
 use Rattle.wire.specs.declared.Order.the-variants.{Below, Equal, Above}
-use Rattle.wire.specs.Bytes.{Bytes, bytes-take, bytes-drop, pick, between, value, value-lt, digits, pow-positive, below}
-use Rattle.wire.specs.Order.{order, keyBelow}
+use Rattle.wire.specs.Bytes.{Bytes, pick, between, value, digits, below}
+use Rattle.wire.specs.laws.Bytes.{bytes-take, bytes-drop, value-lt, pow-positive}
+use Rattle.wire.specs.code.Order.{order, keyBelow}
 
 -- every element is a byte: what the rule for a slice of bytes gives
 abbrev pub Slice : List ℕ → Type 0

@@ -11,13 +11,15 @@ use lib.ListN.{length, take}
 use lib.Seq.{take-at}
 use lib.Dec.{ltb, eqb}
 use borrow.Author.Tests.{ltb-true, ltb-false, lt-ltb, le-ltb, eqb-true, eqb-false, eq-eqb, not-true}
-use Rattle.wire.specs.Bytes.{pick, digits, length-digits, below}
+use Rattle.wire.specs.Bytes.{pick, digits, below}
+use Rattle.wire.specs.laws.Bytes.{length-digits}
 use Rattle.wire.specs.Numbers.{ReadingRule}
 use Rattle.wire.specs.Format.{Format}
 use Rattle.wire.specs.Fields.{integer, constant}
-use Rattle.wire.specs.Sequence.{guard, listed, tag}
-use Rattle.wire.specs.Series.{items, left, Chain, above, notBelow, series, countPrefixed}
-use Rattle.wire.specs.Order.{keyBelow}
+use Rattle.wire.specs.Sequence.{guard, tag, items}
+use Rattle.wire.specs.Series.{left, above, notBelow, series, countPrefixed}
+use Rattle.wire.specs.Parsers.{Chain, listed}
+use Rattle.wire.specs.code.Order.{keyBelow}
 use Rattle.wire.specs.Orders.{All, OneOf, Adjacent, Ascending}
 use Rattle.wire.proofs.Bytes.{below-empty, below-digits}
 

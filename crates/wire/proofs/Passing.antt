@@ -13,11 +13,16 @@ use Rattle.wire.specs.declared.End.the-variants as P
 use Rattle.wire.specs.declared.Integer.{Integer}
 use Rattle.wire.specs.declared.Integer.the-variants as N
 use Rattle.wire.specs.Numbers.{ReadingRule, by}
-use Rattle.wire.specs.Format.{Format, Result, took, refused, read, parse-inv, pick-inv, moved, read-complete}
-use Rattle.wire.specs.Fields.{blob, integer, length-integer}
-use Rattle.wire.specs.Sequence.{tag, find-is, listed}
-use Rattle.wire.specs.Series.{items, listParse, list-inv}
-use Rattle.wire.specs.Answer.{ended, valued, Passes, Tells}
+use Rattle.wire.specs.Format.{Format, Result, took, refused, read}
+use Rattle.wire.specs.laws.Format.{parse-inv, pick-inv, moved}
+use Rattle.wire.proofs.Format.{read-complete}
+use Rattle.wire.specs.Fields.{blob, integer}
+use Rattle.wire.specs.laws.Sizes.{length-integer}
+use Rattle.wire.specs.Sequence.{tag, items}
+use Rattle.wire.specs.laws.Sequence.{find-is}
+use Rattle.wire.specs.Parsers.{listParse, listed}
+use Rattle.wire.specs.laws.Items.{list-inv}
+use Rattle.wire.specs.code.Answer.{ended, valued, Passes, Tells}
 use Rattle.wire.proofs.Bytes.{found, Slice, slice-bytes}
 use Rattle.wire.proofs.Reading.{parse-took}
 

@@ -21,11 +21,16 @@ use Rattle.wire.specs.declared.Integer.{Integer}
 use Rattle.wire.specs.declared.Integer.the-variants as N
 use Rattle.wire.specs.Bytes.{value, pick, between, below}
 use Rattle.wire.specs.Numbers.{ReadingRule, by, cutAt}
-use Rattle.wire.specs.Format.{Format, Result, took, refused, onResult, read, refused-took, took-refused, Stands, stands-part, stands-append}
-use Rattle.wire.specs.Fields.{blob, blobParse, integer, length-integer}
-use Rattle.wire.specs.Sequence.{guard, tag, find-is, listed}
-use Rattle.wire.specs.Series.{listParse, listWrite, Chain, items, left, above, increasing}
-use Rattle.wire.specs.Answer.{ended, valued, wholeAt}
+use Rattle.wire.specs.Format.{Format, Result, took, refused, onResult, read, Stands}
+use Rattle.wire.specs.laws.Format.{refused-took, took-refused, stands-append}
+use Rattle.wire.proofs.Format.{stands-part}
+use Rattle.wire.specs.Fields.{blob, integer}
+use Rattle.wire.specs.laws.Sizes.{length-integer}
+use Rattle.wire.specs.Sequence.{guard, tag, items}
+use Rattle.wire.specs.laws.Sequence.{find-is}
+use Rattle.wire.specs.Series.{left, above, increasing}
+use Rattle.wire.specs.Parsers.{listParse, listWrite, Chain, blobParse, listed}
+use Rattle.wire.specs.code.Answer.{ended, valued, wholeAt}
 use Rattle.wire.proofs.Bytes.{found, Slice, slice-bytes}
 
 -- ---- what the two cases of each answer say about the parse. A crate with answers of its own states the same for them

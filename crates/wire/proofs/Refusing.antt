@@ -13,10 +13,14 @@ use Rattle.wire.specs.declared.Refusal.{Refusal}
 use Rattle.wire.specs.Bytes.{value, pick}
 use Rattle.wire.specs.Numbers.{ruleNumber, refusal, ReadingRule, ruleOf, Ruled, by, emptyList, wrongCount, tooLong, bytesAfterEnd}
 use Rattle.wire.specs.Numbers.{cutShort, wrongCodec, unknownType, zeroAmount, outOfOrder, badThreshold, badLength, notPrintable, badDenomination}
-use Rattle.wire.specs.Format.{Format, Result, took, refused, onResult, read, refused-rule, took-refused}
-use Rattle.wire.specs.Fields.{blob, blobParse, integer, constant}
-use Rattle.wire.specs.Sequence.{andThen, guardAt, guard, only, listed, find-is, tag}
-use Rattle.wire.specs.Series.{listParse, list-same, items, left, seriesFrom, series, above, notBelow, countPrefixed}
+use Rattle.wire.specs.Format.{Format, Result, took, refused, onResult, read}
+use Rattle.wire.specs.laws.Format.{refused-rule, took-refused}
+use Rattle.wire.specs.Fields.{blob, integer, constant}
+use Rattle.wire.specs.Sequence.{andThen, guardAt, guard, only, tag, items}
+use Rattle.wire.specs.laws.Sequence.{find-is}
+use Rattle.wire.specs.Series.{left, seriesFrom, series, above, notBelow, countPrefixed}
+use Rattle.wire.specs.Parsers.{listParse, blobParse, listed}
+use Rattle.wire.specs.laws.Items.{list-same}
 use Rattle.wire.specs.Orders.{OneOf}
 use Rattle.wire.specs.Whole.{whole}
 use Rattle.wire.proofs.Orders.{listed-good}

@@ -2,10 +2,13 @@
 pub mod Bytes
 pub mod Numbers
 pub mod Format
-pub mod Fields
+pub mod Parsers
 pub mod Sequence
+pub mod Fields
 pub mod Series
 pub mod Whole
-pub mod Order
 pub mod Orders
-pub mod Answer
+-- proved: the laws that the formats carry
+pub mod laws
+-- what the code answers; no claim rests on it
+pub mod code

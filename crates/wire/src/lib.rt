@@ -8,8 +8,8 @@ ghost use lib.Dec.{leb};
 ghost use Rattle.wire.specs.Bytes.{between, value, digits, below};
 ghost use Rattle.wire.specs.Numbers.{ruleNumber, refusal, cutAt};
 ghost use Rattle.wire.specs.Fields.{blob, integer};
-ghost use Rattle.wire.specs.Order.{order, keyBelow};
-ghost use Rattle.wire.specs.Answer.{ended, valued, wholeAt};
+ghost use Rattle.wire.specs.code.Order.{order, keyBelow};
+ghost use Rattle.wire.specs.code.Answer.{ended, valued, wholeAt};
 
 // The rules by which the desk refuses, in the order of its table.
 pub enum Rule {

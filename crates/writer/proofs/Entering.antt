@@ -11,8 +11,8 @@ use Rattle.writer_rules.specs.declared.Verdict.{Verdict}
 use Rattle.writer_rules.specs.declared.Verdict.the-variants as J
 use Rattle.writer.specs.declared.Writer.{Writer}
 use Rattle.writer.specs.declared.Step.{Step}
-use Rattle.writer.specs.Steps.{answered, prev, sane}
-use Rattle.writer.specs.Code.{after, refusedStep}
+use Rattle.writer.specs.Steps.{answered, prev, sane, after}
+use Rattle.writer.specs.code.Answer.{refusedStep}
 
 -- ---- the element before
 

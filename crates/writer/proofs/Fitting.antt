@@ -18,11 +18,13 @@ use Rattle.writer_rules.specs.Given.{Given}
 use Rattle.writer_rules.specs.Judged.{refusedBy, judged}
 use Rattle.writer_rules.proofs.Verdicts.{both-true}
 use Rattle.plan.specs.Due.{fieldCode, listCode, tail, dueOf, isList, isField, isOpen}
-use Rattle.writer_buffer.specs.Stores.{roomFor, overwrite, countOf}
+use Rattle.writer_buffer.specs.Stores.{roomFor, overwrite}
+use Rattle.writer_buffer.specs.code.Stores.{countOf}
 use Rattle.writer.specs.declared.Writer.{Writer}
 use Rattle.writer.specs.declared.Step.{Step}
 use Rattle.writer.specs.Steps.{Turn, answered, guarded, prev, sane, grown, appended, opening, opened, sameField, sameList, putFieldAt, putElementAt}
-use Rattle.writer.specs.Code.{after, notDueStep}
+use Rattle.writer.specs.Steps.{after}
+use Rattle.writer.specs.code.Answer.{notDueStep}
 use Rattle.writer.proofs.Laws.{guarded-not}
 use Rattle.writer.proofs.Entering.{kept-out}
 

@@ -9,7 +9,8 @@ use native.Mathlib.Numerals.{add-one}
 use lib.ListN.{length, length-append}
 use lib.Dec.{ltb, leb, eqb}
 use borrow.Author.Tests.{leb-true, eq-eqb, eqb-true, ne-eqb}
-use Rattle.wire.specs.Bytes.{digits, length-digits, pick}
+use Rattle.wire.specs.Bytes.{digits, pick}
+use Rattle.wire.specs.laws.Bytes.{length-digits}
 use Rattle.wire.specs.Numbers.{ruleOf, cutShort, badLength, emptyList}
 use Rattle.wire.specs.Fields.{blob}
 use Rattle.wire.specs.Series.{notBelow}
@@ -29,9 +30,10 @@ use Rattle.transaction.specs.declared.ListName.the-variants as L
 use Rattle.writer_rules.specs.declared.Verdict.{Verdict}
 use Rattle.writer_rules.specs.declared.Verdict.the-variants as J
 use Rattle.writer_rules.specs.Given.{headBytes, Given, given, outputGiven, inputGiven}
-use Rattle.writer_rules.specs.Judged.{refusedBy, judged, onAllowed}
-use Rattle.writer_rules.specs.Elements.{outputFront, outputHead, inputHead, integersBytes}
-use Rattle.writer_rules.specs.Texts.{typeRules, listRules, memoRules, textRules, denominationRules}
+use Rattle.writer_rules.specs.Judged.{refusedBy, judged}
+use Rattle.writer_rules.specs.code.Judged.{onAllowed}
+use Rattle.writer_rules.specs.code.Elements.{outputFront, outputHead, inputHead, integersBytes}
+use Rattle.writer_rules.specs.code.Texts.{typeRules, listRules, memoRules, textRules, denominationRules}
 use Rattle.writer_rules.proofs.Verdicts.{pick-fine, judged-read, judged-on}
 use Rattle.writer_rules.proofs.Outputs.{built-written, output-bytes}
 use Rattle.writer_rules.proofs.Inputs.{written-input, input-bytes, length-integers}
@@ -39,20 +41,22 @@ use Rattle.writer_rules.proofs.FieldLaws.{string-write, text-write, string-judg
 use Rattle.writer_rules.proofs.FieldLaws.{denomination-write, denomination-judged, id-judged, head-judged, front-is}
 use Rattle.plan.specs.declared.Due.{Due}
 use Rattle.plan.specs.declared.Due.the-variants as D
-use Rattle.plan.specs.Due.{tail, due, lastPhase, dueOf, isList, isFinish}
+use Rattle.plan.specs.Due.{tail, due, dueOf, isList, isFinish}
+use Rattle.plan.specs.code.Rows.{lastPhase}
 use Rattle.plan.proofs.RowLaws.{phase-small}
 use Rattle.writer_buffer.specs.Closing.{closing, closable}
 use Rattle.writer.specs.declared.Writer.{Writer}
 use Rattle.writer.specs.declared.Step.{Step}
-use Rattle.writer.specs.Steps.{Turn, answered, guarded, prev, opened, putElement, closeAt, start, close, finish, finishAt}
+use Rattle.writer.specs.Steps.{Turn, answered, guarded, prev, opened, putElement, closeAt, start, close, finish, finishAt, after}
 use Rattle.writer.specs.Fields.{addOutput, addInput, addOperation, addInitialState, putContent, putMemo, putName, putSymbol, putDenomination, putChain}
-use Rattle.writer.specs.Code.{after, refusedStep, notDueStep, noRoomStep, storedStep, dueAt, settled, segmentStep, opensNext}
-use Rattle.writer.specs.Code.{PutsField, SameBytes, PutsElement}
+use Rattle.writer.specs.code.Answer.{PutsField, SameBytes, PutsElement, refusedStep, notDueStep, noRoomStep, storedStep, dueAt, settled, segmentStep}
+use Rattle.writer.specs.code.Answer.{opensNext}
 use Rattle.writer.proofs.Laws.{guarded-fine, guarded-not, guarded-short, not-true, not-false}
 use Rattle.writer.proofs.Entering.{kept-out}
 use Rattle.writer.proofs.Fitting.{opening-is}
 use Rattle.writer.proofs.Naming.{next-opens}
-use Rattle.writer_buffer.specs.Stores.{roomFor, overwrite, countOf, stored}
+use Rattle.writer_buffer.specs.Stores.{roomFor, overwrite}
+use Rattle.writer_buffer.specs.code.Stores.{countOf, stored}
 use Rattle.writer.proofs.Settling.{store-refused, store-done}
 
 -- an integer that fits its width is written without truncation

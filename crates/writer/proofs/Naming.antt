@@ -13,18 +13,21 @@ use Rattle.transaction.specs.declared.ListName.{ListName}
 use Rattle.writer_rules.specs.declared.Verdict.{Verdict}
 use Rattle.writer_rules.specs.declared.Verdict.the-variants as J
 use Rattle.writer_rules.specs.Given.{Given}
-use Rattle.writer_rules.specs.Judged.{judged, onAllowed}
+use Rattle.writer_rules.specs.Judged.{judged}
+use Rattle.writer_rules.specs.code.Judged.{onAllowed}
 use Rattle.writer_rules.proofs.Verdicts.{both-true, judged-on}
 use Rattle.plan.specs.declared.Due.{Due}
 use Rattle.plan.specs.declared.Due.the-variants as D
-use Rattle.plan.specs.Due.{tail, due, lastPhase, dueOf, isList, isField, isOpen, Live}
+use Rattle.plan.specs.Due.{tail, due, dueOf, isList, isField, isOpen}
+use Rattle.plan.specs.code.Rows.{lastPhase, Live}
 use Rattle.plan.proofs.RowLaws.{due-next, phase-small}
-use Rattle.writer_buffer.specs.Stores.{roomFor, countOf}
+use Rattle.writer_buffer.specs.Stores.{roomFor}
+use Rattle.writer_buffer.specs.code.Stores.{countOf}
 use Rattle.writer_buffer.proofs.Stores.{room-inv}
 use Rattle.writer.specs.declared.Writer.{Writer}
 use Rattle.writer.specs.declared.Step.{Step}
-use Rattle.writer.specs.Steps.{answered, prev, sane, grown, appended, putField, putElement}
-use Rattle.writer.specs.Code.{after, refusedStep, notDueStep, noRoomStep, dueAt, segmentStep, opensNext, elementStep, SameBytes}
+use Rattle.writer.specs.Steps.{answered, prev, sane, grown, appended, putField, putElement, after}
+use Rattle.writer.specs.code.Answer.{refusedStep, notDueStep, noRoomStep, dueAt, segmentStep, opensNext, elementStep, SameBytes}
 use Rattle.writer.proofs.Laws.{guarded-fine, guarded-short, not-true, not-false}
 use Rattle.writer.proofs.Entering.{kept-out}
 use Rattle.writer.proofs.Fitting.{other-field, fieldVerdict, fieldStep, field-put, other-list, elementVerdict, element-put}

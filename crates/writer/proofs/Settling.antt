@@ -8,22 +8,24 @@ use native.Mathlib.Numerals.{add-one}
 use lib.ListN.{length, take, length-append}
 use lib.Dec.{leb, ltb}
 use borrow.Author.Tests.{leb-true, ltb-true}
-use Rattle.wire.specs.Bytes.{digits, length-digits, pick}
+use Rattle.wire.specs.Bytes.{digits, pick}
+use Rattle.wire.specs.laws.Bytes.{length-digits}
 use Rattle.wire.specs.declared.Refusal.{Refusal}
 use Rattle.wire.specs.declared.End.{End}
 use Rattle.wire.specs.declared.End.the-variants as P
 use Rattle.transaction.specs.Signed.{mostBytes}
 use Rattle.transaction.specs.Plan.{planOf}
 use Rattle.writer_rules.specs.declared.Verdict.{Verdict}
-use Rattle.writer_rules.specs.Elements.{integersBytes}
+use Rattle.writer_rules.specs.code.Elements.{integersBytes}
 use Rattle.writer_rules.proofs.Verdicts.{both-true}
 use Rattle.plan.specs.Due.{due, dueOf, isList}
-use Rattle.writer_buffer.specs.Stores.{roomFor, overwrite, countOf, withInteger, stored}
+use Rattle.writer_buffer.specs.Stores.{roomFor, overwrite}
+use Rattle.writer_buffer.specs.code.Stores.{countOf, withInteger, stored}
 use Rattle.writer_buffer.proofs.Stores.{room-inv, length-overwrite, integer-put, stored-refused, stored-at}
 use Rattle.writer.specs.declared.Writer.{Writer}
 use Rattle.writer.specs.declared.Step.{Step}
-use Rattle.writer.specs.Steps.{answered, sane, grown, appended}
-use Rattle.writer.specs.Code.{after, refusedStep, storedStep, settled, segmentStep, opensNext, elementStep}
+use Rattle.writer.specs.Steps.{answered, sane, grown, appended, after}
+use Rattle.writer.specs.code.Answer.{refusedStep, storedStep, settled, segmentStep, opensNext, elementStep}
 
 -- ---- what a store answered
 

@@ -1,4 +1,5 @@
 -- The steps of the writer
 pub mod Steps
 pub mod Fields
-pub mod Code
+-- what functions below the public calls answer; no claim rests on it
+pub mod code

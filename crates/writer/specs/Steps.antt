@@ -33,6 +33,10 @@ pub record Turn : Type 0 where
   pub step : Step
   pub buffer : List ℕ
 
+-- the answer of a step, and the buffer afterwards
+abbrev pub after : Step → List ℕ → Turn
+after r s = record { step = r; buffer = s }
+
 abbrev pub turn : Writer → Written → List ℕ → Turn
 turn w a s = record { step = record { next = w; answer = a }; buffer = s }
 

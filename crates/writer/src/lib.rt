@@ -3,8 +3,7 @@ ghost use mathlib.Core.Path.{_≡_};
 ghost use Rattle.writer.specs.Fields.{addOutput, addInput, addOperation, addInitialState, putMemo, putName, putSymbol, putDenomination, putChain};
 ghost use Rattle.transaction.specs.Avm.{avm};
 ghost use Rattle.transaction.specs.Answer.{memoMost};
-ghost use Rattle.writer.specs.Steps.{fresh, start, close, finish};
-ghost use Rattle.writer.specs.Code.{after};
+ghost use Rattle.writer.specs.Steps.{fresh, start, close, finish, after};
 
 mod steps;
 

@@ -9,7 +9,8 @@ use lib.ListN.{length, drop, set, replicate, length-append, length-replicate, re
 use lib.Dec.{leb}
 use lib.Seq.{drop-cons, set-at}
 use borrow.Author.Tests.{leb-true, leb-false, le-leb, lt-leb}
-use Rattle.wire.specs.Bytes.{digits, length-digits, pick}
+use Rattle.wire.specs.Bytes.{digits, pick}
+use Rattle.wire.specs.laws.Bytes.{length-digits}
 use Rattle.wire.specs.Numbers.{refusal, noRoom}
 use Rattle.wire.specs.Fields.{integer}
 use Rattle.wire.specs.declared.Refusal.{Refusal}
@@ -18,9 +19,10 @@ use Rattle.wire.specs.declared.End.the-variants as P
 use Rattle.transaction.specs.Slots.{signatureWidth, blank}
 use Rattle.transaction.specs.Credentials.{CredentialType, secpCredential, nftCredential, credentialCode, Want}
 use Rattle.transaction.specs.Credentials.{Piece, signatures, each, layout, pieces, credentials, blanks}
-use Rattle.writer_buffer.specs.Stores.{overwrite, withInteger}
+use Rattle.writer_buffer.specs.Stores.{overwrite}
+use Rattle.writer_buffer.specs.code.Stores.{withInteger}
 use Rattle.writer_buffer.proofs.Stores.{overwrite-more, integer-put, length-integer}
-use Rattle.writer_buffer.specs.Closing.{blankCredential, credentialWidth, blankBytes, closingBytes, fitted}
+use Rattle.writer_buffer.specs.code.Closing.{blankCredential, credentialWidth, blankBytes, closingBytes, fitted}
 
 -- ---- zeros
 

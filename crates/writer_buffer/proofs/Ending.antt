@@ -9,7 +9,8 @@ use lib.ListN.{length, take}
 use lib.Seq.{length-take-le}
 use lib.Dec.{ltb}
 use borrow.Author.Tests.{ltb-true, ltb-false, lt-leb, eq-eqb, ne-eqb, le-leb}
-use Rattle.wire.specs.Bytes.{Bytes, bytes-take, pick}
+use Rattle.wire.specs.Bytes.{Bytes, pick}
+use Rattle.wire.specs.laws.Bytes.{bytes-take}
 use Rattle.wire.specs.Numbers.{bytesAfterEnd, noRoom, refusal}
 use Rattle.wire.specs.Format.{took, read}
 use Rattle.wire.specs.declared.Refusal.{Refusal}
@@ -20,19 +21,22 @@ use Rattle.element.proofs.Reading.{answer-took}
 use Rattle.transaction.specs.Signed.{mostBytes}
 use Rattle.transaction.specs.Family.{Family, Unsigned, unsigned, wants}
 use Rattle.transaction.specs.Avm.{avm}
-use Rattle.transaction.specs.Answer.{layout, unsignedAt}
+use Rattle.transaction.specs.Answer.{layout}
+use Rattle.transaction.specs.code.Answer.{unsignedAt}
 use Rattle.transaction.specs.declared.Layout.{Layout}
 use Rattle.transaction.specs.declared.UnsignedRead.{UnsignedRead}
 use Rattle.transaction.specs.declared.UnsignedRead.the-variants as U
 use Rattle.transaction.proofs.Checking.{on-unsigned, on-unsigned-refused}
-use Rattle.checker.specs.Wanted.{Wants, firstWanting}
+use Rattle.checker.specs.code.Wanted.{Wants, firstWanting}
 use Rattle.checker.proofs.Besides.{credentials-stand, first-wants}
 use Rattle.writer_rules.specs.declared.Verdict.{Verdict}
 use Rattle.writer_rules.specs.Given.{given}
 use Rattle.writer_rules.specs.Judged.{refusedBy, judged}
-use Rattle.writer_buffer.specs.Stores.{roomIn, roomFor, overwrite, stored, written}
+use Rattle.writer_buffer.specs.Stores.{roomIn, roomFor, overwrite}
+use Rattle.writer_buffer.specs.code.Stores.{stored, written}
 use Rattle.writer_buffer.proofs.Stores.{room-fine, no-room, too-many}
-use Rattle.writer_buffer.specs.Closing.{closingBytes, fitted, mostIn, closed, AllAhead, OfAll, RoomForAll, blankAfter, closing, closable}
+use Rattle.writer_buffer.specs.Closing.{blankAfter, closing, closable}
+use Rattle.writer_buffer.specs.code.Closing.{closingBytes, fitted, mostIn, closed, AllAhead, OfAll, RoomForAll}
 use Rattle.writer_buffer.proofs.Blanks.{closing-long, fitted-next, fitted-refused}
 
 -- ---- room

@@ -4,7 +4,8 @@ use mathlib.Core.Path.{_≡_, refl, sym, ap, ap₂, _∙_, subst, subst₂}
 use mathlib.Core.List.{List, [], _∷_, _++_}
 use native.Mathlib.Omega.{arith}
 use lib.ListN.{length, take, length-append}
-use Rattle.wire.specs.Bytes.{digits, length-digits}
+use Rattle.wire.specs.Bytes.{digits}
+use Rattle.wire.specs.laws.Bytes.{length-digits}
 use Rattle.wire.specs.Numbers.{refusal, noRoom}
 use Rattle.wire.specs.declared.Refusal.{Refusal}
 use Rattle.wire.specs.declared.End.{End}
@@ -15,10 +16,11 @@ use Rattle.transaction.specs.Credentials.{Want}
 use Rattle.checker.specs.declared.Wanting.{Wanting}
 use Rattle.checker.specs.declared.Wanted.{Wanted}
 use Rattle.checker.specs.declared.Wanted.the-variants as X
-use Rattle.checker.specs.Wanted.{Wants, First, Nexts, NextWants, firstWanting}
-use Rattle.writer_buffer.specs.Stores.{overwrite, withInteger}
+use Rattle.checker.specs.code.Wanted.{Wants, First, Nexts, NextWants, firstWanting}
+use Rattle.writer_buffer.specs.Stores.{overwrite}
+use Rattle.writer_buffer.specs.code.Stores.{withInteger}
 use Rattle.writer_buffer.proofs.Stores.{length-overwrite, overwrite-none, overwrite-more, front-stays, integer-put}
-use Rattle.writer_buffer.specs.Closing.{blankCredential, credentialWidth, blankBytes, closingBytes, fitted, OfAhead, Room, OfAll, RoomForAll}
+use Rattle.writer_buffer.specs.code.Closing.{blankCredential, credentialWidth, blankBytes, closingBytes, fitted, OfAhead, Room, OfAll, RoomForAll}
 use Rattle.writer_buffer.proofs.Blanks.{length-blank, type-small, none-blank, one-more, blank-long, count-first, closing-long}
 use Rattle.writer_buffer.proofs.Blanks.{fitted-room, fitted-full, fitted-on, fitted-off}
 

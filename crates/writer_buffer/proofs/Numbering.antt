@@ -6,14 +6,16 @@ use native.Mathlib.Omega.{arith}
 use native.Mathlib.Numerals.{add-one}
 use lib.ListN.{length, getD, drop, drop-of-length-le, length-append}
 use lib.Seq.{drop-cons}
-use Rattle.wire.specs.Bytes.{digits, length-digits}
+use Rattle.wire.specs.Bytes.{digits}
+use Rattle.wire.specs.laws.Bytes.{length-digits}
 use Rattle.transaction.specs.Signed.{mostBytes}
 use Rattle.writer_rules.specs.declared.Verdict.{Verdict}
 use Rattle.wire.specs.Numbers.{noRoom}
 use Rattle.writer_rules.specs.Judged.{refusedBy}
-use Rattle.writer_rules.specs.Elements.{integersBytes}
+use Rattle.writer_rules.specs.code.Elements.{integersBytes}
 use Rattle.writer_rules.proofs.Inputs.{Words, length-integers}
-use Rattle.writer_buffer.specs.Stores.{roomIn, overwrite, withInteger}
+use Rattle.writer_buffer.specs.Stores.{roomIn, overwrite}
+use Rattle.writer_buffer.specs.code.Stores.{withInteger}
 use Rattle.writer_buffer.proofs.Stores.{length-overwrite, too-many, same-room, overwrite-more, overwrite-none, integer-put}
 
 -- ---- the loop's invariant: writing the integers that are left gives y

@@ -9,7 +9,8 @@ use lib.ListN.{length, take, drop, replicate, length-append, length-drop, length
 use lib.Seq.{length-take-le, take-at, drop-at, drop-drop, take-append-le, take-take}
 use lib.Dec.{leb}
 use borrow.Author.Tests.{leb-true, le-leb, lt-leb}
-use Rattle.wire.specs.Bytes.{pick, digits, length-digits}
+use Rattle.wire.specs.Bytes.{pick, digits}
+use Rattle.wire.specs.laws.Bytes.{length-digits}
 use Rattle.wire.specs.Numbers.{noRoom}
 use Rattle.wire.specs.declared.Refusal.{Refusal}
 use Rattle.wire.specs.declared.End.{End}
@@ -20,7 +21,8 @@ use Rattle.writer_rules.specs.declared.Verdict.the-variants as J
 use Rattle.writer_rules.proofs.Verdicts.{pick-fine}
 use Rattle.writer_rules.proofs.Lent.{lent, length-lent, lent-bytes, lent-integer}
 use Rattle.writer_rules.specs.Judged.{refusedBy}
-use Rattle.writer_buffer.specs.Stores.{roomIn, roomFor, overwrite, withInteger, stored}
+use Rattle.writer_buffer.specs.Stores.{roomIn, roomFor, overwrite}
+use Rattle.writer_buffer.specs.code.Stores.{withInteger, stored}
 
 -- ---- room
 

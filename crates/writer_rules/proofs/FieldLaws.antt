@@ -10,12 +10,16 @@ use lib.ListN.{length, drop, length-append}
 use lib.Seq.{drop-at}
 use lib.Dec.{ltb, leb, eqb}
 use borrow.Author.Tests.{eq-eqb, ne-eqb, lt-ltb, le-leb}
-use Rattle.wire.specs.Bytes.{pick, drop-step, Bytes, bytes-append, value, digits, length-digits, bytes-digits, value-digits, digits-value}
+use Rattle.wire.specs.Bytes.{pick, Bytes, value, digits}
+use Rattle.wire.specs.laws.Bytes.{drop-step, bytes-append, length-digits, bytes-digits, value-digits, digits-value}
 use Rattle.wire.specs.Numbers.{ruleOf, unknownType, badLength, notPrintable, badDenomination, bytesAfterEnd}
 use Rattle.wire.specs.Fields.{integer, blob, constant}
-use Rattle.wire.specs.Sequence.{andThen, guard, guardAt, named, tag, find, find-is}
+use Rattle.wire.specs.Sequence.{andThen, guard, guardAt, named, tag}
+use Rattle.wire.specs.Parsers.{find}
+use Rattle.wire.specs.laws.Sequence.{find-is}
 use Rattle.wire.specs.declared.Refusal.{Refusal}
-use Rattle.string.specs.Strings.{string, text, unprintable, printable, denomination}
+use Rattle.string.specs.Strings.{string, text, printable, denomination}
+use Rattle.string.specs.Characters.{unprintable}
 use Rattle.transaction.specs.Family.{head}
 use Rattle.transaction.specs.Plan.{typeId, typeOf, typeOf-id, types, isType}
 use Rattle.transaction.specs.Avm.{avm}
@@ -23,7 +27,7 @@ use Rattle.writer_rules.specs.declared.Verdict.{Verdict}
 use Rattle.writer_rules.specs.declared.Verdict.the-variants as J
 use Rattle.writer_rules.specs.Judged.{refusedBy, judged}
 use Rattle.writer_rules.specs.Given.{headBytes, given}
-use Rattle.writer_rules.specs.Texts.{typeRules, textRules, denominationRules}
+use Rattle.writer_rules.specs.code.Texts.{typeRules, textRules, denominationRules}
 use Rattle.writer_rules.proofs.Judging.{integer-back, blob-back}
 
 -- ---- a field read back at an offset

@@ -5,7 +5,8 @@ use mathlib.Core.List.{List, _++_, append-assoc}
 use native.Mathlib.Omega.{arith}
 use lib.ListN.{length, take, drop, length-append}
 use lib.Seq.{length-take-le, take-at, take-all}
-use Rattle.wire.specs.Bytes.{digits, length-digits}
+use Rattle.wire.specs.Bytes.{digits}
+use Rattle.wire.specs.laws.Bytes.{length-digits}
 use Rattle.writer_rules.proofs.Lent.{lent, lent-bytes, lent-integer}
 
 -- a call leaves y in the range lent to it: if y is ys, then ys follows the bytes before

@@ -9,11 +9,13 @@ use lib.ListN.{length, getD, take, drop, length-append, length-drop}
 use lib.Seq.{take-at, drop-cons}
 use lib.Dec.{ltb, eqb}
 use borrow.Author.Tests.{eq-eqb, lt-ltb, le-ltb, not-true, not-false}
-use Rattle.wire.specs.Bytes.{pick, between, digits, length-digits, below}
+use Rattle.wire.specs.Bytes.{pick, between, digits, below}
+use Rattle.wire.specs.laws.Bytes.{length-digits}
 use Rattle.wire.specs.Numbers.{ruleOf, zeroAmount, outOfOrder, bytesAfterEnd}
 use Rattle.wire.specs.Fields.{blob, integer, constant}
-use Rattle.wire.specs.Sequence.{guard}
-use Rattle.wire.specs.Series.{listWrite, items, countPrefixed}
+use Rattle.wire.specs.Sequence.{guard, items}
+use Rattle.wire.specs.Series.{countPrefixed}
+use Rattle.wire.specs.Parsers.{listWrite}
 use Rattle.wire.specs.Orders.{All}
 use Rattle.wire.proofs.Bytes.{found, below-digits}
 use Rattle.wire.proofs.Orders.{empty-below}
@@ -25,7 +27,7 @@ use Rattle.writer_rules.specs.declared.Verdict.{Verdict}
 use Rattle.writer_rules.specs.declared.Verdict.the-variants as J
 use Rattle.writer_rules.specs.Judged.{refusedBy, judged}
 use Rattle.writer_rules.specs.Given.{inputOf, inputGiven}
-use Rattle.writer_rules.specs.Elements.{inputHead, integersBytes, rising, eachAbove}
+use Rattle.writer_rules.specs.code.Elements.{inputHead, integersBytes, rising, eachAbove}
 use Rattle.writer_rules.proofs.Judging.{blob-back, integer-back, rest-all, rest-as, field-back, test-alike, listBytes, list-back}
 use mir.Val.{Fits}
 use mir.Syntax.{w32}

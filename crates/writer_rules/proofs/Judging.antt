@@ -10,14 +10,16 @@ use lib.ListN.{length, drop, length-append, length-drop}
 use lib.Seq.{take-at}
 use borrow.Author.Tests.{le-leb}
 use Rattle.wire.specs.declared.Refusal.{Refusal}
-use Rattle.wire.specs.Bytes.{pick, value, digits, length-digits, value-digits, pow-positive, drop-step, below}
+use Rattle.wire.specs.Bytes.{pick, value, digits, below}
+use Rattle.wire.specs.laws.Bytes.{length-digits, value-digits, pow-positive, drop-step}
 use Rattle.wire.specs.Numbers.{by, outOfOrder}
 use Rattle.wire.specs.Format.{Format}
-use Rattle.wire.specs.Fields.{blob, blobParse, integer}
-use Rattle.wire.specs.Sequence.{guard}
-use Rattle.wire.specs.Series.{listParse, listWrite, items, left, above}
+use Rattle.wire.specs.Fields.{blob, integer}
+use Rattle.wire.specs.Sequence.{guard, items}
+use Rattle.wire.specs.Series.{left, above}
+use Rattle.wire.specs.Parsers.{listParse, listWrite, blobParse}
 use Rattle.wire.specs.Orders.{All}
-use Rattle.writer_rules.specs.Elements.{eachAbove}
+use Rattle.writer_rules.specs.code.Elements.{eachAbove}
 
 -- ---- F reads a back at any offset at which it is written
 

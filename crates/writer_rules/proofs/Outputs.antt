@@ -15,10 +15,11 @@ use Rattle.wire.specs.declared.End.the-variants as P
 use Rattle.wire.specs.Bytes.{pick, below}
 use Rattle.wire.specs.Numbers.{ruleOf, by, cutShort, zeroAmount, outOfOrder, badThreshold, bytesAfterEnd}
 use Rattle.wire.specs.Fields.{blob, integer}
-use Rattle.wire.specs.Sequence.{guard}
-use Rattle.wire.specs.Series.{listWrite, items, notBelow, increasing}
+use Rattle.wire.specs.Sequence.{guard, items}
+use Rattle.wire.specs.Series.{notBelow, increasing}
+use Rattle.wire.specs.Parsers.{listWrite}
 use Rattle.wire.specs.Orders.{All}
-use Rattle.wire.specs.Answer.{ended}
+use Rattle.wire.specs.code.Answer.{ended}
 use Rattle.wire.proofs.Bytes.{found}
 use Rattle.wire.proofs.Reading.{tests}
 use Rattle.element.specs.Owners.{owners, thresholdFits}
@@ -29,7 +30,7 @@ use Rattle.writer_rules.specs.declared.Verdict.{Verdict}
 use Rattle.writer_rules.specs.declared.Verdict.the-variants as J
 use Rattle.writer_rules.specs.Judged.{refusedBy, judged}
 use Rattle.writer_rules.specs.Given.{addressesOf, outputOf, outputGiven}
-use Rattle.writer_rules.specs.Elements.{outputFront, outputHead, eachAbove}
+use Rattle.writer_rules.specs.code.Elements.{outputFront, outputHead, eachAbove}
 use Rattle.writer_rules.proofs.Judging.{blob-back, integer-back, rest-all, rest-as, field-back, test-alike, listBytes, list-back}
 
 -- ---- addresses, one after the other

@@ -11,10 +11,11 @@ use lib.Dec.{ltb}
 use borrow.Author.Tests.{lt-ltb, le-ltb}
 use Rattle.wire.specs.declared.Order.{Order}
 use Rattle.wire.specs.declared.Order.the-variants.{Below, Equal, Above}
-use Rattle.wire.specs.Bytes.{Bytes, bytes-drop, pick, between, digits, length-digits, below}
-use Rattle.wire.specs.Order.{order, keyBelow}
+use Rattle.wire.specs.Bytes.{Bytes, pick, between, digits, below}
+use Rattle.wire.specs.laws.Bytes.{bytes-drop, length-digits}
+use Rattle.wire.specs.code.Order.{order, keyBelow}
 use Rattle.wire.proofs.Bytes.{Slice, slice-bytes, orElse, order-key}
-use Rattle.writer_rules.specs.Elements.{outputFront, outputHead}
+use Rattle.writer_rules.specs.code.Elements.{outputFront, outputHead}
 
 -- whether a is below b, and t if neither is below the other
 abbrev decided : List ℕ → List ℕ → Bool → Bool

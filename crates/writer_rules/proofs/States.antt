@@ -14,16 +14,19 @@ use Rattle.wire.specs.declared.Refusal.{Refusal}
 use Rattle.wire.specs.declared.End.{End}
 use Rattle.wire.specs.declared.End.the-variants as P
 use Rattle.wire.specs.Numbers.{refusal, bytesAfterEnd}
-use Rattle.wire.specs.Format.{Format, stands-part, read}
-use Rattle.wire.specs.Fields.{integer, length-integer}
-use Rattle.wire.specs.Answer.{valued, ended}
+use Rattle.wire.specs.Format.{Format, read}
+use Rattle.wire.proofs.Format.{stands-part}
+use Rattle.wire.specs.Fields.{integer}
+use Rattle.wire.specs.laws.Sizes.{length-integer}
+use Rattle.wire.specs.code.Answer.{valued, ended}
 use Rattle.wire.proofs.Bytes.{Slice, slice-bytes, found}
 use Rattle.wire.proofs.Reading as W
 use Rattle.element.specs.Operations.{fxOf, fxId}
 use Rattle.element.proofs.Reading.{fxOf-write}
 use Rattle.writer_rules.specs.declared.Verdict.{Verdict}
 use Rattle.writer_rules.specs.declared.Verdict.the-variants as J
-use Rattle.writer_rules.specs.Judged.{refusedBy, endJudged}
+use Rattle.writer_rules.specs.Judged.{refusedBy}
+use Rattle.writer_rules.specs.code.Judged.{endJudged}
 
 -- ---- where the reading ends
 

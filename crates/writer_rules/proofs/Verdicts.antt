@@ -15,7 +15,8 @@ use Rattle.wire.specs.declared.Refusal.{Refusal}
 use Rattle.wire.specs.Numbers.{refusal, ruleOf, cutShort, bytesAfterEnd}
 use Rattle.wire.specs.Format.{Format, Result, took, refused, onResult, read}
 use Rattle.writer_rules.specs.Given.{Given, given}
-use Rattle.writer_rules.specs.Judged.{refusedBy, judged, onAllowed}
+use Rattle.writer_rules.specs.Judged.{refusedBy, judged}
+use Rattle.writer_rules.specs.code.Judged.{onAllowed}
 use Rattle.writer_rules.specs.declared.Verdict.{Verdict}
 use Rattle.writer_rules.specs.declared.Verdict.the-variants as J
 

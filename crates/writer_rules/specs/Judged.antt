@@ -22,13 +22,3 @@ judged F g v =
     pick (g .whole)
     (F .parse (g .bytes) 0 (λ e. refusedBy (e .rule)) λ a m. pick (eqb m (length (g .bytes))) v (refusedBy bytesAfterEnd))
     (refusedBy (ruleOf cutShort))
-
--- the same by where the reading of n bytes ended
-unfoldable pub endJudged : ℕ → End → Verdict
-endJudged n (P.At m) = pick (eqb m n) J.Allowed (refusedBy bytesAfterEnd)
-endJudged n (P.Refused e) = refusedBy (e .rule)
-
--- v if it refuses, else u
-abbrev pub onAllowed : Verdict → Verdict → Verdict
-onAllowed J.Allowed u = u
-onAllowed (J.Refuse e) u = J.Refuse e

@@ -1,5 +1,5 @@
 -- What a step of the writer is given, and why it is refused
 pub mod Given
 pub mod Judged
-pub mod Texts
-pub mod Elements
+-- what functions below the public calls answer; no claim rests on it
+pub mod code

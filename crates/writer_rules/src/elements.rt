@@ -1,7 +1,8 @@
 // The rules for an element given as bytes: the reader's own rules, and no byte may be left over.
 ghost use mathlib.Core.Path.{_≡_};
 ghost use Rattle.element.specs.Operations.{operation, initialState};
-ghost use Rattle.writer_rules.specs.Judged.{judged, endJudged};
+ghost use Rattle.writer_rules.specs.Judged.{judged};
+ghost use Rattle.writer_rules.specs.code.Judged.{endJudged};
 ghost use Rattle.writer_rules.specs.Given.{given};
 use crate::Verdict;
 use wire::End;

@@ -12,7 +12,7 @@ ghost use Rattle.element.specs.Outputs.{transferableOutput};
 ghost use Rattle.element.specs.Inputs.{input};
 ghost use Rattle.writer_rules.specs.Judged.{judged};
 ghost use Rattle.writer_rules.specs.Given.{addressesOf, outputGiven, inputGiven};
-ghost use Rattle.writer_rules.specs.Elements.{outputHead, inputHead, rising, eachAbove};
+ghost use Rattle.writer_rules.specs.code.Elements.{outputHead, inputHead, rising, eachAbove};
 use crate::Verdict;
 use wire::End;
 use wire::Order;

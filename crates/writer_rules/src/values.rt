@@ -1,6 +1,6 @@
 // The rules for fields and for closing a list, as tests on what a step is given.
 ghost use mathlib.Core.Path.{_≡_};
-ghost use Rattle.writer_rules.specs.Texts.{typeRules, listRules, memoRules, textRules, denominationRules};
+ghost use Rattle.writer_rules.specs.code.Texts.{typeRules, listRules, memoRules, textRules, denominationRules};
 use crate::Verdict;
 use wire::Rule;
 

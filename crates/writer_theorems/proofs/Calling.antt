@@ -8,11 +8,13 @@ use native.Mathlib.Nat.{div-le-self, mul-mod-right, mul-div-cancel-left}
 use lib.ListN.{length, take, length-append}
 use lib.Seq.{take-at, drop-at}
 use borrow.Author.Tests.{eqb-true, eq-eqb}
-use Rattle.wire.specs.Bytes.{Bytes, digits, length-digits, bytes-append, bytes-digits}
+use Rattle.wire.specs.Bytes.{Bytes, digits}
+use Rattle.wire.specs.laws.Bytes.{length-digits, bytes-append, bytes-digits}
 use Rattle.wire.specs.Format.{took}
 use Rattle.wire.specs.Fields.{integer, blob, constant}
-use Rattle.wire.specs.Sequence.{andThen, guard, guardAt, named, tag}
-use Rattle.wire.specs.Series.{Chain, items, left, above, notBelow, countPrefixed}
+use Rattle.wire.specs.Sequence.{andThen, guard, guardAt, named, tag, items}
+use Rattle.wire.specs.Series.{left, above, notBelow, countPrefixed}
+use Rattle.wire.specs.Parsers.{Chain}
 use Rattle.element.specs.Owners.{Owners, owners}
 use Rattle.element.specs.Outputs.{amount, Output, secpMint, secpTransfer, nftMint, nftTransfer}
 use Rattle.element.specs.Outputs.{transferBody, output, TransferableOutput, transferableOutput}
@@ -36,7 +38,7 @@ use Rattle.transaction.specs.declared.ListName.{ListName}
 use Rattle.transaction.specs.declared.ListName.the-variants as L
 use Rattle.transaction.proofs.Signed.{parts-took}
 use Rattle.writer_rules.specs.Given.{Given, given, addressesOf, outputGiven, inputGiven}
-use Rattle.writer_rules.specs.Elements.{outputFront, outputHead, inputHead, integersBytes}
+use Rattle.writer_rules.specs.code.Elements.{outputFront, outputHead, inputHead, integersBytes}
 use Rattle.writer_rules.proofs.FieldLaws.{string-write, text-write, denomination-write}
 use Rattle.writer_rules.proofs.Outputs.{built-written}
 use Rattle.writer_rules.proofs.Inputs.{written-input, length-integers}

@@ -5,7 +5,8 @@ use mathlib.Core.List.{List, [], _∷_, _++_, append-assoc}
 use native.Mathlib.Omega.{arith}
 use lib.ListN.{length, take, drop, length-append}
 use lib.Seq.{take-at, drop-at}
-use Rattle.wire.specs.Bytes.{digits, length-digits}
+use Rattle.wire.specs.Bytes.{digits}
+use Rattle.wire.specs.laws.Bytes.{length-digits}
 use Rattle.wire.specs.Fields.{integer}
 use Rattle.transaction.specs.Slots.{signatureWidth, slotAt, putSlot, putAll}
 use Rattle.transaction.specs.Credentials.{Want, Piece, due, signature, pieces, places, layout, credentials}

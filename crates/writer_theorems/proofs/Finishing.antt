@@ -10,10 +10,12 @@ use lib.ListN.{length, take, drop, length-append}
 use lib.Seq.{length-take-le, take-at, drop-at}
 use lib.Dec.{eqb, leb}
 use borrow.Author.Tests.{leb-true}
-use Rattle.wire.specs.Bytes.{Bytes, digits, length-digits, bytes-digits, bytes-append, value-digits, value}
+use Rattle.wire.specs.Bytes.{Bytes, digits, value}
+use Rattle.wire.specs.laws.Bytes.{length-digits, bytes-digits, bytes-append, value-digits}
 use Rattle.wire.specs.Numbers.{ruleOf, emptyList, refusal, noRoom, stepNotDue}
 use Rattle.wire.specs.declared.Refusal.{Refusal}
-use Rattle.wire.specs.Format.{took, read, read-complete}
+use Rattle.wire.specs.Format.{took, read}
+use Rattle.wire.proofs.Format.{read-complete}
 use Rattle.wire.specs.Fields.{integer, blob, constant}
 use Rattle.wire.specs.Sequence.{andThen, guard, named, tag, only}
 use Rattle.transaction.specs.Credentials.{layout, blanks}

@@ -8,11 +8,13 @@ use lib.ListN.{length, take, drop, length-append}
 use lib.Seq.{length-take-le, take-at, drop-at}
 use lib.Dec.{eqb}
 use borrow.Author.Tests.{le-leb, leb-true, ne-eqb}
-use Rattle.wire.specs.Bytes.{digits, length-digits}
+use Rattle.wire.specs.Bytes.{digits}
+use Rattle.wire.specs.laws.Bytes.{length-digits}
 use Rattle.wire.specs.Format.{Format}
 use Rattle.wire.specs.Fields.{integer}
-use Rattle.wire.specs.Sequence.{guard, named, andThen, only}
-use Rattle.wire.specs.Series.{Chain, listWrite, left, items, countPrefixed}
+use Rattle.wire.specs.Sequence.{guard, named, andThen, only, items}
+use Rattle.wire.specs.Series.{left, countPrefixed}
+use Rattle.wire.specs.Parsers.{Chain, listWrite}
 use Rattle.transaction.specs.Signed.{mostBytes}
 use Rattle.transaction.specs.Plan.{Elements, Content, contentOf, elementsOf, Plan, shut, end, field, many}
 use Rattle.transaction.specs.Form.{atLeast, listOf, Value, form}

@@ -10,15 +10,17 @@ use lib.Dec.{ltb, leb, eqb}
 use borrow.Author.Tests.{lt-leb}
 use Rattle.wire.specs.Bytes.{pick, digits, below}
 use Rattle.wire.specs.declared.Rule.{Rule}
-use Rattle.wire.specs.Numbers.{ruleNumber, ruleOf, noRoom, stepNotDue, ruled-range}
+use Rattle.wire.specs.Numbers.{ruleNumber, ruleOf, noRoom, stepNotDue}
+use Rattle.wire.proofs.Numbers.{ruled-range}
 use Rattle.wire.specs.Numbers.{cutShort, unknownType, zeroAmount, outOfOrder, badThreshold, badLength, notPrintable, badDenomination}
 use Rattle.wire.specs.Format.{Format}
 use Rattle.wire.specs.Fields.{blob}
 use Rattle.wire.specs.Series.{notBelow}
 use Rattle.wire.specs.Orders.{OneOf}
-use Rattle.wire.specs.Sequence.{listed}
+use Rattle.wire.specs.Parsers.{listed}
 use Rattle.wire.proofs.Refusing.{RefusesBy, NumberIn, one-of, refuses-more}
-use Rattle.string.specs.Strings.{unprintable, memo, text, denomination}
+use Rattle.string.specs.Strings.{memo, text, denomination}
+use Rattle.string.specs.Characters.{unprintable}
 use Rattle.element.specs.Outputs.{transferableOutput}
 use Rattle.element.specs.Inputs.{input}
 use Rattle.element.specs.Operations as Operations
@@ -33,7 +35,7 @@ use Rattle.transaction.specs.declared.ListName.{ListName}
 use Rattle.transaction.specs.declared.ListName.the-variants as L
 use Rattle.transaction.proofs.Refusing.{unsignedNumbers, unsigned-numbers}
 use Rattle.writer_rules.specs.Given.{Given, headBytes, given, addressesOf, outputGiven, inputGiven}
-use Rattle.writer_rules.specs.Elements.{rising, eachAbove}
+use Rattle.writer_rules.specs.code.Elements.{rising, eachAbove}
 use Rattle.writer_rules.specs.Judged.{refusedBy, judged}
 use Rattle.writer_rules.specs.declared.Verdict.{Verdict}
 use Rattle.writer_rules.specs.declared.Verdict.the-variants as J

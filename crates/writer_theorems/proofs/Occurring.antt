@@ -12,12 +12,13 @@ use Rattle.wire.specs.Bytes.{Bytes, pick, value, digits, below}
 use Rattle.wire.specs.declared.Rule.{Rule}
 use Rattle.wire.specs.Numbers.{ruleNumber, ruleOf, badLength}
 use Rattle.wire.specs.Format.{Format}
-use Rattle.wire.specs.Fields.{blob, blobParse, integer, constant}
-use Rattle.wire.specs.Sequence.{tag}
-use Rattle.wire.specs.Series.{listParse, listWrite, items}
+use Rattle.wire.specs.Fields.{blob, integer, constant}
+use Rattle.wire.specs.Sequence.{tag, items}
+use Rattle.wire.specs.Parsers.{listParse, listWrite, blobParse}
 use Rattle.wire.specs.Orders.{OneOf}
 use Rattle.string.specs.Strings as Strings
-use Rattle.string.specs.Strings.{string, text, unprintable, denomination}
+use Rattle.string.specs.Strings.{string, text, denomination}
+use Rattle.string.specs.Characters.{unprintable}
 use Rattle.element.specs.Owners.{owners}
 use Rattle.element.specs.Outputs as Outputs
 use Rattle.element.specs.Outputs.{transferBody, transferableOutput}
@@ -30,7 +31,8 @@ use Rattle.transaction.specs.Family.{head, unsigned, wants}
 use Rattle.writer_rules.specs.declared.Verdict.{Verdict}
 use Rattle.writer_rules.specs.declared.Verdict.the-variants as J
 use Rattle.writer_rules.specs.Given.{Given, given, addressesOf}
-use Rattle.writer_rules.specs.Judged.{refusedBy, judged, onAllowed}
+use Rattle.writer_rules.specs.Judged.{refusedBy, judged}
+use Rattle.writer_rules.specs.code.Judged.{onAllowed}
 use Rattle.writer_rules.proofs.Verdicts.{both-true, judged-on}
 use Rattle.writer_rules.proofs.FieldLaws.{string-write, string-judged}
 use Rattle.writer_buffer.specs.Stores.{roomFor}

@@ -8,7 +8,8 @@ use native.Mathlib.Omega.{arith}
 use lib.ListN.{length, take}
 use lib.Dec.{eqb, leb}
 use borrow.Author.Tests.{leb-true}
-use Rattle.wire.specs.Bytes.{pick, digits, length-digits}
+use Rattle.wire.specs.Bytes.{pick, digits}
+use Rattle.wire.specs.laws.Bytes.{length-digits}
 use Rattle.wire.specs.declared.Rule.{Rule}
 use Rattle.wire.specs.Numbers.{ruleOf, cutShort, emptyList, bytesAfterEnd, noRoom, stepNotDue}
 use Rattle.wire.specs.Format.{Format, Result, took, refused, onResult, read}
@@ -19,7 +20,8 @@ use Rattle.transaction.specs.Family.{Family, head, unsigned}
 use Rattle.transaction.specs.declared.FieldName.{FieldName}
 use Rattle.transaction.specs.declared.ListName.{ListName}
 use Rattle.writer_rules.specs.Given.{Given, headBytes, given}
-use Rattle.writer_rules.specs.Judged.{refusedBy, judged, onAllowed}
+use Rattle.writer_rules.specs.Judged.{refusedBy, judged}
+use Rattle.writer_rules.specs.code.Judged.{onAllowed}
 use Rattle.writer_rules.specs.declared.Verdict.{Verdict}
 use Rattle.writer_rules.specs.declared.Verdict.the-variants as J
 use Rattle.writer_rules.proofs.Verdicts.{pick-fine, both-true, judged-read, judged-then, judged-on}

@@ -8,10 +8,12 @@ use native.Mathlib.Nat.{add-zero}
 use lib.ListN.{length, length-append}
 use lib.Seq.{append-snoc}
 use borrow.Author.Tests.{le-leb, lt-ltb, eq-eqb}
-use Rattle.wire.specs.Bytes.{digits, length-digits}
+use Rattle.wire.specs.Bytes.{digits}
+use Rattle.wire.specs.laws.Bytes.{length-digits}
 use Rattle.wire.specs.Format.{Format}
 use Rattle.wire.specs.Sequence.{andThen, only}
-use Rattle.wire.specs.Series.{Chain, listWrite, left}
+use Rattle.wire.specs.Series.{left}
+use Rattle.wire.specs.Parsers.{Chain, listWrite}
 use Rattle.transaction.specs.Signed.{mostBytes}
 use Rattle.transaction.specs.Plan.{Content, contentOf, elementsOf, Plan, shut, end, field, many}
 use Rattle.transaction.specs.Form.{listOf, Value, form}

@@ -2,7 +2,7 @@
 use mathlib.Core.Path.{ap, _∙_}
 use mathlib.Core.List.{List}
 use Prim.Native.Nat.{ℕ}
-use Rattle.draft_slots.specs.Scan.{joinedWith}
+use Rattle.draft_slots.specs.code.Scan.{joinedWith}
 use borrow.Author.Needs.{needs}
 use Rattle.draft.proofs.put_merge.Statement.{statement}
 use Rattle.draft.proofs.put_merge.Tie as tie

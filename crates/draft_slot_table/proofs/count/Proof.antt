@@ -5,7 +5,7 @@ use mathlib.Core.Path.{_≡_}
 use native.Mathlib.Omega.{arith}
 use lib.ListN.{length}
 use Rattle.draft_slots.proofs.Scanning.{range-ends, slots-counted}
-use Rattle.draft_slot_table.specs.Scan.{scanFrom}
+use Rattle.draft_slot_table.specs.code.Scan.{scanFrom}
 use Rattle.draft_slot_table.proofs.Scanning.{counting}
 use Rattle.draft_slot_table.proofs.count.Statement.{statement}
 use Rattle.draft_slot_table.proofs.count.Tie as tie

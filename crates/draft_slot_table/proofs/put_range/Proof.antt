@@ -5,7 +5,7 @@ use mathlib.Core.Path.{_≡_, refl}
 use native.Mathlib.Omega.{arith}
 use lib.ListN.{length}
 use Rattle.draft_slot_table.specs.Slots.{rows}
-use Rattle.draft_slot_table.specs.Scan.{slotsIn, put}
+use Rattle.draft_slot_table.specs.code.Scan.{slotsIn, put}
 use Rattle.draft_slot_table.proofs.Scanning.{same-length, running}
 use Rattle.draft_slot_table.proofs.put_range.Statement.{statement}
 use Rattle.draft_slot_table.proofs.put_range.Tie as tie

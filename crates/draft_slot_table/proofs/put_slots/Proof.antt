@@ -6,7 +6,7 @@ use native.Mathlib.Omega.{arith}
 use lib.ListN.{length}
 use Rattle.draft_slots.proofs.Scanning.{range-fits, range-starts}
 use Rattle.draft_slot_table.specs.Slots.{rows}
-use Rattle.draft_slot_table.specs.Scan.{scanFrom, put}
+use Rattle.draft_slot_table.specs.code.Scan.{scanFrom, put}
 use Rattle.draft_slot_table.proofs.Scanning.{slotting}
 use Rattle.draft_slot_table.proofs.Scanning.{same-length, left-after, credential-ends, rows-fit, row-numbers, credential-counted}
 use Rattle.draft_slot_table.proofs.put_slots.Statement.{statement}

@@ -3,7 +3,7 @@ use mathlib.Core.Path.{ap}
 use Prim.Native.Nat.{ℕ, _+_, _*_}
 use native.Mathlib.Omega.{arith}
 use borrow.Author.Needs.{needs}
-use Rattle.wire.specs.Numbers.{number-range}
+use Rattle.wire.proofs.Numbers.{number-range}
 use Rattle.phone.proofs.word.Statement.{statement}
 use Rattle.phone.proofs.word.Tie as tie
 

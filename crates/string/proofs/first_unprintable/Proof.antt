@@ -4,7 +4,7 @@ use borrow.Author.Needs.{needs}
 use Prim.Native.Nat.{_-_}
 use mathlib.Core.Path.{_≡_}
 use lib.ListN.{length}
-use Rattle.string.specs.Strings.{unprintable}
+use Rattle.string.specs.Characters.{unprintable}
 use Rattle.string.proofs.Reading.{unprintableFrom, unprintable-all, characters}
 use Rattle.string.proofs.first_unprintable.Statement.{statement}
 use Rattle.string.proofs.first_unprintable.Tie as tie

@@ -1,6 +1,6 @@
 -- `test_exports::put_answer` meets its contract. Assumes nothing.
 use borrow.Author.Needs.{needs}
-use Rattle.test_exports.specs.Values.{answerValues}
+use Rattle.test_exports.specs.code.Values.{answerValues}
 use Rattle.test_exports.proofs.Putting.{put-one, put-found, put-known, put-none, by-case}
 use Rattle.test_exports.proofs.put_answer.Statement.{statement}
 use Rattle.test_exports.proofs.put_answer.Tie as tie

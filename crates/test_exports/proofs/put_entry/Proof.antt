@@ -1,6 +1,6 @@
 -- `test_exports::put_entry` meets its contract. Assumes nothing.
 use borrow.Author.Needs.{needs}
-use Rattle.test_exports.specs.Values.{entryValues}
+use Rattle.test_exports.specs.code.Values.{entryValues}
 use Rattle.test_exports.proofs.Putting.{put-one, by-case}
 use Rattle.test_exports.proofs.put_entry.Statement.{statement}
 use Rattle.test_exports.proofs.put_entry.Tie as tie

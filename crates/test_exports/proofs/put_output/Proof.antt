@@ -1,6 +1,6 @@
 -- `test_exports::put_output` meets its contract. Assumes nothing.
 use borrow.Author.Needs.{needs}
-use Rattle.test_exports.specs.Values.{outputValues}
+use Rattle.test_exports.specs.code.Values.{outputValues}
 use Rattle.test_exports.proofs.Putting.{put-one, put-two, put-nft-transfer, by-case}
 use Rattle.test_exports.proofs.put_output.Statement.{statement}
 use Rattle.test_exports.proofs.put_output.Tie as tie

@@ -1,6 +1,6 @@
 -- `test_exports::put_recipients` meets its contract. Assumes nothing.
 use borrow.Author.Needs.{needs}
-use Rattle.test_exports.specs.Values.{recipientsValues}
+use Rattle.test_exports.specs.code.Values.{recipientsValues}
 use Rattle.test_exports.proofs.Putting.{put-one, put-three, by-case}
 use Rattle.test_exports.proofs.put_recipients.Statement.{statement}
 use Rattle.test_exports.proofs.put_recipients.Tie as tie

@@ -3,7 +3,7 @@ use Prim.Native.Nat.{_-_}
 use mathlib.Core.Path.{_≡_}
 use lib.ListN.{length}
 use borrow.Author.Needs.{needs}
-use Rattle.wire.specs.Order.{order}
+use Rattle.wire.specs.code.Order.{order}
 use Rattle.wire.proofs.Bytes.{orderFrom, order-all, comparing}
 use Rattle.wire.proofs.order_of.Statement.{statement}
 use Rattle.wire.proofs.order_of.Tie as tie

@@ -5,7 +5,7 @@ use mathlib.Core.Path.{_≡_, refl, ap}
 use native.Mathlib.Omega.{arith}
 use lib.ListN.{length, drop, getD}
 use borrow.Author.Needs.{needs}
-use Rattle.writer_rules.specs.Elements.{integersBytes}
+use Rattle.writer_rules.specs.code.Elements.{integersBytes}
 use Rattle.writer_buffer.specs.Stores.{overwrite}
 use Rattle.writer_buffer.proofs.Numbering.{integers-end, integers-on}
 use Rattle.writer_buffer.proofs.Stores.{length-integer}

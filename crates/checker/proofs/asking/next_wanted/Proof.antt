@@ -2,7 +2,7 @@
 use borrow.Author.Needs.{needs}
 use Prim.Native.Nat.{_+_, _-_}
 use native.Mathlib.Omega.{arith}
-use Rattle.plan.specs.Due.{lastPhase}
+use Rattle.plan.specs.code.Rows.{lastPhase}
 use Rattle.checker.proofs.Ahead.{Onward, nexts}
 use Rattle.checker.proofs.asking.next_wanted.Statement.{statement}
 use Rattle.checker.proofs.asking.next_wanted.Tie as tie

@@ -4,8 +4,9 @@ use Prim.Native.Nat.{_+_, _-_, _*_, _≤_}
 use mathlib.Core.Path.{_≡_, refl}
 use native.Mathlib.Omega.{arith}
 use Rattle.transaction.specs.Plan.{planOf}
-use Rattle.plan.specs.Due.{due, lastPhase}
-use Rattle.checker.specs.Segments.{planAt}
+use Rattle.plan.specs.Due.{due}
+use Rattle.plan.specs.code.Rows.{lastPhase}
+use Rattle.checker.specs.code.Segments.{planAt}
 use Rattle.checker.proofs.Planning.{turns}
 use Rattle.checker.proofs.body.plan_at.Statement.{statement}
 use Rattle.checker.proofs.body.plan_at.Tie as tie

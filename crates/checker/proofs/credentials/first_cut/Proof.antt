@@ -3,7 +3,7 @@
 use borrow.Author.Needs.{needs}
 use mathlib.Core.Path.{_≡_, refl}
 use Rattle.wire.proofs.Reading.{on-part, on-cut}
-use Rattle.checker.specs.Cut.{firstCut}
+use Rattle.checker.specs.code.Cut.{firstCut}
 use Rattle.checker.proofs.Signatures.{cut-on, cut-end}
 use Rattle.checker.proofs.credentials.first_cut.Statement.{statement}
 use Rattle.checker.proofs.credentials.first_cut.Tie as tie

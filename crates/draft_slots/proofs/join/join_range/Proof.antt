@@ -3,7 +3,7 @@ use mathlib.Core.Path.{_≡_, refl}
 use Prim.Native.Nat.{_+_, _*_, _≤_}
 use native.Mathlib.Omega.{arith}
 use lib.ListN.{length}
-use Rattle.draft_slots.specs.Scan.{slotRange, joinAll}
+use Rattle.draft_slots.specs.code.Scan.{slotRange, joinAll}
 use Rattle.draft_slots.proofs.InPlace.{join-on, join-end}
 use borrow.Author.Needs.{needs}
 use Rattle.draft_slots.proofs.join.join_range.Statement.{statement}

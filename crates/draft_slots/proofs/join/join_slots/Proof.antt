@@ -1,7 +1,7 @@
 -- `draft_slots::join::join_slots` meets its contract. The invariant: joining the slots that are left completes the joining of all. Assumes nothing.
 use mathlib.Core.Path.{_≡_, refl}
 use lib.ListN.{length}
-use Rattle.draft_slots.specs.Scan.{scanFrom, joinAll}
+use Rattle.draft_slots.specs.code.Scan.{scanFrom, joinAll}
 use Rattle.draft_slots.proofs.Scanning.{range-fits, joining-scan}
 use borrow.Author.Needs.{needs}
 use Rattle.draft_slots.proofs.join.join_slots.Statement.{statement}

@@ -3,7 +3,7 @@ use mathlib.Core.Path.{_≡_, refl}
 use Prim.Native.Nat.{_+_, _*_, _≤_}
 use native.Mathlib.Omega.{arith}
 use lib.ListN.{length}
-use Rattle.draft_slots.specs.Scan.{slotRange}
+use Rattle.draft_slots.specs.code.Scan.{slotRange}
 use Rattle.draft_slots.proofs.Scanning.{clashFrom, clash-is, clashing-range}
 use borrow.Author.Needs.{needs}
 use Rattle.draft_slots.proofs.ranges.clash_in.Statement.{statement}

@@ -2,7 +2,7 @@
 use mathlib.Core.Path.{_≡_, refl}
 use Prim.Native.Nat.{_≤_}
 use native.Mathlib.Omega.{arith}
-use Rattle.draft_slots.specs.Scan.{scanFrom}
+use Rattle.draft_slots.specs.code.Scan.{scanFrom}
 use Rattle.draft_slots.proofs.Scanning.{range-fits, range-starts, range-ends, slots-counted}
 use Rattle.draft_slots.proofs.Scanning.{clashFrom, clash-is, clashing-scan}
 use borrow.Author.Needs.{needs}

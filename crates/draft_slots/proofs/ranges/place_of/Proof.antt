@@ -1,6 +1,6 @@
 -- `draft_slots::ranges::place_of` meets its contract. The invariant: slot `index` of those that are left is slot `slot` of all. Assumes nothing.
 use mathlib.Core.Path.{_≡_, refl}
-use Rattle.draft_slots.specs.Scan.{scanFrom}
+use Rattle.draft_slots.specs.code.Scan.{scanFrom}
 use Rattle.draft_slots.proofs.Scanning.{slot-offset, slot-start, placeFrom, place-is, placing-scan}
 use borrow.Author.Needs.{needs}
 use Rattle.draft_slots.proofs.ranges.place_of.Statement.{statement}

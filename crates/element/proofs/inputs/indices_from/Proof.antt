@@ -8,7 +8,7 @@ use Rattle.wire.specs.Bytes.{digits, pick}
 use Rattle.wire.specs.Fields.{integer}
 use Rattle.wire.specs.Sequence.{guard}
 use Rattle.wire.specs.Series.{above, seriesFrom, increasing}
-use Rattle.wire.specs.Answer.{ended}
+use Rattle.wire.specs.code.Answer.{ended}
 use Rattle.wire.proofs.Reading.{turn, list-end, value-small}
 use Rattle.element.proofs.Reading.{if-integer-follows, if-integer-not}
 use Rattle.element.proofs.inputs.indices_from.Statement.{statement}

@@ -9,7 +9,7 @@ use Rattle.wire.specs.Bytes.{pick}
 use Rattle.wire.specs.Fields.{integer}
 use Rattle.wire.specs.Sequence.{guard}
 use Rattle.wire.specs.Series.{above, seriesFrom, increasing}
-use Rattle.wire.specs.Answer.{ended}
+use Rattle.wire.specs.code.Answer.{ended}
 use Rattle.wire.proofs.Reading.{list-end}
 use Rattle.element.specs.Inputs.{key}
 use Rattle.element.proofs.Reading.{key-cut, key-above, key-not-above, key-again}

@@ -8,7 +8,7 @@ use Rattle.wire.specs.Bytes.{pick}
 use Rattle.wire.specs.Fields.{integer}
 use Rattle.wire.specs.Sequence.{guard}
 use Rattle.wire.specs.Series.{series}
-use Rattle.wire.specs.Answer.{ended}
+use Rattle.wire.specs.code.Answer.{ended}
 use Rattle.wire.proofs.Reading.{list-on, list-end}
 use Rattle.element.specs.Operations.{initialStateAfter, initialState}
 use Rattle.element.proofs.Reading.{on-fx, on-fx-unknown, on-fx-short, if-fx-follows, if-fx-not, fx-again, statesAfter, states-are}

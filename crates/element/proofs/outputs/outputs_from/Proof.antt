@@ -4,7 +4,7 @@ use borrow.Author.Needs.{needs}
 use mathlib.Core.Path.{_≡_}
 use Rattle.wire.specs.Bytes.{between}
 use Rattle.wire.specs.Series.{notBelow, seriesFrom, nondecreasing}
-use Rattle.wire.specs.Answer.{ended}
+use Rattle.wire.specs.code.Answer.{ended}
 use Rattle.wire.proofs.Reading.{list-start, list-end}
 use Rattle.element.specs.Outputs.{transferableOutput}
 use Rattle.element.proofs.Reading.{ordering}

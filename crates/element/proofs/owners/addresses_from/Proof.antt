@@ -5,7 +5,7 @@ use native.Mathlib.Omega.{arith}
 use mathlib.Core.Path.{_≡_}
 use Rattle.wire.specs.Fields.{blob}
 use Rattle.wire.specs.Series.{increasing}
-use Rattle.wire.specs.Answer.{ended}
+use Rattle.wire.specs.code.Answer.{ended}
 use Rattle.element.proofs.Reading.{addressThen, AddressTurn, address-turn}
 use Rattle.element.proofs.Reading.{no-address, address-first, address-gone, address-cut, address-last}
 use Rattle.element.proofs.owners.addresses_from.Statement.{statement}

@@ -3,7 +3,7 @@
 use borrow.Author.Needs.{needs}
 use mathlib.Core.Path.{_≡_, refl}
 use Rattle.wire.specs.Series.{unordered}
-use Rattle.wire.specs.Answer.{ended}
+use Rattle.wire.specs.code.Answer.{ended}
 use Rattle.wire.proofs.Reading.{list-on, list-end}
 use Rattle.element.specs.Owners.{owners}
 use Rattle.element.proofs.Reading.{on-owners, on-owners-refused, unordered-again}

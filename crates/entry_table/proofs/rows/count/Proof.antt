@@ -2,7 +2,7 @@
 use borrow.Author.Needs.{needs}
 use Prim.Native.Nat.{_≤_}
 use native.Mathlib.Omega.{arith}
-use Rattle.entry_walk.specs.Walk.{ahead}
+use Rattle.entry_walk.specs.code.Walk.{ahead}
 use Rattle.entry_table.proofs.Looping.{Counted, counting, moved-less, found-less}
 use Rattle.entry_table.proofs.rows.count.Statement.{statement}
 use Rattle.entry_table.proofs.rows.count.Tie as tie

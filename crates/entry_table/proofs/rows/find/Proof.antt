@@ -1,6 +1,6 @@
 -- `entry_table::rows::find` meets its contract. The invariant: entry `left` of those ahead is entry n of all. Assumes nothing.
 use borrow.Author.Needs.{needs}
-use Rattle.entry_walk.specs.Walk.{ahead}
+use Rattle.entry_walk.specs.code.Walk.{ahead}
 use Rattle.entry_table.proofs.Looping.{Looked, finding, moved-less, found-less}
 use Rattle.entry_table.proofs.rows.find.Statement.{statement}
 use Rattle.entry_table.proofs.rows.find.Tie as tie

@@ -4,7 +4,7 @@ use borrow.Author.Needs.{needs}
 use Prim.Native.Nat.{_*_}
 use native.Mathlib.Omega.{arith}
 use lib.ListN.{length-set}
-use Rattle.entry_table.specs.Rows.{putRow}
+use Rattle.entry_table.specs.code.Rows.{putRow}
 use Rattle.entry_table.proofs.Looping.{three-stored}
 use Rattle.entry_table.proofs.rows.put_row.Statement.{statement}
 use Rattle.entry_table.proofs.rows.put_row.Tie as tie

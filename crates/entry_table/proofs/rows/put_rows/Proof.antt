@@ -4,7 +4,7 @@ use Prim.Native.Nat.{_≤_}
 use mathlib.Core.Path.{_≡_, refl}
 use native.Mathlib.Omega.{arith}
 use lib.ListN.{length}
-use Rattle.entry_walk.specs.Walk.{ahead}
+use Rattle.entry_walk.specs.code.Walk.{ahead}
 use Rattle.entry_table.proofs.Looping.{Put, putting, moved-less, found-less, put-length}
 use Rattle.entry_table.proofs.rows.put_rows.Statement.{statement}
 use Rattle.entry_table.proofs.rows.put_rows.Tie as tie

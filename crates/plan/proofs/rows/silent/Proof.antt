@@ -1,7 +1,7 @@
 -- `plan::rows::silent` meets its contract. Assumes nothing.
 use mathlib.Core.Path.{sym, ap}
 use borrow.Author.Needs.{needs}
-use Rattle.plan.specs.Due.{silentOf}
+use Rattle.plan.specs.code.Rows.{silentOf}
 use Rattle.plan.proofs.rows.silent.Statement.{statement}
 use Rattle.plan.proofs.rows.silent.Tie as tie
 

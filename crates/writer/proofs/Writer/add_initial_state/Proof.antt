@@ -1,7 +1,7 @@
 -- `writer::Writer::add_initial_state` meets its contract. Assumes nothing.
 use borrow.Author.Needs.{needs}
 use Rattle.writer.proofs.Methods.{state-put}
-use Rattle.writer_rules.specs.Elements.{integersBytes}
+use Rattle.writer_rules.specs.code.Elements.{integersBytes}
 use Rattle.writer.proofs.Writer.add_initial_state.Statement.{statement}
 use Rattle.writer.proofs.Writer.add_initial_state.Tie as tie
 

@@ -1,7 +1,7 @@
 -- `writer::Writer::add_operation` meets its contract. Assumes nothing.
 use borrow.Author.Needs.{needs}
 use Rattle.writer.proofs.Methods.{operation-put}
-use Rattle.writer_rules.specs.Elements.{integersBytes}
+use Rattle.writer_rules.specs.code.Elements.{integersBytes}
 use Rattle.writer.proofs.Writer.add_operation.Statement.{statement}
 use Rattle.writer.proofs.Writer.add_operation.Tie as tie
 

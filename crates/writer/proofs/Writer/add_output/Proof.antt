@@ -1,7 +1,7 @@
 -- `writer::Writer::add_output` meets its contract. Assumes nothing.
 use borrow.Author.Needs.{needs}
 use Rattle.writer.proofs.Methods.{output-head-wide, output-put}
-use Rattle.writer_rules.specs.Elements.{integersBytes}
+use Rattle.writer_rules.specs.code.Elements.{integersBytes}
 use Rattle.writer.proofs.Writer.add_output.Statement.{statement}
 use Rattle.writer.proofs.Writer.add_output.Tie as tie
 

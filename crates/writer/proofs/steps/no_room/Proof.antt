@@ -1,7 +1,7 @@
 -- `writer::steps::no_room` meets its contract. Assumes nothing.
 use mathlib.Core.Path.{ap, _∙_}
 use borrow.Author.Needs.{needs}
-use Rattle.writer.specs.Code.{refusedStep}
+use Rattle.writer.specs.code.Answer.{refusedStep}
 use Rattle.writer.proofs.steps.no_room.Statement.{statement}
 use Rattle.writer.proofs.steps.no_room.Tie as tie
 

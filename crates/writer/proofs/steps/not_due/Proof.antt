@@ -1,7 +1,7 @@
 -- `writer::steps::not_due` meets its contract. Assumes nothing.
 use mathlib.Core.Path.{ap, _∙_}
 use borrow.Author.Needs.{needs}
-use Rattle.writer.specs.Code.{refusedStep}
+use Rattle.writer.specs.code.Answer.{refusedStep}
 use Rattle.writer.proofs.steps.not_due.Statement.{statement}
 use Rattle.writer.proofs.steps.not_due.Tie as tie
 

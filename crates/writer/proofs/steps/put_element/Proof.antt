@@ -1,7 +1,7 @@
 -- `writer::steps::put_element` meets its contract. Assumes nothing.
 use borrow.Author.Needs.{needs}
 use Rattle.writer.proofs.Naming.{element-not, element-sane, element-short, element-refused, element-is}
-use Rattle.writer.specs.Code.{PutsElement}
+use Rattle.writer.specs.code.Answer.{PutsElement}
 use Rattle.writer.proofs.steps.put_element.Statement.{statement}
 use Rattle.writer.proofs.steps.put_element.Tie as tie
 

@@ -1,7 +1,7 @@
 -- `writer::steps::put_field` meets its contract. Assumes nothing.
 use borrow.Author.Needs.{needs}
 use Rattle.writer.proofs.Naming.{field-not, field-small, field-short, field-refused, field-is}
-use Rattle.writer.specs.Code.{PutsField}
+use Rattle.writer.specs.code.Answer.{PutsField}
 use Rattle.writer.proofs.steps.put_field.Statement.{statement}
 use Rattle.writer.proofs.steps.put_field.Tie as tie
 

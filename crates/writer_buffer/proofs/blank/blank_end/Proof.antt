@@ -4,7 +4,7 @@ use native.Mathlib.Omega.{arith}
 use borrow.Author.Needs.{needs}
 use Rattle.wire.specs.declared.End.the-variants as P
 use Rattle.transaction.specs.Slots.{signatureWidth}
-use Rattle.writer_buffer.specs.Closing.{credentialWidth}
+use Rattle.writer_buffer.specs.code.Closing.{credentialWidth}
 use Rattle.writer_buffer.proofs.Blanks.{fitted-full, fitted-room}
 use Rattle.writer_buffer.proofs.blank.blank_end.Statement.{statement}
 use Rattle.writer_buffer.proofs.blank.blank_end.Tie as tie

@@ -5,7 +5,7 @@ use native.Mathlib.Omega.{arith}
 use lib.ListN.{length}
 use borrow.Author.Needs.{needs}
 use Rattle.wire.specs.declared.End.{End}
-use Rattle.writer_buffer.specs.Closing.{blankBytes, fitted, OfAhead}
+use Rattle.writer_buffer.specs.code.Closing.{blankBytes, fitted, OfAhead}
 use Rattle.writer_buffer.proofs.Blanks.{fitted-next}
 use Rattle.writer_buffer.proofs.Loops.{cursor, of-end, end-full, end-on, end-none}
 use Rattle.writer_buffer.proofs.blank.blanks_end.Statement.{statement}

@@ -5,7 +5,7 @@ use mathlib.Core.Path.{_≡_, refl}
 use native.Mathlib.Omega.{arith}
 use lib.ListN.{length, drop}
 use borrow.Author.Needs.{needs}
-use Rattle.writer_rules.specs.Elements.{rising}
+use Rattle.writer_rules.specs.code.Elements.{rising}
 use Rattle.writer_rules.proofs.Inputs.{rise}
 use Rattle.writer_rules.proofs.transfers.indices_rise.Statement.{statement}
 use Rattle.writer_rules.proofs.transfers.indices_rise.Tie as tie

@@ -4,7 +4,7 @@ use mathlib.Core.Path.{refl}
 use native.Mathlib.Omega.{arith}
 use native.Mathlib.Nat.{mod-eq-of-lt}
 use borrow.Author.Needs.{needs}
-use Rattle.writer_rules.specs.Elements.{outputFront, outputHead}
+use Rattle.writer_rules.specs.code.Elements.{outputFront, outputHead}
 use Rattle.writer_rules.proofs.Heads.{all-put, first-bytes, then-integer}
 use Rattle.writer_rules.proofs.transfers.output_head.Statement.{statement}
 use Rattle.writer_rules.proofs.transfers.output_head.Tie as tie

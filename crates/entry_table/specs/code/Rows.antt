@@ -8,7 +8,7 @@ use lib.ListN.{length, take, drop}
 use lib.Dec.{leb}
 use Rattle.wire.specs.Bytes.{pick}
 use Rattle.transaction.specs.Entries.{EntryAt, nth}
-use Rattle.entry_walk.specs.Walk.{located, start, Ahead}
+use Rattle.entry_walk.specs.code.Walk.{located, start, Ahead}
 use Rattle.entry_walk.specs.declared.Row.{Row}
 use Rattle.entry_table.specs.declared.Count.{Count}
 use Rattle.entry_table.specs.declared.Count.the-variants as C

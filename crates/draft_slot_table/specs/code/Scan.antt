@@ -3,7 +3,7 @@
 use Prim.Native.Nat.{ℕ, zero, suc, _+_}
 use mathlib.Core.List.{List, [], _∷_, _++_}
 use lib.Seq.{sets}
-use Rattle.draft_slots.specs.Scan.{rangeAt, onRange}
+use Rattle.draft_slots.specs.code.Scan.{rangeAt, onRange}
 use Rattle.draft_slot_table.specs.Slots.{Slot, slotIn}
 
 -- c slots of credential k from p on, one after the other

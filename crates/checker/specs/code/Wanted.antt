@@ -6,14 +6,15 @@ use mathlib.Core.List.{List, [], _∷_, _++_}
 use lib.ListN.{length}
 use Rattle.wire.specs.Format.{took, read}
 use Rattle.wire.specs.Series.{seriesFrom}
-use Rattle.wire.specs.Answer.{ended}
+use Rattle.wire.specs.code.Answer.{ended}
 use Rattle.wire.specs.declared.End.{End}
 use Rattle.transaction.specs.Credentials.{credentialCode, Want, each, pieces}
 use Rattle.transaction.specs.Plan.{elementsOf, Plan, many, planOf}
 use Rattle.transaction.specs.Form.{Value, form, elementAsks, asked, wanted}
 use Rattle.transaction.specs.declared.Layout.{Layout}
 use Rattle.transaction.specs.declared.ListName.{ListName}
-use Rattle.plan.specs.Due.{tail, due, Live, credentialAsked}
+use Rattle.plan.specs.Due.{tail, due}
+use Rattle.plan.specs.code.Rows.{Live, credentialAsked}
 use Rattle.checker.specs.declared.Wanting.{Wanting}
 use Rattle.checker.specs.declared.Begun.{Begun}
 use Rattle.checker.specs.declared.Begun.the-variants as B

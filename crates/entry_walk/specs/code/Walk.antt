@@ -15,7 +15,8 @@ use Rattle.transaction.specs.Entries.{EntryAt, entryKind, entriesFrom, stateOut
 use Rattle.transaction.specs.Plan.{contentOf, elementsOf, Plan, shut, end, field, many, planOf}
 use Rattle.transaction.specs.declared.ListName.{ListName}
 use Rattle.plan.specs.declared.Due.the-variants as D
-use Rattle.plan.specs.Due.{due, lastPhase, dueOf}
+use Rattle.plan.specs.Due.{due, dueOf}
+use Rattle.plan.specs.code.Rows.{lastPhase}
 use Rattle.entry_walk.specs.declared.Cursor.{Cursor}
 use Rattle.entry_walk.specs.declared.Row.{Row}
 use Rattle.entry_walk.specs.declared.Advance.{Advance}

@@ -6,7 +6,7 @@ use lib.ListN.{length}
 use lib.Dec.{ltb, leb, eqb}
 use Rattle.wire.specs.Bytes.{pick}
 use Rattle.wire.specs.Numbers.{ruleOf, unknownType, badLength, emptyList, notPrintable, badDenomination}
-use Rattle.string.specs.Strings.{unprintable}
+use Rattle.string.specs.Characters.{unprintable}
 use Rattle.writer_rules.specs.declared.Verdict.{Verdict}
 use Rattle.writer_rules.specs.declared.Verdict.the-variants as J
 use Rattle.transaction.specs.Plan.{isType}

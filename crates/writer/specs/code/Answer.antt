@@ -21,11 +21,8 @@ use Rattle.writer.specs.declared.Writer.{Writer}
 use Rattle.writer.specs.declared.Step.{Step}
 use Rattle.writer.specs.declared.Written.the-variants as W
 use Rattle.writer.specs.Steps.{Turn, answered, prev, grown, appended, putField, putElement}
-use Rattle.writer_buffer.specs.Stores.{roomFor, overwrite, countOf}
-
--- the answer of a step, and the buffer afterwards
-abbrev pub after : Step → List ℕ → Turn
-after r s = record { step = r; buffer = s }
+use Rattle.writer_buffer.specs.Stores.{roomFor, overwrite}
+use Rattle.writer_buffer.specs.code.Stores.{countOf}
 
 abbrev pub refusedStep : Writer → Refusal → Step
 refusedStep w e = record { next = w; answer = W.Refused e }

@@ -5,14 +5,14 @@ use mathlib.Core.List.{List}
 use lib.Dec.{eqb}
 use Rattle.wire.specs.Bytes.{pick}
 use Rattle.wire.specs.Fields.{integer, blob}
-use Rattle.wire.specs.Answer.{wholeAt}
+use Rattle.wire.specs.code.Answer.{wholeAt}
 use Rattle.element.specs.declared.OutputFields.{OutputFields}
 use Rattle.element.specs.declared.InputFields.{InputFields}
 use Rattle.transaction.specs.Entries.{noId}
 use Rattle.transaction.specs.declared.Entry.{Entry}
 use Rattle.transaction.specs.declared.Entry.the-variants as E
 use Rattle.entry_walk.specs.declared.Row.{Row}
-use Rattle.entry_fields.specs.Found.{outputFound, inputFound, operationFound}
+use Rattle.entry_fields.specs.code.Found.{outputFound, inputFound, operationFound}
 use Rattle.entry_fields.specs.declared.OutputFound.{OutputFound}
 use Rattle.entry_fields.specs.declared.OutputFound.the-variants as O
 use Rattle.entry_fields.specs.declared.InputFound.{InputFound}

@@ -1,0 +1,4 @@
+-- What the loops over a plan return
+pub mod Segments
+pub mod Wanted
+pub mod Cut

@@ -1,0 +1,2 @@
+-- The slots as the code finds them
+pub mod Scan

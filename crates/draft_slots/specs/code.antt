@@ -1,0 +1,2 @@
+-- How the code finds slots, compares and joins them
+pub mod Scan

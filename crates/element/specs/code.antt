@@ -1,0 +1,2 @@
+-- What the readers of elements return
+pub mod Answer

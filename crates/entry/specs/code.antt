@@ -1,0 +1,2 @@
+-- An entry as the code reads it
+pub mod Typed

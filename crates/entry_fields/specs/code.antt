@@ -1,0 +1,2 @@
+-- The typed fields of elements, found by their offsets
+pub mod Found

@@ -1,0 +1,2 @@
+-- How the code counts, finds and writes the rows
+pub mod Rows

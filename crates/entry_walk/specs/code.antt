@@ -1,0 +1,2 @@
+-- The steps from one entry to the next
+pub mod Walk

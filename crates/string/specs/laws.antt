@@ -1,0 +1,2 @@
+-- The first character that is not printable
+pub mod Characters

@@ -1,0 +1,2 @@
+-- What the readers of a transaction return
+pub mod Answer

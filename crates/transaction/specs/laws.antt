@@ -1,0 +1,2 @@
+-- Laws that the plans carry
+pub mod NonEmpty

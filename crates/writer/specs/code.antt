@@ -1,0 +1,2 @@
+-- What the functions that the methods call answer
+pub mod Answer
