@@ -21,7 +21,7 @@ use Rattle.wire.specs.laws.Sizes.{length-integer}
 use Rattle.wire.specs.code.Answer.{valued, ended}
 use Rattle.wire.proofs.Bytes.{Slice, slice-bytes, found}
 use Rattle.wire.proofs.Reading as W
-use Rattle.element.specs.Operations.{fxOf, fxId}
+use Rattle.element.specs.Operations.{Fx, fxOf, fxId, stateOutputs}
 use Rattle.element.proofs.Reading.{fxOf-write}
 use Rattle.writer_rules.specs.declared.Verdict.{Verdict}
 use Rattle.writer_rules.specs.declared.Verdict.the-variants as J
@@ -58,6 +58,11 @@ read-judged {A} F s at x p z h = h ∙ go x p
     go : (x : End) → x ≡ ended F s at → endJudged (length s) x ≡ F .parse s at stop over
     go (P.At m) q = W.ends F Verdict s at _ stop over (P.At m) m q refl (λ a. refl)
     go (P.Refused e) q = W.stops F Verdict s at _ stop over (P.Refused e) e q refl refl
+
+-- the same with a head that `search` can match
+pub outputs-judged : (k : Fx) (s : List ℕ) (at : ℕ) (x : End) → x ≡ ended (stateOutputs k) s at → (z : Verdict) → z ≡ endJudged (length s) x
+    → z ≡ stateOutputs k .parse s at (λ e. refusedBy (e .rule)) λ a m. pick (eqb m (length s)) J.Allowed (refusedBy bytesAfterEnd)
+outputs-judged k = read-judged (stateOutputs k)
 
 -- ---- the order of initial states
 
