@@ -6,7 +6,6 @@ use mathlib.Core.Path.{_≡_, refl, sym, ap, subst}
 use mathlib.Core.Bool.{Bool, true, false}
 use mathlib.Core.List.{List, [], _∷_, _++_, append-assoc}
 use native.Mathlib.Omega.{arith}
-use native.Mathlib.Nat.{mul-le-mul, le-of-lt}
 use lib.ListN.{length, length-append}
 use lib.Dec.{eqb}
 use borrow.Author.Tests.{ne-eqb}
@@ -26,7 +25,7 @@ use Rattle.wire.specs.Parsers.{listWrite}
 use Rattle.wire.specs.laws.Items.{list-bytes}
 use Rattle.wire.specs.code.Answer.{ended, valued, Passes, Tells}
 use Rattle.wire.proofs.Bytes.{Slice}
-use Rattle.wire.proofs.Reading.{wide-chain, blob-wide, blob-ends, part-ends, value-ends}
+use Rattle.wire.proofs.Reading.{wide-chain, blob-wide, blob-ends, part-ends, value-ends, product-fits}
 use Rattle.wire.proofs.Passing as W
 use Rattle.wire.proofs.Passing.{Yields, Leads, next, answered, passes, leads, tells, Covers, reread, leads-covered, Wide, wide-covers, passes-wide}
 use Rattle.wire.proofs.Passing.{yields-parse, yields-end, parse-whole, parse-next, parse-refused, answered-whole, answered-next, answered-refused}
@@ -45,10 +44,6 @@ use Rattle.element_lengths.specs.code.Lengths.{byCount}
 use Rattle.element.proofs.Reading.{key-wide}
 
 -- ---- widths
-
--- a count of 32 bits times a small width fits in 64 bits
-pub product-fits : (w c : ℕ) → w ≤ 64 → c < 256 ^ 4 → w * c < 2 ^ 64
-product-fits w c h i = omega (arith, mul-le-mul h (le-of-lt i))
 
 integer-wide : (w : ℕ) → Wide (integer w) w
 integer-wide w v g = length-integer w v

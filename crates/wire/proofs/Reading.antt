@@ -9,7 +9,7 @@ use mathlib.Core.List.{List, [], _∷_}
 use mathlib.Core.Bool.{Bool, true, false, not}
 use native.Mathlib.Omega.{arith}
 use native.Mathlib.Numerals.{sub-one}
-use native.Mathlib.Nat.{not-suc-le-zero, mul-zero, mul-suc, add-comm}
+use native.Mathlib.Nat.{not-suc-le-zero, mul-zero, mul-suc, add-comm, mul-le-mul, le-of-lt}
 use lib.ListN.{length, take, drop, replicate, length-append, length-drop, length-replicate}
 use lib.Seq.{length-take-le}
 use lib.Dec.{ltb, leb, eqb}
@@ -257,6 +257,10 @@ module _ (k : ℕ) (s : List ℕ) (at : ℕ) (x : Integer) (v n : ℕ) (p : x �
 
   pub value-ends : n ≡ at + k
   value-ends = value-read .1 .ends ∙ ap (λ j. at + j) (length-integer k v)
+
+-- a count of 32 bits times a small width fits in 64 bits
+pub product-fits : (w c : ℕ) → w ≤ 64 → c < 256 ^ 4 → w * c < 2 ^ 64
+product-fits w c h i = omega (arith, mul-le-mul h (le-of-lt i))
 
 pub blob-ends : (k : ℕ) (s : List ℕ) (at : ℕ) (v : List ℕ) (n : ℕ) → read (blob k) s at ≡ took v n → n ≡ at + k
 unfolding blob blobParse

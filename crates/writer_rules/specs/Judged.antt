@@ -1,12 +1,9 @@
 -- Why a step is refused, by the bytes that it would add. No rule is stated here: the bytes are read by the format that is due. Assumes nothing.
-use Prim.Native.Nat.{ℕ}
 use lib.ListN.{length}
 use lib.Dec.{eqb}
 use Rattle.wire.specs.Bytes.{pick}
 use Rattle.wire.specs.declared.Rule.{Rule}
 use Rattle.wire.specs.Numbers.{refusal, ruleOf, cutShort, bytesAfterEnd}
-use Rattle.wire.specs.declared.End.{End}
-use Rattle.wire.specs.declared.End.the-variants as P
 use Rattle.wire.specs.Format.{Format}
 use Rattle.writer_rules.specs.declared.Verdict.{Verdict}
 use Rattle.writer_rules.specs.declared.Verdict.the-variants as J

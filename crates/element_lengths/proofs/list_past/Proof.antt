@@ -1,9 +1,9 @@
 -- `element_lengths::list_past` meets its contract.
 -- Assumes nothing.
 use borrow.Author.Needs.{needs}
-use Rattle.wire.proofs.Reading.{value-small}
+use Rattle.wire.proofs.Reading.{value-small, product-fits}
 use Rattle.element_lengths.specs.code.Lengths.{byCount}
-use Rattle.element_lengths.proofs.Passing.{passing, list-answered, product-fits}
+use Rattle.element_lengths.proofs.Passing.{passing, list-answered}
 use Rattle.element_lengths.proofs.list_past.Statement.{statement}
 use Rattle.element_lengths.proofs.list_past.Tie as tie
 

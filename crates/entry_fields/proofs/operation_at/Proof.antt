@@ -1,7 +1,6 @@
 -- `entry_fields::operation_at` meets its contract. Assumes nothing.
 use borrow.Author.Needs.{needs}
-use Rattle.wire.proofs.Reading.{value-small}
-use Rattle.element.proofs.Passing.{product-fits}
+use Rattle.wire.proofs.Reading.{value-small, product-fits}
 use Rattle.entry_fields.proofs.Passing.{finding}
 use Rattle.entry_fields.proofs.operation_at.Statement.{statement}
 use Rattle.entry_fields.proofs.operation_at.Tie as tie
