@@ -29,38 +29,17 @@ blanks-end-spec =
     (λ c. (λ r h. h, omega arith))  -- loop-holds
     (λ c κs. search needs) (λ c. search needs) (λ c. search needs)  -- next-wanted-requires, enum-known-signatures, enum-told
     (λ c.
-    let wanted : tie.After-next-wanted Inv-loop μ-loop = search in
-    let in-loop : tie.In-loop Inv-loop μ-loop = search in
     let at-loop : tie.At-loop Inv-loop μ-loop = search in
-    let start : tie.Start Inv-loop μ-loop = search in
-    let l = at-loop .loop in
-    let a = start .args in
-    l .inv .0 _ (of-end (a .s .now) (a .type-id) (cursor (l .phase) (l .asks) (l .cursor-at) (l .elements)) (l .left) _
-    (wanted .next-wanted .ensures) _ (in-loop .loop-test .taken) (c .enum-told .given .1)))  -- returns
+    at-loop .loop .inv .0 _ (search of-end))  -- returns
     (λ c κs. search needs) (λ c. search needs)  -- blank-end-requires, enum-known-refusal
     (λ c.
-    let ended : tie.After-blank-end Inv-loop μ-loop = search in
-    let at-signatures : tie.After-signatures Inv-loop μ-loop = search in
-    let wanted : tie.After-next-wanted Inv-loop μ-loop = search in
     let at-loop : tie.At-loop Inv-loop μ-loop = search in
-    let start : tie.Start Inv-loop μ-loop = search in
-    let l = at-loop .loop in
-    let a = start .args in
-    l .inv .0 _ (end-full (a .s .now) (a .type-id) (cursor (l .phase) (l .asks) (l .cursor-at) (l .elements)) (l .left) _
-    (wanted .next-wanted .ensures) _ _ _
-    (at-signatures .signatures .given .1) (l .at) _ _ (ended .blank-end .ensures) _ (c .before .refusal .given .1)))  -- returns-2
+    at-loop .loop .inv .0 _ (search end-full))  -- returns-2
     (λ c. search needs) (λ c. search needs) (λ c. search needs)  -- enum-known-end, sub-left, loop-less
     (λ c.
     let ended : tie.After-blank-end Inv-loop μ-loop = search in
-    let at-signatures : tie.After-signatures Inv-loop μ-loop = search in
-    let wanted : tie.After-next-wanted Inv-loop μ-loop = search in
-    let at-loop : tie.At-loop Inv-loop μ-loop = search in
-    let start : tie.Start Inv-loop μ-loop = search in
-    let l = at-loop .loop in
-    let a = start .args in (
-      λ r h. l .inv .0 r (end-on (a .s .now) (a .type-id) (cursor (l .phase) (l .asks) (l .cursor-at) (l .elements)) (l .left) _
-          (wanted .next-wanted .ensures) _ _ _
-          (at-signatures .signatures .given .1) (l .at) _ _ (ended .blank-end .ensures) r _ (c .before .end .given .1) h),
+    let at-loop : tie.At-loop Inv-loop μ-loop = search in (
+      λ r h. at-loop .loop .inv .0 r (search end-on),
       fitted-next _ _ _ _ (ended .blank-end .ensures) _ (c .before .end .given .1) .1,
     ))  -- loop-again
     (λ c.
