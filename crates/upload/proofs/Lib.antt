@@ -1,0 +1,3 @@
+-- Laws of an upload
+pub mod Laying
+pub mod Calling

@@ -1,0 +1,2 @@
+-- The calls of an upload
+pub mod Calls
