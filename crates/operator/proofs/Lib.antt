@@ -1,3 +1,4 @@
 -- Laws of the answers to the operator's command
 pub mod Listing
 pub mod Unlisting
+pub mod Uploading

@@ -1,2 +1,3 @@
 -- The answers to the operator's command
 pub mod Listing
+pub mod Uploads

@@ -4,6 +4,9 @@ ghost use Rattle.transaction.specs.Answer.{memoMost};
 ghost use Rattle.entry_table.specs.Table.{tabled};
 ghost use Rattle.draft_slot_table.specs.Table.{tabledSlots};
 ghost use Rattle.operator.specs.Listing.{packed, listing, listed};
+
+pub mod uploads;
+
 use entry_table::Tabled;
 
 // An answer as one integer: how many rows were written, or number × 2^32 + place.

@@ -50,17 +50,22 @@ lent-piece s y p at e h there f =
     rw (whole, n, drop-drop (length p) at s) (sym (append-assoc (take at s) p (drop (at + length p) s)))
 
 module _ (s p : List ℕ) (at : ℕ) (fits : at + length p ≤ length s) where
-  long : length (joined at p s) ≡ at + length p
-  long = omega (arith, length-append (take at s) p, length-take-le at s (omega arith))
+  pub length-joined : length (joined at p s) ≡ at + length p
+  length-joined = omega (arith, length-append (take at s) p, length-take-le at s (omega arith))
 
   pub length-laid : length (laid at p s) ≡ length s
   unfolding laid
-  length-laid = omega (arith, long, length-append (joined at p s) (drop (at + length p) s), length-drop (at + length p) s)
+  length-laid = omega (arith, length-joined, length-append (joined at p s) (drop (at + length p) s), length-drop (at + length p) s)
 
   -- its front is the bytes joined
   pub take-laid : (e : ℕ) → e ≡ at + length p → take e (laid at p s) ≡ joined at p s
   unfolding laid
-  take-laid e h = take-at (joined at p s) (drop (at + length p) s) e (omega (arith, long))
+  take-laid e h = take-at (joined at p s) (drop (at + length p) s) e (omega (arith, length-joined))
+
+  -- and what is behind them is as before
+  pub drop-laid : drop (at + length p) (laid at p s) ≡ drop (at + length p) s
+  unfolding laid
+  drop-laid = drop-at (joined at p s) (drop (at + length p) s) (at + length p) length-joined
 
   -- a, which has the piece's length, is overwritten by the bytes from `at` up to e: it holds what the piece covers
   pub set-aside : (a b : List ℕ) (e : ℕ) → e ≡ at + length p → length a ≡ length p
@@ -81,7 +86,7 @@ module _ (s p : List ℕ) (at : ℕ) (fits : at + length p ≤ length s) where
       let same : length a ≡ length p = ap length h ∙ length-take-le (length p) (drop at s) (omega (arith, length-drop at s)) in
       let front : take at (joined at p s ++ d) ≡ take at s =
       ap (take at) (append-assoc (take at s) p d) ∙ take-at (take at s) (p ++ d) at (length-take-le at s (omega arith)) in
-      let behind : drop (at + length a) (joined at p s ++ d) ≡ d = drop-at (joined at p s) d (at + length a) (omega (arith, long)) in
+      let behind : drop (at + length a) (joined at p s ++ d) ≡ d = drop-at (joined at p s) d (at + length a) (omega (arith, length-joined)) in
       let rest : d ≡ drop (length p) (drop at s) = sym (drop-drop (length p) at s) in
       rw (front, behind)
       (append-assoc (take at s) a d

@@ -31,7 +31,8 @@ piece-within-spec =
     let a = start .args in
     let begun : tie.After-enum-told = search in
     let judged : tie.After-judge-any = search in
-    piece-more _ (a .upload) (a .piece .now) (a .store .now) (begun .enum-told .given .1) _ _ (judged .judge-any .ensures) (c .enum-told3 .given .1))  -- returns-2
+    piece-more _ (a .upload) (a .piece .now) (a .store .now) (begun .enum-told .given .1) _ _ (judged .judge-any .ensures)
+    (c .enum-told3 .given .1))  -- returns-2
     (λ c. search needs)  -- same-length-2
     (λ c.
     let start : tie.Start = search in
@@ -39,4 +40,5 @@ piece-within-spec =
     let begun : tie.After-enum-told = search in
     let judged : tie.After-judge-any = search in
     let refused : tie.After-refusal = search in
-    piece-refused _ (a .upload) (a .piece .now) (a .store .now) (begun .enum-told .given .1) _ _ (judged .judge-any .ensures) _ (refused .refusal .given .1)))  -- returns-3
+    piece-refused _ (a .upload) (a .piece .now) (a .store .now) (begun .enum-told .given .1) _ _ (judged .judge-any .ensures)
+    _ (refused .refusal .given .1)))  -- returns-3

@@ -1,0 +1,80 @@
+-- THE THEOREMS, for every limit of the memo, and so for the base's. Assumes nothing.
+use Prim.Native.Nat.{ℕ, _≤_, _<_}
+use mathlib.Core.Path.{_≡_, refl, sym, ap, _∙_}
+use mathlib.Core.List.{List, [], _++_}
+use native.Mathlib.Omega.{arith}
+use lib.ListN.{length, drop, length-append}
+use lib.Seq.{take-at}
+use Rattle.wire.specs.declared.Refusal.{Refusal}
+use Rattle.wire.specs.Numbers.{refusal, tooLong}
+use Rattle.transaction.specs.Signed.{mostBytes}
+use Rattle.transaction.specs.Answer.{memoMost, checked}
+use Rattle.transaction.specs.declared.Checked.{Checked}
+use Rattle.transaction.specs.declared.Checked.the-variants as C
+use Rattle.upload.specs.declared.Standing.{Standing}
+use Rattle.upload.specs.declared.Standing.the-variants as S
+use Rattle.upload.specs.declared.Upload.{Upload}
+use Rattle.upload.specs.Calls.{fresh, shown, endCall}
+use Rattle.upload.proofs.Calling.{checked-long, end-stands, end-checked}
+use Rattle.upload_theorems.specs.Answers.{UploadOwes}
+use Rattle.upload_theorems.specs.Pieces.{whole, run, after, answer, ended, Fits, CutFreely}
+use Rattle.upload_theorems.proofs.Standing.{shown-inv}
+use Rattle.upload_theorems.proofs.Answering as Answering
+use Rattle.upload_theorems.proofs.Running.{held, run-stood, run-append, run-more, run-answer, empty-more}
+
+module _ (most : ℕ) where
+  -- the end of an upload whose bytes are all stored
+  ended-more : (s : List ℕ) (ps : List (List ℕ)) → answer most s ps ≡ S.NeedMore → ended most s ps ≡ checked most (whole ps)
+  ended-more s ps q =
+      let (same, fits) = run-more most s [] ps (omega arith) q in
+      let w : List ℕ = whole ps in
+      let t : List ℕ = w ++ drop (length w) s in
+      ap (λ (a : Upload × List ℕ). endCall most (a .0) (a .1)) same
+      ∙ sym (end-checked most (held most s w .0) t refl (omega (arith, length-append w (drop (length w) s))) (checked most w)
+      (ap (checked most) (sym (take-at w (drop (length w) s) (length w) refl))))
+
+  end-refused : (s : List ℕ) (ps : List (List ℕ)) (e : Refusal) → answer most s ps ≡ S.Refused e → ended most s ps ≡ C.Refused e
+  end-refused s ps e q = sym (end-stands most (after most s ps .0) (after most s ps .1) e q)
+
+  piece-answer : (s : List ℕ) (ps : List (List ℕ)) → Fits s ps → answer most s ps ≡ shown (checked most (whole ps))
+  piece-answer s ps f = run-answer most s [] ps (f .bytes) (f .short) (f .room) (empty-more most)
+
+  own-refusal : (s : List ℕ) (ps : List (List ℕ)) (e : Refusal) → Fits s ps → answer most s ps ≡ S.Refused e → checked most (whole ps) ≡ C.Refused e
+  own-refusal s ps e f q = shown-inv (checked most (whole ps)) e (sym (piece-answer s ps f) ∙ q) .0
+
+  end-answer : (s : List ℕ) (ps : List (List ℕ)) → Fits s ps → ended most s ps ≡ checked most (whole ps)
+  end-answer s ps f = go (answer most s ps) refl
+    where
+      go : (x : Standing) → answer most s ps ≡ x → ended most s ps ≡ checked most (whole ps)
+      go S.NeedMore q = ended-more s ps q
+      go (S.Refused e) q = end-refused s ps e q ∙ sym (own-refusal s ps e f q)
+
+  too-long : (s : List ℕ) (ps : List (List ℕ)) → mostBytes < length (whole ps) → (e : Refusal) × (ended most s ps ≡ C.Refused e)
+  too-long s ps h = go (answer most s ps) refl
+    where
+      go : (x : Standing) → answer most s ps ≡ x → (e : Refusal) × (ended most s ps ≡ C.Refused e)
+      go S.NeedMore q = (refusal tooLong 0, ended-more s ps q ∙ checked-long most (whole ps) h)
+      go (S.Refused e) q = (e, end-refused s ps e q)
+
+  pub cut-freely : CutFreely most
+  cut-freely =
+      record {
+        end-answer = end-answer;
+        piece-answer = piece-answer;
+        stored = λ s ps q. run-more most s [] ps (omega arith) q .0;
+        stays = λ s ps qs e q. run-append most (fresh, s) ps qs ∙ run-stood most (after most s ps) e q qs;
+        end-refused = end-refused;
+        own-refusal = own-refusal;
+        too-long = too-long;
+      }
+
+  pub upload-owes : UploadOwes most
+  upload-owes = Answering.upload-owes most
+
+-- ---- the base
+
+pub base-cut-freely : CutFreely memoMost
+base-cut-freely = cut-freely memoMost
+
+pub base-upload-owes : UploadOwes memoMost
+base-upload-owes = upload-owes memoMost
