@@ -3,7 +3,7 @@
  * whatever differs afterwards was written. Reads request lines (tests/README.md): `phone-check
  * BYTES` and `check BYTES none` are checks, `check BYTES ROOM` checks with a lent table, `entry
  * BYTES N` reads an entry, `fill DRAFT SLOT SIGNATURE` fills a slot, and `merge` and `phone-merge
- * FIRST SECOND ROOM` merge. Prints for each call and each answer, those that are done by type, how
+ * FIRST SECOND ROOM` merge, and `upload STORE PIECE ..` hands over pieces and ends. Prints for each call and each answer, those that are done by type, how
  * many there were and the most bytes that were written below the caller's frame, the return
  * address with them; and behind them the most of each call.
  */
@@ -15,7 +15,7 @@
 #include <string.h>
 #include <ucontext.h>
 
-enum { STACK = 1 << 16, TYPES = 5, ANSWERS = TYPES + 22, WORDS = 4, NUMBERS = 23, ID = 32 };
+enum { STACK = 1 << 17, TYPES = 5, ANSWERS = TYPES + 22, WORDS = 4, NUMBERS = 23, ID = 32 };
 
 /* The calls; those of the library `test_exports` are in no header. */
 typedef uint64_t check_call(const uint8_t *bytes, size_t length);
@@ -27,6 +27,9 @@ typedef void fill_call(uint8_t *draft, size_t length, uint64_t slot, const uint8
                        size_t signature_length, uint64_t *answer);
 typedef uint64_t merge_call(const uint8_t *first, size_t first_length, const uint8_t *second,
                             size_t second_length, uint8_t *output, size_t room);
+typedef uint64_t piece_call(uint64_t *state, uint8_t *store, size_t room, const uint8_t *piece,
+                            size_t length);
+typedef uint64_t end_call(const uint64_t *state, const uint8_t *store, size_t room);
 table_call cellfacet_test_table;
 entry_call cellfacet_test_entry;
 fill_call cellfacet_test_fill;
@@ -42,6 +45,8 @@ static size_t length, second_length, room;
 static uint32_t *table;
 static uint64_t n;
 static uint64_t number;
+/* An upload's state, which a call leaves in `next`. */
+static uint64_t state[2], next[2];
 
 /* Each stands in for a call and finds the top: a saved frame pointer and the return address lie
  * between. */
@@ -85,11 +90,28 @@ static __attribute__((noinline)) uint64_t merge_top(UNUSED const uint8_t *a, UNU
     return 0;
 }
 
+static __attribute__((noinline)) uint64_t piece_top(UNUSED uint64_t *u, UNUSED uint8_t *s,
+                                                    UNUSED size_t r, UNUSED const uint8_t *p,
+                                                    UNUSED size_t l)
+{
+    FIND_TOP;
+    return 0;
+}
+
+static __attribute__((noinline)) uint64_t end_top(UNUSED const uint64_t *u, UNUSED const uint8_t *s,
+                                                  UNUSED size_t r)
+{
+    FIND_TOP;
+    return 0;
+}
+
 static check_call *volatile called_check;
 static table_call *volatile called_table;
 static entry_call *volatile called_entry;
 static fill_call *volatile called_fill;
 static merge_call *volatile called_merge;
+static piece_call *volatile called_piece;
+static end_call *volatile called_end;
 
 static void run_check(void)
 {
@@ -126,9 +148,26 @@ static void run_merge(void)
     swapcontext(&callee, &caller);
 }
 
-enum { CHECK, TABLE, ENTRY, FILL, MERGE, CALLS };
-static const char *const names[CALLS] = {"check", "check with a table", "entry", "fill", "merge"};
-static void (*const runs[CALLS])(void) = {run_check, run_table, run_entry, run_fill, run_merge};
+/* A call is made more than once, each time with the same state: a piece that is stored again
+ * leaves the same store. */
+static void run_piece(void)
+{
+    memcpy(next, state, sizeof next);
+    number = cellfacet_number(called_piece(next, bytes, room, second, second_length));
+    swapcontext(&callee, &caller);
+}
+
+static void run_end(void)
+{
+    number = cellfacet_number(called_end(state, bytes, room));
+    swapcontext(&callee, &caller);
+}
+
+enum { CHECK, TABLE, ENTRY, FILL, MERGE, PIECE, END, CALLS };
+static const char *const names[CALLS] = {"check", "check with a table", "entry", "fill",
+                                         "merge", "piece",              "end"};
+static void (*const runs[CALLS])(void) = {run_check, run_table, run_entry, run_fill,
+                                          run_merge, run_piece, run_end};
 
 /* Whether the calls are made, or what stands in for them. */
 static void call_tops(int tops)
@@ -138,6 +177,8 @@ static void call_tops(int tops)
     called_entry = tops ? entry_top : cellfacet_test_entry;
     called_fill = tops ? fill_top : cellfacet_test_fill;
     called_merge = tops ? merge_top : cellfacet_merge;
+    called_piece = tops ? piece_top : cellfacet_upload_piece;
+    called_end = tops ? end_top : cellfacet_upload_end;
 }
 
 /* The place of the lowest byte that differs from `filled`, after a call. */
@@ -245,19 +286,49 @@ static void print(int call, const size_t *count, const size_t *most)
     printf("%s: %zu calls, at most %zu bytes\n", names[call], calls, all);
 }
 
+static size_t count[CALLS][ANSWERS], most[CALLS][ANSWERS];
+
+static void measure(int call)
+{
+    size_t bytes_taken = taken(call);
+    size_t row = number == CELLFACET_ACCEPTED ? bytes[5] : TYPES + number;
+    count[call][row]++;
+    most[call][row] = bytes_taken > most[call][row] ? bytes_taken : most[call][row];
+}
+
+/* Measures each call of an upload, whose words behind its name are in `words`. */
+static int measure_upload(char *words)
+{
+    char *word = strtok(words, " \n");
+    if (word == NULL)
+        return -1;
+    room = strtoull(word, NULL, 10);
+    uint8_t *store = bytes = calloc(room + 6, 1);
+    if (store == NULL)
+        return -1;
+    memset(state, 0, sizeof state);
+    while ((word = strtok(NULL, " \n")) != NULL) {
+        second = (uint8_t *)word;
+        second_length = decoded(word);
+        measure(PIECE);
+        memcpy(state, next, sizeof state);
+    }
+    measure(END);
+    free(store);
+    return 0;
+}
+
 int main(void)
 {
-    static size_t count[CALLS][ANSWERS], most[CALLS][ANSWERS];
     char *line = NULL;
     size_t line_room = 0;
     while (getline(&line, &line_room, stdin) > 0) {
-        int call = asked(line);
+        int upload = strncmp(line, "upload ", 7) == 0;
+        int call = upload ? measure_upload(line + 7) : asked(line);
         if (call < 0)
             return 2;
-        size_t bytes_taken = taken(call);
-        size_t row = number == CELLFACET_ACCEPTED ? bytes[5] : TYPES + number;
-        count[call][row]++;
-        most[call][row] = bytes_taken > most[call][row] ? bytes_taken : most[call][row];
+        if (!upload)
+            measure(call);
     }
     for (int call = 0; call < CALLS; call++)
         print(call, count[call], most[call]);

@@ -1,9 +1,12 @@
 /*
- * Cellfacet for C: checks signed AVM (X-Chain) transactions, and merges drafts of one.
+ * Cellfacet for C: checks signed AVM (X-Chain) transactions, merges drafts of one, and takes
+ * drafts that are sent in pieces.
  *
  * Build the library with `rt staticlib phone` and link target/staticlib/libphone.a; it needs
- * only the C library. It keeps no state, allocates nothing, writes to no memory but the output
- * of a merge, and may be called from several threads at once.
+ * only the C library. The two functions for uploads are in another one, `rt staticlib operator`
+ * and target/staticlib/liboperator.a; both may be linked. They keep no state, allocate nothing,
+ * write to no memory but the output of a merge, and the state and the store of an upload, and may
+ * be called from several threads at once.
  *
  * A slot is the 65 bytes for one signature. A draft is an accepted transaction, some of whose
  * slots may still be empty.
@@ -38,6 +41,8 @@ enum {
     CELLFACET_TOO_LONG = 1,
     /* A field is cut short: not all of its bytes are there. Place: the start of the field. */
     CELLFACET_CUT_SHORT = 2,
+    /* The answer to a piece of an upload that is stored; no refusal. Place: 0. */
+    CELLFACET_NEED_MORE = 2,
     /* The codec is not 0. Place: 0. */
     CELLFACET_WRONG_CODEC = 3,
     /* A type or FxID is unknown or not allowed here. Place: its start. */
@@ -73,7 +78,8 @@ enum {
     CELLFACET_DRAFTS_DIFFER = 19,
     /* Two different signatures in one slot. Place: the number of the first such slot. */
     CELLFACET_CONFLICT = 20,
-    /* No room for the result: the output is shorter than a draft. Place: 0. */
+    /* No room for the result: the output is shorter than a draft; or of an upload, the piece does
+       not fit the store. Place: 0. */
     CELLFACET_NO_ROOM = 14,
 
     /* The rest of the table, which no function of this header returns. */
@@ -118,6 +124,40 @@ uint64_t cellfacet_check(const uint8_t *bytes, size_t length);
 uint64_t cellfacet_merge(const uint8_t *first, size_t first_length,
                          const uint8_t *second, size_t second_length,
                          uint8_t *out, size_t out_length);
+
+/*
+ * An upload: a draft that is sent in pieces and kept at the front of a lent store.
+ *
+ * `state` points to two integers: the number of bytes stored, and the refusal that stands, as
+ * number times 2^32 plus place, or 0 if none does. Both are 0 at a fresh start. Hand over the state
+ * and the store as the last call left them; `state`, the store and the piece share no byte, and
+ * nothing else reads or writes state and store during a call, nor writes the piece. `store` and
+ * `piece` may be NULL if the length after them is 0.
+ *
+ * For bytes of at most 65,536 that fit the store, the answer at the end is that of cellfacet_check of
+ * all bytes, however they were cut. Longer bytes are refused.
+ *
+ * A state or store that no call has left is safe too: the number is then one of the table, and what is
+ * answered and stored says nothing about a draft.
+ */
+
+/*
+ * Hands over a piece, which may be of length 0. It takes about 65 KiB of stack.
+ *
+ * CELLFACET_NEED_MORE at 0: the piece is stored behind the bytes that are there, state[0] has grown by
+ * its length, and no other byte of the store has changed. Any other number, 1 or 3 to 14, is a refusal:
+ * CELLFACET_NO_ROOM if the piece does not fit the store, else that of cellfacet_check of the bytes
+ * joined so far. It is now in state[1], and neither state[0] nor any byte of the store has changed; every
+ * later piece and the end are answered the same, and change nothing, until a fresh start.
+ */
+uint64_t cellfacet_upload_piece(uint64_t state[2], uint8_t *store, size_t store_length,
+                                const uint8_t *piece, size_t piece_length);
+
+/*
+ * Ends an upload. The answer is that of cellfacet_check of the bytes stored, 0 with their number if
+ * they are accepted; or the refusal that stands. Its number is 0 to 14. Nothing is written.
+ */
+uint64_t cellfacet_upload_end(const uint64_t state[2], const uint8_t *store, size_t store_length);
 
 /* The number of an answer: CELLFACET_ACCEPTED or CELLFACET_DONE, or why it is a refusal. */
 static inline uint32_t cellfacet_number(uint64_t answer)

@@ -11,8 +11,11 @@ use Rattle.writer_theorems.proofs.Trip.{steps-round-trip}
 use Rattle.writer_theorems.proofs.Occurring.{writer-numbers-occur}
 use Rattle.draft_theorems.proofs.Theorems.{demand-3, orders, filling, slots-of-reading, calls-owe, calls-decide}
 use Rattle.draft_theorems.proofs.Theorems.{avm-demand-3, avm-slots-of-reading, avm-orders, avm-filling, avm-calls-owe, avm-calls-decide}
+use Rattle.upload_theorems.proofs.Answering.{upload-owes}
+use Rattle.upload_theorems.proofs.Theorems.{cut-freely}
 use Rattle.phone.proofs.Unpacking.{unpacked}
 use Rattle.operator.proofs.Unlisting.{unlisted}
+use Rattle.operator.proofs.UploadWords.{upload-words}
 use Rattle.claims.specs.Cases.{proved-cases}
 use Rattle.claims.specs.Claims.{Demand1, Demand2, Claims}
 use Rattle.claims.proofs.Answering.{check-answers, table-answers, entry-answers, slots-answers}
@@ -31,10 +34,12 @@ demand-1-holds =
       merge-and-fill = avm-calls-owe;
       merge-and-fill-decide = avm-calls-decide;
       writer = methods-owe memoMost;
+      upload = upload-owes memoMost;
       numbers-occur = numbers-occur;
       writer-numbers-occur = writer-numbers-occur memoMost;
       phone = unpacked;
       operator = unlisted;
+      upload-words = upload-words;
     }
 
 demand-2-holds : Demand2
@@ -58,6 +63,7 @@ claims =
       instances = instances;
       orders = avm-orders;
       filling = avm-filling;
+      uploads = cut-freely;
       cases = proved-cases;
       codecs = codec;
       first-broken-rules = first-broken;

@@ -1,9 +1,9 @@
 -- EVERYTHING THAT IS CLAIMED of the calls that users are offered: a field for each statement, in the order of document 00's demands. docs/CLAIMS.md
 -- has the same order, with each sentence of the papers beside its field. Proved as `claims`, in proofs/Claims. Assumes nothing.
 --
--- The calls are given by definitions: `checked`, `tabled`, `entryOf`, `tabledSlots`, `mergeCall`, `fillCall`, `call` (the writer's methods), and
--- `packed` (the answers to C). The contract of each public function says that its answer, its state and every lent byte equal these, whatever it is
--- handed; that it ends and stays inside the memory lent is part of what a proved function is.
+-- The calls are given by definitions: `checked`, `tabled`, `entryOf`, `tabledSlots`, `mergeCall`, `fillCall`, `pieceCall`, `endCall`, `call` (the
+-- writer's methods), and `packed` (the answers to C). The contract of each public function says that its answer, its state and every lent byte equal
+-- these, whatever it is handed; that it ends and stays inside the memory lent is part of what a proved function is.
 use Prim.Native.Nat.{ℕ}
 use Rattle.transaction.specs.Family.{Family}
 use Rattle.transaction.specs.Avm.{avm}
@@ -21,8 +21,11 @@ use Rattle.draft_theorems.specs.Slots.{SlotsOfReading}
 use Rattle.draft_theorems.specs.Demand.{Demand3}
 use Rattle.draft_theorems.specs.Order.{Orders}
 use Rattle.draft_theorems.specs.Filling.{Filling}
+use Rattle.upload_theorems.specs.Answers.{UploadOwes}
+use Rattle.upload_theorems.specs.Pieces.{CutFreely}
 use Rattle.phone.specs.Packed.{Unpacked}
 use Rattle.operator.specs.Listing.{Unlisted}
+use Rattle.operator.specs.Uploads.{UploadWords}
 use Rattle.claims.specs.Answers.{CheckAnswers, TableAnswers, EntryAnswers, SlotsAnswers}
 use Rattle.claims.specs.Occurring.{NumbersOccur}
 use Rattle.claims.specs.Lengths.{Lengths}
@@ -40,12 +43,15 @@ pub record Demand1 : Type 0 where
   -- "checks 17, 18, 19, 20, 14 in that order"; fill "17, 15, 21, then 20"
   pub merge-and-fill-decide : CallsDecide (reader (avm memoMost))
   pub writer : MethodsOwe memoMost
+  pub upload : UploadOwes memoMost
   -- each number of a list is the answer of some call, so the lists are exact
   pub numbers-occur : NumbersOccur
   pub writer-numbers-occur : WriterNumbersOccur memoMost
   -- the answer to C is one integer, from which the caller gets back the number, and the place or the rows
   pub phone : Unpacked
   pub operator : Unlisted
+  -- an upload's state crosses as two integers, from which each call reads the state that the last one left
+  pub upload-words : UploadWords
 
 pub record Demand2 : Type 0 where
   -- "accepted exactly when they are a signed AVM transaction", "one reading", "gives the same bytes"; for every limit of the memo, 256 in the base
@@ -74,6 +80,8 @@ pub record Claims : Type 1 where
   pub orders : Orders (reader (avm memoMost))
   -- what a call of fill does and leaves
   pub filling : Filling (reader (avm memoMost))
+  -- document 02, T-01: an upload in pieces is answered as the whole, however it was cut; for every limit of the memo, 256 in the base
+  pub uploads : (most : ℕ) → CutFreely most
   -- P1 to P14 and the bad examples, as one table
   pub cases : AllHold table
   -- ---- for every family of transactions, and so for one that is added later

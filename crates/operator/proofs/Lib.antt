@@ -2,3 +2,4 @@
 pub mod Listing
 pub mod Unlisting
 pub mod Uploading
+pub mod UploadWords

@@ -1,19 +1,22 @@
 -- An upload's state as two integers of 64 bits, and the answers of its calls packed into one. Assumes nothing.
-use Prim.Native.Nat.{ℕ, _+_, _*_, _/_, _%_}
+use Prim.Native.Nat.{ℕ, _+_, _*_, _/_, _%_, _≤_}
+use mathlib.Core.Path.{_≡_}
 use mathlib.Core.List.{List, [], _∷_}
 use lib.Dec.{eqb}
 use lib.ListN.{getD}
-use Rattle.wire.specs.Bytes.{pick}
+use Rattle.wire.specs.Bytes.{Bytes, pick}
 use Rattle.wire.specs.declared.Rule.{Rule}
 use Rattle.wire.specs.declared.Rule.the-variants as R
 use Rattle.wire.specs.declared.Refusal.{Refusal}
 use Rattle.wire.specs.Numbers.{refusal, numberOf}
-use Rattle.transaction.specs.Answer.{checkedNumber, checkedPlace}
+use Rattle.transaction.specs.Answer.{memoMost, checkedNumber, checkedPlace}
 use Rattle.transaction.specs.declared.Checked.{Checked}
 use Rattle.upload.specs.declared.Standing.{Standing}
 use Rattle.upload.specs.declared.Standing.the-variants as S
 use Rattle.upload.specs.declared.Upload.{Upload}
-use Rattle.upload.specs.Calls.{upload, standingNumber, standingPlace}
+use Rattle.upload.specs.Calls.{upload, standingNumber, standingPlace, pieceCall, endCall}
+use Rattle.upload.specs.Calls as Calls
+use Rattle.draft.specs.Packing.{TakenApart}
 
 -- ---- the state
 
@@ -68,3 +71,13 @@ sent a n s = record { answer = a; state = n; store = s }
 
 abbrev pub sentPiece : Upload × List ℕ → Sent
 sentPiece (u, s) = sent (pieceWord (u .standing)) (numbersOf u) s
+
+-- ---- nothing is cut: from each answer the caller gets back the number and the place, and each state that a call leaves is read as it was
+pub record UploadWords : Type 0 where
+  pub fresh : uploadOf (0 ∷ 0 ∷ []) ≡ Calls.fresh
+  pub state : (n s p : List ℕ) → Bytes s → Bytes p → let u = pieceCall memoMost (uploadOf n) s p .0 in uploadOf (numbersOf u) ≡ u
+  pub piece : (n s p : List ℕ) → Bytes s → Bytes p → let x = pieceCall memoMost (uploadOf n) s p .0 .standing in
+      TakenApart (pieceWord x) (standingNumber x) (standingPlace x)
+  pub end : (n s : List ℕ) → Bytes s → let x = endCall memoMost (uploadOf n) s in TakenApart (endWord x) (checkedNumber x) (checkedPlace x)
+  -- whatever the two integers, what stands has a number of 1 to 14
+  pub number : (n : List ℕ) → let k = standingNumber (uploadOf n .standing) in (1 ≤ k) × (k ≤ 14)

@@ -5,7 +5,7 @@ ghost use Rattle.entry_table.specs.Table.{tabled};
 ghost use Rattle.draft_slot_table.specs.Table.{tabledSlots};
 ghost use Rattle.operator.specs.Listing.{packed, listing, listed};
 
-pub mod uploads;
+mod uploads;
 
 use entry_table::Tabled;
 

@@ -2,7 +2,7 @@
 use Prim.Native.Nat.{ℕ, _+_, _≤_, _<_}
 use mathlib.Core.Path.{_≡_, refl, sym, ap, ap₂, _∙_}
 use mathlib.Core.Bool.{Bool, true, false}
-use mathlib.Core.List.{List, _++_}
+use mathlib.Core.List.{List}
 use native.Mathlib.Omega.{arith}
 use lib.Dec.{leb}
 use lib.ListN.{length, take, length-append}
@@ -22,7 +22,7 @@ use Rattle.upload.specs.declared.Upload.{Upload}
 use Rattle.upload.specs.Calls.{upload, shown, joined, kept, judged, verdict, grown, pieceCall, endCall}
 
 -- what a piece is answered is what stands
-pub kept-answer : (x : Standing) (n : ℕ) (p s : List ℕ) → kept x n p s .0 ≡ x
+kept-answer : (x : Standing) (n : ℕ) (p s : List ℕ) → kept x n p s .0 ≡ x
 unfolding kept
 kept-answer S.NeedMore n p s = refl
 kept-answer (S.Refused e) n p s = refl

@@ -1,3 +1,4 @@
 -- Laws of an upload
 pub mod Laying
 pub mod Calling
+pub mod Showing

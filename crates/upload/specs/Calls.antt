@@ -20,6 +20,11 @@ upload n x = record { stored = n; standing = x }
 abbrev pub fresh : Upload
 fresh = upload 0 S.NeedMore
 
+-- a refusal that stands decides alone
+abbrev pub onStanding : {R : Type 0} → Standing → R → (Refusal → R) → R
+onStanding S.NeedMore a f = a
+onStanding (S.Refused e) a f = f e
+
 -- the number and the place that a piece is answered: need more is 2 at place 0
 abbrev pub standingNumber : Standing → ℕ
 standingNumber S.NeedMore = 2
@@ -63,11 +68,6 @@ verdict most n p s = pick (leb (n + length p) (length s)) (shown (checked most (
 abbrev pub grown : Standing → ℕ → ℕ → Upload
 grown S.NeedMore n k = upload (n + k) S.NeedMore
 grown (S.Refused e) n k = upload n (S.Refused e)
-
--- a refusal that stands decides alone
-abbrev pub onStanding : {R : Type 0} → Standing → R → (Refusal → R) → R
-onStanding S.NeedMore a f = a
-onStanding (S.Refused e) a f = f e
 
 -- the upload u and the store s after the piece p; where a refusal stands, as before
 unfoldable pub pieceCall : ℕ → Upload → List ℕ → List ℕ → Upload × List ℕ

@@ -1,7 +1,9 @@
 // An upload: a draft that is sent in pieces and kept in a lent store. Each call takes the upload's state and returns the next one.
+//
+// The check reads one slice, so a piece is judged where it is to be stored, and what it covers there is put aside on the stack: a piece takes 66,192
+// bytes of stack, the end 592 (bench/stack.c).
 ghost use mathlib.Core.Path.{_≡_};
 ghost use Prim.Native.Nat.{_+_, _≤_};
-ghost use mathlib.Core.List.{_++_};
 ghost use lib.ListN.{length};
 ghost use Rattle.wire.specs.Numbers.{refusal};
 ghost use Rattle.transaction.specs.Answer.{memoMost};
@@ -71,8 +73,7 @@ fn judge(store: &mut [u8], at: usize, piece: &[u8], aside: &mut [u8], most: u64)
     }
 }
 
-// The bytes put aside for a piece are an array of the function that judges it, one for short pieces and one for all others, so that a short piece
-// clears only its own.
+// What a short piece covers is put aside in a short array, which takes less time to clear.
 fn judge_short(store: &mut [u8], at: usize, piece: &[u8], most: u64) -> Standing
     requires { ⌜ at + length (now piece) ≤ length (now store) ⌝ }
     requires { ⌜ length (now piece) ≤ 1024 ⌝ }
@@ -82,6 +83,7 @@ fn judge_short(store: &mut [u8], at: usize, piece: &[u8], most: u64) -> Standing
     judge(store, at, piece, &mut aside[..piece.len()], most)
 }
 
+// What any other piece covers: the bytes joined are at most 65,536, and so is the piece.
 fn judge_long(store: &mut [u8], at: usize, piece: &[u8], most: u64) -> Standing
     requires { ⌜ at + length (now piece) ≤ length (now store) ⌝ }
     requires { ⌜ length (now piece) ≤ 65536 ⌝ }

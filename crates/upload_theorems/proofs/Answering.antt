@@ -7,7 +7,6 @@ use mathlib.Core.List.{List}
 use native.Mathlib.Omega.{arith}
 use lib.Dec.{leb}
 use lib.ListN.{length, take}
-use borrow.Author.Tests.{leb-true}
 use Rattle.wire.specs.Bytes.{pick}
 use Rattle.wire.specs.declared.Refusal.{Refusal}
 use Rattle.wire.specs.Numbers.{refusal, numberOf, noRoom, number-range}
@@ -27,7 +26,7 @@ use Rattle.upload.specs.Calls.{upload, standingNumber, shown, joined, kept, ver
 use Rattle.upload.proofs.Laying.{shown-refused, length-laid, take-laid, drop-laid}
 use Rattle.upload.proofs.Calling.{verdict-room, verdict-fits, room-there, piece-stands, end-stands, end-beyond, end-checked}
 use Rattle.upload_theorems.specs.Answers.{pieceNumbers, endNumbers, Usual, PieceOwes, PieceDecides, EndDecides, UploadOwes}
-use Rattle.upload_theorems.proofs.Standing.{not-both, shown-0, shown-2, shown-inv, piece-is, answer-is}
+use Rattle.upload.proofs.Showing.{not-both, shown-0, shown-2, shown-inv, piece-is, answer-is}
 
 module _ (most : ℕ) where
   -- the number of a refusal of the check
@@ -125,7 +124,8 @@ module _ (most : ℕ) where
       room false = one-of endNumbers 14 refl
 
       go : (x : Standing) → OneOf (standingNumber x) pieceNumbers
-          → OneOf (checkedNumber (onStanding x (pick (leb (u .stored) (length s)) (checked most (take (u .stored) s)) (C.Refused (refusal noRoom 0))) C.Refused))
+          → OneOf (checkedNumber (onStanding x
+          (pick (leb (u .stored) (length s)) (checked most (take (u .stored) s)) (C.Refused (refusal noRoom 0))) C.Refused))
           endNumbers
       go S.NeedMore h = room (leb (u .stored) (length s))
       go (S.Refused e) h = inr h

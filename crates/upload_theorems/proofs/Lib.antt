@@ -1,5 +1,4 @@
 -- Proofs of the statements about uploads
-pub mod Standing
 pub mod Answering
 pub mod Running
 pub mod Theorems

@@ -1,28 +1,24 @@
 -- Pieces one after the other, from a fresh start. Assumes nothing.
-use Prim.Native.Nat.{ℕ, _+_, _≤_, _<_}
+use Prim.Native.Nat.{ℕ, _≤_}
 use mathlib.Core.Path.{_≡_, refl, sym, ap, ap₂, _∙_, subst, subst⁻¹}
 use mathlib.Core.List.{List, [], _∷_, _++_, append-assoc, append-nil}
 use native.Mathlib.Omega.{arith}
-use lib.ListN.{length, take, drop, length-append, length-drop}
+use lib.ListN.{length, drop, length-append, length-drop}
 use lib.Seq.{take-at, drop-at, drop-drop}
 use Rattle.wire.specs.Bytes.{Bytes}
 use Rattle.wire.specs.Fields.{integer, blobParse, constant}
 use Rattle.wire.specs.declared.Refusal.{Refusal}
-use Rattle.wire.specs.Numbers.{refusal, tooLong}
 use Rattle.transaction.specs.Signed.{mostBytes}
 use Rattle.transaction.specs.Signed as Any
 use Rattle.transaction.specs.Family.{unsigned, head}
 use Rattle.transaction.specs.Answer.{checked}
-use Rattle.transaction.specs.declared.Checked.{Checked}
-use Rattle.transaction.specs.declared.Checked.the-variants as C
 use Rattle.upload.specs.declared.Standing.{Standing}
 use Rattle.upload.specs.declared.Standing.the-variants as S
 use Rattle.upload.specs.declared.Upload.{Upload}
-use Rattle.upload.specs.Calls.{upload, shown, joined, laid, kept, verdict, grown, pieceCall, endCall}
-use Rattle.upload.proofs.Laying.{shown-refused}
-use Rattle.upload.proofs.Calling.{checked-long, verdict-fits, room-there, piece-stands, end-stands, end-checked}
-use Rattle.upload_theorems.specs.Pieces.{whole, run, after, answer, ended, Fits, CutFreely}
-use Rattle.upload_theorems.proofs.Standing.{not-both, shown-inv, checked-stable, piece-is, answer-is}
+use Rattle.upload.specs.Calls.{upload, shown, joined, laid, kept, verdict, grown, pieceCall}
+use Rattle.upload.proofs.Calling.{verdict-fits, room-there, piece-stands}
+use Rattle.upload_theorems.specs.Pieces.{whole, run}
+use Rattle.upload.proofs.Showing.{not-both, shown-inv, checked-stable, piece-is, answer-is}
 
 pub bytes-front : (b t : List ℕ) → Bytes (b ++ t) → Bytes b
 bytes-front [] t h = tt

@@ -1,5 +1,5 @@
--- THE THEOREMS, for every limit of the memo, and so for the base's. Assumes nothing.
-use Prim.Native.Nat.{ℕ, _≤_, _<_}
+-- THE THEOREM: however bytes are cut into pieces, the upload is answered as the whole. For every limit of the memo. Assumes nothing.
+use Prim.Native.Nat.{ℕ, _<_}
 use mathlib.Core.Path.{_≡_, refl, sym, ap, _∙_}
 use mathlib.Core.List.{List, [], _++_}
 use native.Mathlib.Omega.{arith}
@@ -8,18 +8,15 @@ use lib.Seq.{take-at}
 use Rattle.wire.specs.declared.Refusal.{Refusal}
 use Rattle.wire.specs.Numbers.{refusal, tooLong}
 use Rattle.transaction.specs.Signed.{mostBytes}
-use Rattle.transaction.specs.Answer.{memoMost, checked}
-use Rattle.transaction.specs.declared.Checked.{Checked}
+use Rattle.transaction.specs.Answer.{checked}
 use Rattle.transaction.specs.declared.Checked.the-variants as C
 use Rattle.upload.specs.declared.Standing.{Standing}
 use Rattle.upload.specs.declared.Standing.the-variants as S
 use Rattle.upload.specs.declared.Upload.{Upload}
 use Rattle.upload.specs.Calls.{fresh, shown, endCall}
 use Rattle.upload.proofs.Calling.{checked-long, end-stands, end-checked}
-use Rattle.upload_theorems.specs.Answers.{UploadOwes}
-use Rattle.upload_theorems.specs.Pieces.{whole, run, after, answer, ended, Fits, CutFreely}
-use Rattle.upload_theorems.proofs.Standing.{shown-inv}
-use Rattle.upload_theorems.proofs.Answering as Answering
+use Rattle.upload_theorems.specs.Pieces.{whole, after, answer, ended, Fits, CutFreely}
+use Rattle.upload.proofs.Showing.{shown-inv}
 use Rattle.upload_theorems.proofs.Running.{held, run-stood, run-append, run-more, run-answer, empty-more}
 
 module _ (most : ℕ) where
@@ -67,14 +64,3 @@ module _ (most : ℕ) where
         own-refusal = own-refusal;
         too-long = too-long;
       }
-
-  pub upload-owes : UploadOwes most
-  upload-owes = Answering.upload-owes most
-
--- ---- the base
-
-pub base-cut-freely : CutFreely memoMost
-base-cut-freely = cut-freely memoMost
-
-pub base-upload-owes : UploadOwes memoMost
-base-upload-owes = upload-owes memoMost

@@ -1,7 +1,7 @@
 -- Demand 1 of document 00, for an upload: whatever the state, the store and the piece, the answer has a number of the table, a refusal changes no
 -- byte of the store and of the state only what stands, and each answer has its condition. Assumes nothing.
 use mathlib.Core.Path.{_≡_}
-use mathlib.Core.List.{List, [], _∷_, _++_}
+use mathlib.Core.List.{List, [], _∷_}
 use Prim.Native.Nat.{ℕ, _+_, _≤_, _<_}
 use lib.ListN.{length, take, drop}
 use Rattle.wire.specs.declared.Refusal.{Refusal}
@@ -9,7 +9,6 @@ use Rattle.wire.specs.Numbers.{refusal, numberOf, noRoom}
 use Rattle.wire.specs.Orders.{OneOf}
 use Rattle.transaction.specs.Answer.{checked, checkedNumber}
 use Rattle.transaction.specs.declared.Checked.the-variants as C
-use Rattle.upload.specs.declared.Standing.{Standing}
 use Rattle.upload.specs.declared.Standing.the-variants as S
 use Rattle.upload.specs.declared.Upload.{Upload}
 use Rattle.upload.specs.Calls.{upload, standingNumber, shown, joined, pieceCall, endCall}

@@ -1,5 +1,4 @@
 -- `operator::uploads::later_rule` meets its contract. Assumes nothing.
-use borrow.Author.Needs.{needs}
 use Rattle.wire.proofs.Reading.{tests}
 use Rattle.operator.specs.Uploads.{laterRule}
 use Rattle.operator.proofs.uploads.later_rule.Statement.{statement}

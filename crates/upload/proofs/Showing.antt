@@ -1,5 +1,5 @@
 -- What a piece is answered, and the check's answer behind it. Assumes nothing.
-use Prim.Native.Nat.{ℕ, _+_, _≤_}
+use Prim.Native.Nat.{ℕ, _≤_}
 use mathlib.Core.Path.{_≡_, refl, sym, ap, _∙_}
 use mathlib.Core.Bool.{Bool, true, false}
 use mathlib.Core.List.{List, _++_}
@@ -10,20 +10,20 @@ use borrow.Author.Tests.{eqb-false, eq-eqb}
 use Rattle.wire.specs.Bytes.{Bytes, pick}
 use Rattle.wire.specs.declared.Refusal.{Refusal}
 use Rattle.wire.specs.Numbers.{ruleNumber, numberOf, number-range}
-use Rattle.wire.specs.Format.{Result, onResult, refused, took}
+use Rattle.wire.specs.Format.{Result, onResult}
 use Rattle.wire.specs.Whole.{whole-stable}
 use Rattle.transaction.specs.Signed.{mostBytes}
 use Rattle.transaction.specs.Signed as Any
-use Rattle.transaction.specs.Family.{Signed, signed, check}
+use Rattle.transaction.specs.Family.{Signed, signed}
 use Rattle.transaction.specs.Avm.{avm}
 use Rattle.transaction.specs.Answer.{layout, checked, checkedNumber}
 use Rattle.transaction.specs.declared.Checked.{Checked}
 use Rattle.transaction.specs.declared.Checked.the-variants as C
 use Rattle.transaction.proofs.Verdicts.{refused-check}
 use Rattle.upload.specs.declared.Standing.{Standing}
 use Rattle.upload.specs.declared.Standing.the-variants as S
 use Rattle.upload.specs.declared.Upload.{Upload}
 use Rattle.upload.specs.Calls.{shown, kept, verdict, grown, pieceCall}
 
 -- nothing and a refusal do not stand at once
 pub not-both : {A : Type 0} (x : Standing) (e : Refusal) → x ≡ S.NeedMore → x ≡ S.Refused e → A
