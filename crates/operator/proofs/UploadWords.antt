@@ -8,11 +8,13 @@ use lib.Arith.{digits-div, digits-mod}
 use lib.Dec.{leb, eqb}
 use lib.ListN.{length, take, getD}
 use borrow.Author.Tests.{ne-eqb}
-use Rattle.wire.specs.Bytes.{Bytes, pick, bytes-take, bytes-append}
+use Rattle.wire.specs.Bytes.{Bytes, pick}
+use Rattle.wire.specs.laws.Bytes.{bytes-take, bytes-append}
 use Rattle.wire.specs.declared.Rule.{Rule}
 use Rattle.wire.specs.declared.Rule.the-variants as R
 use Rattle.wire.specs.declared.Refusal.{Refusal}
-use Rattle.wire.specs.Numbers.{refusal, ruleNumber, numberOf, noRoom, number-range}
+use Rattle.wire.specs.Numbers.{refusal, ruleNumber, numberOf, noRoom}
+use Rattle.wire.proofs.Numbers.{number-range}
 use Rattle.transaction.specs.Avm.{avm}
 use Rattle.transaction.specs.Answer.{memoMost, checked, checkedNumber, checkedPlace}
 use Rattle.transaction.specs.declared.Checked.{Checked}

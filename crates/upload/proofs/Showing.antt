@@ -9,9 +9,10 @@ use lib.ListN.{length}
 use borrow.Author.Tests.{eqb-false, eq-eqb}
 use Rattle.wire.specs.Bytes.{Bytes, pick}
 use Rattle.wire.specs.declared.Refusal.{Refusal}
-use Rattle.wire.specs.Numbers.{ruleNumber, numberOf, number-range}
+use Rattle.wire.specs.Numbers.{ruleNumber, numberOf}
+use Rattle.wire.proofs.Numbers.{number-range}
 use Rattle.wire.specs.Format.{Result, onResult}
-use Rattle.wire.specs.Whole.{whole-stable}
+use Rattle.wire.proofs.Whole.{whole-stable}
 use Rattle.transaction.specs.Signed.{mostBytes}
 use Rattle.transaction.specs.Signed as Any
 use Rattle.transaction.specs.Family.{Signed, signed}

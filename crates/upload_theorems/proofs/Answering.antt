@@ -9,7 +9,8 @@ use lib.Dec.{leb}
 use lib.ListN.{length, take}
 use Rattle.wire.specs.Bytes.{pick}
 use Rattle.wire.specs.declared.Refusal.{Refusal}
-use Rattle.wire.specs.Numbers.{refusal, numberOf, noRoom, number-range}
+use Rattle.wire.specs.Numbers.{refusal, numberOf, noRoom}
+use Rattle.wire.proofs.Numbers.{number-range}
 use Rattle.wire.specs.Orders.{OneOf}
 use Rattle.wire.proofs.Refusing.{one-of, contained}
 use Rattle.transaction.specs.Avm.{avm}

@@ -6,7 +6,8 @@ use native.Mathlib.Omega.{arith}
 use lib.ListN.{length, drop, length-append, length-drop}
 use lib.Seq.{take-at, drop-at, drop-drop}
 use Rattle.wire.specs.Bytes.{Bytes}
-use Rattle.wire.specs.Fields.{integer, blobParse, constant}
+use Rattle.wire.specs.Fields.{integer, constant}
+use Rattle.wire.specs.Parsers.{blobParse}
 use Rattle.wire.specs.declared.Refusal.{Refusal}
 use Rattle.transaction.specs.Signed.{mostBytes}
 use Rattle.transaction.specs.Signed as Any
