@@ -1,7 +1,7 @@
 -- The public steps, from the answers of the functions that they call. Assumes nothing.
 use Prim.Native.Nat.{ℕ, suc, _+_, _*_, _/_, _%_, _^_, _≤_, _<_}
-use mathlib.Core.Path.{_≡_, refl, sym, ap, ap₂, _∙_, subst}
-use mathlib.Core.Bool.{Bool, true, false, not, false≢true}
+use mathlib.Core.Path.{_≡_, refl, sym, ap, ap₂, _∙_}
+use mathlib.Core.Bool.{Bool, true, false, not, _&&_, false≢true}
 use mathlib.Core.List.{List, [], _++_, append-assoc, append-nil}
 use native.Mathlib.Omega.{arith}
 use native.Mathlib.Nat.{mod-eq-of-lt, add-zero, zero-add, div-le-self}
@@ -20,7 +20,7 @@ use Rattle.wire.specs.declared.End.the-variants as P
 use Rattle.element.specs.Outputs.{transferableOutput}
 use Rattle.element.specs.Inputs.{input}
 use Rattle.element.specs.Operations.{operation, initialState}
-use Rattle.transaction.specs.Plan.{Content, contentOf, elementsOf, Plan, shut, end, field, many, planOf}
+use Rattle.transaction.specs.Plan.{contentOf, Plan, shut, end, field, many, planOf}
 use Rattle.transaction.specs.Avm.{avm}
 use Rattle.transaction.specs.Family.{head}
 use Rattle.transaction.specs.declared.FieldName.{FieldName}
@@ -29,7 +29,7 @@ use Rattle.transaction.specs.declared.ListName.{ListName}
 use Rattle.transaction.specs.declared.ListName.the-variants as L
 use Rattle.writer_rules.specs.declared.Verdict.{Verdict}
 use Rattle.writer_rules.specs.declared.Verdict.the-variants as J
-use Rattle.writer_rules.specs.Given.{headBytes, Given, given, outputGiven, inputGiven}
+use Rattle.writer_rules.specs.Given.{headBytes, given, outputGiven, inputGiven}
 use Rattle.writer_rules.specs.Judged.{refusedBy, judged}
 use Rattle.writer_rules.specs.code.Judged.{onAllowed}
 use Rattle.writer_rules.specs.code.Elements.{outputFront, outputHead, inputHead, integersBytes}
@@ -41,20 +41,19 @@ use Rattle.writer_rules.proofs.FieldLaws.{string-write, text-write, string-judg
 use Rattle.writer_rules.proofs.FieldLaws.{denomination-write, denomination-judged, id-judged, head-judged, front-is}
 use Rattle.plan.specs.declared.Due.{Due}
 use Rattle.plan.specs.declared.Due.the-variants as D
-use Rattle.plan.specs.Due.{tail, due, dueOf, isList, isFinish}
+use Rattle.plan.specs.Due.{tail, due, dueOf, isList, isField, isOpen, isFinish}
 use Rattle.plan.specs.code.Rows.{lastPhase}
 use Rattle.plan.proofs.RowLaws.{phase-small}
 use Rattle.writer_buffer.specs.Closing.{closing, closable}
 use Rattle.writer.specs.declared.Writer.{Writer}
 use Rattle.writer.specs.declared.Step.{Step}
-use Rattle.writer.specs.Steps.{Turn, answered, guarded, prev, opened, putElement, closeAt, start, close, finish, finishAt, after}
-use Rattle.writer.specs.Fields.{addOutput, addInput, addOperation, addInitialState, putContent, putMemo, putName, putSymbol, putDenomination, putChain}
-use Rattle.writer.specs.code.Answer.{PutsField, SameBytes, PutsElement, refusedStep, notDueStep, noRoomStep, storedStep, dueAt, settled, segmentStep}
-use Rattle.writer.specs.code.Answer.{opensNext}
-use Rattle.writer.proofs.Laws.{guarded-fine, guarded-not, guarded-short, not-true, not-false}
+use Rattle.writer.specs.Steps.{Turn, answered, guarded, prev, sane, opened, closeAt, start, close, finish, finishAt, after}
+use Rattle.writer.specs.Fields.{addOutput, addInput, addOperation, addInitialState, putMemo, putName, putSymbol, putDenomination, putChain}
+use Rattle.writer.specs.code.Answer.{refusedStep, notDueStep, noRoomStep, storedStep, dueAt, settled, segmentStep, opensNext, elementStep}
+use Rattle.writer.proofs.Laws.{guarded-fine, guarded-not, guarded-short}
 use Rattle.writer.proofs.Entering.{kept-out}
 use Rattle.writer.proofs.Fitting.{opening-is}
-use Rattle.writer.proofs.Naming.{next-opens}
+use Rattle.writer.proofs.Naming.{next-opens, field-refused, field-is, element-refused, element-is}
 use Rattle.writer_buffer.specs.Stores.{roomFor, overwrite}
 use Rattle.writer_buffer.specs.code.Stores.{countOf, stored}
 use Rattle.writer.proofs.Settling.{store-refused, store-done}
@@ -71,50 +70,76 @@ text-short long b e =
 
 -- ---- fields
 
-module _ (most : ℕ) (w : Writer) (s : List ℕ) (t : Turn) where
-  -- the content v has the bytes zs, the rules give them the verdict x, and the code has written ys
-  content-put : (f : FieldName) (v : Content f) (x y : Verdict) (ys zs : List ℕ) → contentOf most f .write v ≡ zs
-      → judged (contentOf most f) (given zs) J.Allowed ≡ y → x ≡ y → (x ≡ J.Allowed → ys ≡ zs) → PutsField w s f x ys t → t ≡ putContent most w s f v
-  unfolding PutsField
-  content-put f v x y ys zs hw hj hx hy h =
-      h most (given (contentOf most f .write v)) (hx ∙ sym hj ∙ ap (λ (z : List ℕ). judged (contentOf most f) (given z) J.Allowed) (sym hw))
-      (λ e. hy e ∙ sym hw)
+-- the field is due, the bytes written are inside the buffer, and x is the verdict of the rules
+module _ (most : ℕ) (w : Writer) (s : List ℕ) (t : Bool) (n : not t ≡ false) (long : w .at ≤ length s) (x : Verdict) where
+  abbrev IsDue : FieldName → Type 0
+  IsDue f = t ≡ isField f (dueAt w)
 
-  module _ (x : Verdict) (b c : List ℕ) where
-    -- c is the length of b in k bytes, which hold it if the verdict is `Allowed`
-    counted : (k long : ℕ) → long < 256 ^ k → c ≡ digits k (length b % 256 ^ k) → (x ≡ J.Allowed → length b ≤ long) → x ≡ J.Allowed
-        → c ++ b ≡ digits k (length b) ++ b
-    counted k long f hc short e = ap (λ (z : List ℕ). z ++ b) (hc ∙ fits-digits k (length b) long (short e) f)
+  -- the step writes the bytes zs
+  abbrev Puts : Step → List ℕ → List ℕ → Type 0
+  Puts r u zs = after r u ≡ segmentStep w s zs (opensNext w)
 
-    pub memo-put : x ≡ memoRules most (length b) → most < 256 ^ 4 → c ≡ digits 4 (length b % 256 ^ 4) → PutsField w s F.Memo x (c ++ b) t
-        → t ≡ putMemo most w s b
-    memo-put hx k hc =
-        content-put F.Memo b x (memoRules most (length b)) (c ++ b) (digits 4 (length b) ++ b) (string-write 4 most b) (string-judged most b) hx
-        (counted 4 most k hc (λ e. leb-true (length b) most (pick-fine (leb (length b) most) J.Allowed (ruleOf badLength) (sym hx ∙ e) .0)))
+  module _ (b : List ℕ) where
+    module _ (p : IsDue F.Memo) (hx : x ≡ memoRules most (length b)) where
+      memo-judged : x ≡ judged (contentOf most F.Memo) (given (contentOf most F.Memo .write b)) J.Allowed
+      memo-judged = hx ∙ sym (string-judged most b) ∙ ap (λ (z : List ℕ). judged (contentOf most F.Memo) (given z) J.Allowed) (sym (string-write 4 most b))
 
-    -- a text has at most `long` characters
-    text-counted : (long : ℕ) → long < 256 ^ 2 → x ≡ textRules long b → c ≡ digits 2 (length b % 256 ^ 2) → x ≡ J.Allowed → c ++ b ≡ digits 2 (length b) ++ b
-    text-counted long k hx hc = counted 2 long k hc (λ e. text-short long b (sym hx ∙ e))
+      pub memo-refused : (d : Refusal) → x ≡ J.Refuse d → (r : Step) → r ≡ refusedStep w d → after r s ≡ putMemo most w s b
+      memo-refused d e r h = field-refused w s F.Memo t p n most _ long x memo-judged d e r h
 
-    pub name-put : x ≡ textRules 128 b → c ≡ digits 2 (length b % 256 ^ 2) → PutsField w s F.Name x (c ++ b) t → t ≡ putName most w s b
-    name-put hx hc =
-        content-put F.Name b x (textRules 128 b) (c ++ b) (digits 2 (length b) ++ b) (text-write 128 b) (text-judged 128 b) hx
-        (text-counted 128 (omega arith) hx hc)
+      pub memo-is : most < 256 ^ 4 → x ≡ J.Allowed → (c : List ℕ) → c ≡ digits 4 (length b % 256 ^ 4) → (r : Step) (u : List ℕ) → Puts r u (c ++ b)
+          → after r u ≡ putMemo most w s b
+      memo-is k e c hc r u h =
+          let short : length b ≤ most = leb-true (length b) most (pick-fine (leb (length b) most) J.Allowed (ruleOf badLength) (sym hx ∙ e) .0) in
+          field-is w s F.Memo t p n most _ long x memo-judged e (c ++ b)
+          (ap (λ (z : List ℕ). z ++ b) (hc ∙ fits-digits 4 (length b) most short k) ∙ sym (string-write 4 most b)) r u h
 
-    pub symbol-put : x ≡ textRules 4 b → c ≡ digits 2 (length b % 256 ^ 2) → PutsField w s F.Symbol x (c ++ b) t → t ≡ putSymbol most w s b
-    symbol-put hx hc =
-        content-put F.Symbol b x (textRules 4 b) (c ++ b) (digits 2 (length b) ++ b) (text-write 4 b) (text-judged 4 b) hx
-        (text-counted 4 (omega arith) hx hc)
+    text-made : (m : ℕ) → m < 256 ^ 2 → x ≡ textRules m b → x ≡ J.Allowed → (c : List ℕ) → c ≡ digits 2 (length b % 256 ^ 2)
+        → c ++ b ≡ digits 2 (length b) ++ b
+    text-made m k hx e c hc = ap (λ (z : List ℕ). z ++ b) (hc ∙ fits-digits 2 (length b) m (text-short m b (sym hx ∙ e)) k)
 
-  pub denomination-put : (x : Verdict) (v : ℕ) → x ≡ denominationRules v → v < 256 → (c : List ℕ) → c ≡ digits 1 (v % 256 ^ 1)
-      → PutsField w s F.Denomination x (c ++ []) t → t ≡ putDenomination most w s v
-  denomination-put x v hx f c hc =
-      content-put F.Denomination v x (denominationRules v) (c ++ []) _ (denomination-write v) (denomination-judged v) hx
-      (λ e. ap (λ (z : List ℕ). z ++ []) (hc ∙ ap (digits 1) (mod-eq-of-lt f)))
+    module _ (p : IsDue F.Name) (hx : x ≡ textRules 128 b) where
+      name-judged : x ≡ judged (contentOf most F.Name) (given (contentOf most F.Name .write b)) J.Allowed
+      name-judged = hx ∙ sym (text-judged 128 b) ∙ ap (λ (z : List ℕ). judged (contentOf most F.Name) (given z) J.Allowed) (sym (text-write 128 b))
 
-  pub chain-put : (id : List ℕ) → length id ≡ 32 → PutsField w s F.Chain J.Allowed id t → t ≡ putChain most w s id
-  unfolding blob
-  chain-put id l = content-put F.Chain id J.Allowed J.Allowed id id refl (id-judged id l) refl (λ e. refl)
+      pub name-refused : (d : Refusal) → x ≡ J.Refuse d → (r : Step) → r ≡ refusedStep w d → after r s ≡ putName most w s b
+      name-refused d e r h = field-refused w s F.Name t p n most _ long x name-judged d e r h
+
+      pub name-is : x ≡ J.Allowed → (c : List ℕ) → c ≡ digits 2 (length b % 256 ^ 2) → (r : Step) (u : List ℕ) → Puts r u (c ++ b)
+          → after r u ≡ putName most w s b
+      name-is e c hc r u h =
+          field-is w s F.Name t p n most _ long x name-judged e (c ++ b) (text-made 128 (omega arith) hx e c hc ∙ sym (text-write 128 b)) r u h
+
+    module _ (p : IsDue F.Symbol) (hx : x ≡ textRules 4 b) where
+      symbol-judged : x ≡ judged (contentOf most F.Symbol) (given (contentOf most F.Symbol .write b)) J.Allowed
+      symbol-judged = hx ∙ sym (text-judged 4 b) ∙ ap (λ (z : List ℕ). judged (contentOf most F.Symbol) (given z) J.Allowed) (sym (text-write 4 b))
+
+      pub symbol-refused : (d : Refusal) → x ≡ J.Refuse d → (r : Step) → r ≡ refusedStep w d → after r s ≡ putSymbol most w s b
+      symbol-refused d e r h = field-refused w s F.Symbol t p n most _ long x symbol-judged d e r h
+
+      pub symbol-is : x ≡ J.Allowed → (c : List ℕ) → c ≡ digits 2 (length b % 256 ^ 2) → (r : Step) (u : List ℕ) → Puts r u (c ++ b)
+          → after r u ≡ putSymbol most w s b
+      symbol-is e c hc r u h =
+          field-is w s F.Symbol t p n most _ long x symbol-judged e (c ++ b) (text-made 4 (omega arith) hx e c hc ∙ sym (text-write 4 b)) r u h
+
+  module _ (p : IsDue F.Denomination) (v : ℕ) (hx : x ≡ denominationRules v) where
+    denomination-is-judged : x ≡ judged (contentOf most F.Denomination) (given (contentOf most F.Denomination .write v)) J.Allowed
+    denomination-is-judged =
+        hx ∙ sym (denomination-judged v) ∙ ap (λ (z : List ℕ). judged (contentOf most F.Denomination) (given z) J.Allowed) (sym (denomination-write v))
+
+    pub denomination-refused : (d : Refusal) → x ≡ J.Refuse d → (r : Step) → r ≡ refusedStep w d → after r s ≡ putDenomination most w s v
+    denomination-refused d e r h = field-refused w s F.Denomination t p n most _ long x denomination-is-judged d e r h
+
+    pub denomination-is : x ≡ J.Allowed → v < 256 → (c : List ℕ) → c ≡ digits 1 (v % 256 ^ 1) → (r : Step) (u : List ℕ) → Puts r u (c ++ [])
+        → after r u ≡ putDenomination most w s v
+    denomination-is e f c hc r u h =
+        field-is w s F.Denomination t p n most _ long x denomination-is-judged e (c ++ [])
+        (ap (λ (z : List ℕ). z ++ []) (hc ∙ ap (digits 1) (mod-eq-of-lt f)) ∙ sym (denomination-write v)) r u h
+
+pub chain-is : (most : ℕ) (w : Writer) (s : List ℕ) (t : Bool) → not t ≡ false → w .at ≤ length s → t ≡ isField F.Chain (dueAt w)
+    → (c : List ℕ) → length c ≡ 32 → (r : Step) (u : List ℕ) → after r u ≡ segmentStep w s c (opensNext w) → after r u ≡ putChain most w s c
+unfolding blob
+chain-is most w s t n long p c e r u h = field-is w s F.Chain t p n most (given c) long J.Allowed (sym (id-judged c e)) refl c refl r u h
 
 -- ---- closing a list
 
@@ -235,18 +260,6 @@ module _ (most : ℕ) (w : Writer) (s : List ℕ) («type_id» network : ℕ) (c
           ∙ ap (λ (x : Verdict). answered x w s (opened «type_id» 1 (length frontBytes) (planOf «type_id»)) (overwrite s 0 (frontBytes ++ digits 4 0)))
           (sym (start-judged J.Allowed i (roomFor (length (frontBytes ++ digits 4 0)) s)))
 
--- ---- elements
-
--- g is judged after the element before, `last`
-element-given : (most : ℕ) (w : Writer) (s : List ℕ) (t : Turn) (l : ListName) (g : Given) (last : List ℕ) → last ≡ prev w s
-    → (x : Verdict) → x ≡ judged (elementsOf l .element last) g J.Allowed → (ys : List ℕ) → (x ≡ J.Allowed → SameBytes ys (g .bytes))
-    → PutsElement w s l x ys t → t ≡ putElement (avm most) w s l g
-unfolding PutsElement
-element-given most w s t l g last hl x hx ys hy h = h most g (hx ∙ ap (λ (z : List ℕ). judged (elementsOf l .element z) g J.Allowed) hl) hy
-
-none-more : (ys zs : List ℕ) → SameBytes ys zs → SameBytes (ys ++ []) zs
-none-more ys zs = subst (λ (y : List ℕ). SameBytes y zs) (sym (append-nil ys))
-
 -- ---- elements given as fields
 
 -- a head has a fixed width
@@ -273,7 +286,7 @@ head-long asset amount locktime threshold m n =
       length-digits 4 n,
     )
 
-module _ (asset : List ℕ) (amount locktime threshold : ℕ) (addresses : List ℕ) where
+module _ (most : ℕ) (w : Writer) (s : List ℕ) (asset : List ℕ) (amount locktime threshold : ℕ) (addresses : List ℕ) where
   abbrev outputRules : List ℕ → Verdict
   outputRules last = judged (notBelow transferableOutput last) (outputGiven asset amount locktime threshold addresses) J.Allowed
 
@@ -284,26 +297,32 @@ module _ (asset : List ℕ) (amount locktime threshold : ℕ) (addresses : List 
       (pick-fine (eqb (length addresses % 20) 0) _ (ruleOf cutShort)
       (sym (judged-read (notBelow transferableOutput last) (outputGiven asset amount locktime threshold addresses) J.Allowed) ∙ e) .0)
 
-  same-output : length addresses % 20 ≡ 0 → (head : List ℕ) → head ≡ outputHead asset amount locktime threshold (length addresses / 20 % 256 ^ 4)
-      → SameBytes (head ++ addresses) (outputGiven asset amount locktime threshold addresses .bytes)
-  same-output whole head hh = (
-    omega (
-      arith,
-      length-append head addresses,
-      ap length hh,
-      head-long asset amount locktime threshold (length addresses / 20 % 256 ^ 4) (length addresses / 20),
-      ap length (built-written asset amount locktime threshold addresses whole),
-      length-append (outputHead asset amount locktime threshold (length addresses / 20)) addresses,
-    ),
-    λ k. output-bytes asset amount locktime threshold addresses head hh whole (omega (arith, length-append head addresses, div-le-self (length addresses) 20)),
-  )
+  module _ (t : Bool) (ht : t ≡ (isOpen L.Output (dueAt w) && sane w)) (n : not t ≡ false) (long : w .at ≤ length s)
+      (last : List ℕ) (hl : last ≡ prev w s) (x : Verdict) (hx : x ≡ outputRules last) where
+    output-judged : x ≡ outputRules (prev w s)
+    output-judged = hx ∙ ap outputRules hl
 
-  pub output-put : (most : ℕ) (w : Writer) (s : List ℕ) (t : Turn) (last : List ℕ) → last ≡ prev w s → (x : Verdict) → x ≡ outputRules last
-      → (head : List ℕ) → head ≡ outputHead asset amount locktime threshold (length addresses / 20 % 256 ^ 4)
-      → PutsElement w s L.Output x ((head ++ addresses) ++ []) t → t ≡ addOutput most w s asset amount locktime threshold addresses
-  output-put most w s t last hl x hx head hh =
-      element-given most w s t L.Output (outputGiven asset amount locktime threshold addresses) last hl x hx ((head ++ addresses) ++ [])
-      (λ e. none-more (head ++ addresses) _ (same-output (whole-addresses last (sym hx ∙ e)) head hh))
+    pub output-refused : (d : Refusal) → x ≡ J.Refuse d → (r : Step) → r ≡ refusedStep w d
+        → after r s ≡ addOutput most w s asset amount locktime threshold addresses
+    output-refused d e r h = element-refused w s L.Output t ht n most _ long x output-judged d e r h
+
+    pub output-is : x ≡ J.Allowed → (head : List ℕ) → head ≡ outputHead asset amount locktime threshold (length addresses / 20 % 256 ^ 4)
+        → (r : Step) (u : List ℕ) → after r u ≡ elementStep w s ((head ++ addresses) ++ [])
+        → after r u ≡ addOutput most w s asset amount locktime threshold addresses
+    output-is e head hh r u h =
+        let whole : length addresses % 20 ≡ 0 = whole-addresses (prev w s) (sym output-judged ∙ e) in
+        element-is w s L.Output t ht n most (outputGiven asset amount locktime threshold addresses) long x output-judged e (head ++ addresses)
+        (omega (
+          arith,
+          length-append head addresses,
+          ap length hh,
+          head-long asset amount locktime threshold (length addresses / 20 % 256 ^ 4) (length addresses / 20),
+          ap length (built-written asset amount locktime threshold addresses whole),
+          length-append (outputHead asset amount locktime threshold (length addresses / 20)) addresses,
+        ))
+        (λ k. output-bytes asset amount locktime threshold addresses head hh whole
+        (omega (arith, length-append head addresses, div-le-self (length addresses) 20)))
+        r u (h ∙ ap (elementStep w s) (append-nil (head ++ addresses)))
 
 input-head-long : (txid : List ℕ) (index : ℕ) (asset : List ℕ) (amount m n : ℕ)
     → length (inputHead txid index asset amount m) ≡ length (inputHead txid index asset amount n)
@@ -312,49 +331,65 @@ input-head-long txid index asset amount m n =
     let front : List ℕ = txid ++ digits 4 index ++ asset ++ digits 4 5 ++ digits 8 amount in
     omega (arith, length-append front (digits 4 m), length-append front (digits 4 n), length-digits 4 m, length-digits 4 n)
 
-module _ (txid : List ℕ) (index : ℕ) (asset : List ℕ) (amount : ℕ) (indices : List ℕ) where
-  same-input : (head : List ℕ) → head ≡ inputHead txid index asset amount (length indices % 256 ^ 4)
-      → SameBytes (head ++ integersBytes indices) (inputGiven txid index asset amount indices .bytes)
-  same-input head hh = (
-    omega (
-      arith,
-      length-append head (integersBytes indices),
-      ap length hh,
-      input-head-long txid index asset amount (length indices % 256 ^ 4) (length indices),
-      ap length (written-input txid index asset amount indices),
-      length-append (inputHead txid index asset amount (length indices)) (integersBytes indices),
-    ),
-    λ k. sym (input-bytes txid index asset amount indices head hh (omega (arith, length-append head (integersBytes indices), length-integers indices))),
-  )
+module _ (most : ℕ) (w : Writer) (s : List ℕ) (txid : List ℕ) (index : ℕ) (asset : List ℕ) (amount : ℕ) (indices : List ℕ) where
+  abbrev inputRules : List ℕ → Verdict
+  inputRules last = judged (input last) (inputGiven txid index asset amount indices) J.Allowed
 
-  pub input-put : (most : ℕ) (w : Writer) (s : List ℕ) (t : Turn) (last : List ℕ) → last ≡ prev w s
-      → (x : Verdict) → x ≡ judged (input last) (inputGiven txid index asset amount indices) J.Allowed
-      → (head : List ℕ) → head ≡ inputHead txid index asset amount (length indices % 256 ^ 4)
-      → PutsElement w s L.Input x ((head ++ []) ++ integersBytes indices) t → t ≡ addInput most w s txid index asset amount indices
-  input-put most w s t last hl x hx head hh =
-      element-given most w s t L.Input (inputGiven txid index asset amount indices) last hl x hx ((head ++ []) ++ integersBytes indices)
-      (λ e. subst (λ (z : List ℕ). SameBytes (z ++ integersBytes indices) (inputGiven txid index asset amount indices .bytes)) (sym (append-nil head))
-      (same-input head hh))
+  module _ (t : Bool) (ht : t ≡ (isOpen L.Input (dueAt w) && sane w)) (n : not t ≡ false) (long : w .at ≤ length s)
+      (last : List ℕ) (hl : last ≡ prev w s) (x : Verdict) (hx : x ≡ inputRules last) where
+    input-judged : x ≡ inputRules (prev w s)
+    input-judged = hx ∙ ap inputRules hl
+
+    pub input-refused : (d : Refusal) → x ≡ J.Refuse d → (r : Step) → r ≡ refusedStep w d → after r s ≡ addInput most w s txid index asset amount indices
+    input-refused d e r h = element-refused w s L.Input t ht n most _ long x input-judged d e r h
+
+    pub input-is : x ≡ J.Allowed → (head : List ℕ) → head ≡ inputHead txid index asset amount (length indices % 256 ^ 4)
+        → (r : Step) (u : List ℕ) → after r u ≡ elementStep w s ((head ++ []) ++ integersBytes indices)
+        → after r u ≡ addInput most w s txid index asset amount indices
+    input-is e head hh r u h =
+        element-is w s L.Input t ht n most (inputGiven txid index asset amount indices) long x input-judged e (head ++ integersBytes indices)
+        (omega (
+          arith,
+          length-append head (integersBytes indices),
+          ap length hh,
+          input-head-long txid index asset amount (length indices % 256 ^ 4) (length indices),
+          ap length (written-input txid index asset amount indices),
+          length-append (inputHead txid index asset amount (length indices)) (integersBytes indices),
+        ))
+        (λ k. sym (input-bytes txid index asset amount indices head hh (omega (arith, length-append head (integersBytes indices), length-integers indices))))
+        r u (h ∙ ap (λ (z : List ℕ). elementStep w s (z ++ integersBytes indices)) (append-nil head))
 
 -- ---- elements given as bytes
 
-module _ (most : ℕ) (w : Writer) (s : List ℕ) (t : Turn) (b : List ℕ) (x : Verdict) where
-  same-given : x ≡ J.Allowed → SameBytes (b ++ []) b
-  same-given e = none-more b b (refl, λ k. refl)
+module _ (most : ℕ) (w : Writer) (s b : List ℕ) (t : Bool) (n : not t ≡ false) (long : w .at ≤ length s) (x : Verdict) where
+  abbrev IsNext : ListName → Type 0
+  IsNext l = t ≡ (isOpen l (dueAt w) && sane w)
 
-  pub operation-put : x ≡ judged operation (given b) J.Allowed → PutsElement w s L.Operation x (b ++ []) t → t ≡ addOperation most w s b
-  operation-put hx = element-given most w s t L.Operation (given b) (prev w s) refl x hx (b ++ []) same-given
+  module _ (p : IsNext L.Operation) (hx : x ≡ judged operation (given b) J.Allowed) where
+    pub operation-refused : (d : Refusal) → x ≡ J.Refuse d → (r : Step) → r ≡ refusedStep w d → after r s ≡ addOperation most w s b
+    operation-refused d e r h = element-refused w s L.Operation t p n most (given b) long x hx d e r h
 
-  pub state-put : (last : List ℕ) → last ≡ prev w s → x ≡ judged (initialState last) (given b) J.Allowed → PutsElement w s L.State x (b ++ []) t
-      → t ≡ addInitialState most w s b
-  state-put last hl hx = element-given most w s t L.State (given b) last hl x hx (b ++ []) same-given
+    pub operation-is : x ≡ J.Allowed → (r : Step) (u : List ℕ) → after r u ≡ elementStep w s (b ++ []) → after r u ≡ addOperation most w s b
+    operation-is e r u h =
+        element-is w s L.Operation t p n most (given b) long x hx e b refl (λ k. refl) r u (h ∙ ap (elementStep w s) (append-nil b))
+
+  module _ (p : IsNext L.State) (last : List ℕ) (hl : last ≡ prev w s) (hx : x ≡ judged (initialState last) (given b) J.Allowed) where
+    state-judged : x ≡ judged (initialState (prev w s)) (given b) J.Allowed
+    state-judged = hx ∙ ap (λ (z : List ℕ). judged (initialState z) (given b) J.Allowed) hl
+
+    pub state-refused : (d : Refusal) → x ≡ J.Refuse d → (r : Step) → r ≡ refusedStep w d → after r s ≡ addInitialState most w s b
+    state-refused d e r h = element-refused w s L.State t p n most (given b) long x state-judged d e r h
+
+    pub state-is : x ≡ J.Allowed → (r : Step) (u : List ℕ) → after r u ≡ elementStep w s (b ++ []) → after r u ≡ addInitialState most w s b
+    state-is e r u h =
+        element-is w s L.State t p n most (given b) long x state-judged e b refl (λ k. refl) r u (h ∙ ap (elementStep w s) (append-nil b))
 
 -- ---- the finish
 
 module _ (w : Writer) (s : List ℕ) (t : Bool) (ht : t ≡ isFinish (dueAt w)) where
-  pub finish-not : (most : ℕ) → not t ≡ true → (r : Step) → r ≡ notDueStep w → after r s ≡ finish (avm most) w s
+  pub finish-not : (most : ℕ) → t ≡ false → (r : Step) → r ≡ notDueStep w → after r s ≡ finish (avm most) w s
   unfolding finish finishAt answered
-  finish-not most n r h = go (due (w .phase) (planOf (w .«type_id»))) (sym ht ∙ not-true t n)
+  finish-not most e r h = go (due (w .phase) (planOf (w .«type_id»))) (sym ht ∙ e)
     where
       go : (q : Plan) → isFinish (dueOf q) ≡ false → after r s ≡ finishAt (avm most) q w s
       go shut e = ap (λ (y : Step). after y s) h
@@ -362,17 +397,14 @@ module _ (w : Writer) (s : List ℕ) (t : Bool) (ht : t ≡ isFinish (dueAt w)) 
       go (field f q) e = ap (λ (y : Step). after y s) h
       go (many l least q) e = ap (λ (y : Step). after y s) h
 
-  module _ (n : not t ≡ false) where
-    finish-due : isFinish (dueAt w) ≡ true
-    finish-due = sym ht ∙ not-false t n
-
+  module _ (e : t ≡ true) where
     pub finish-small : w .phase ≤ lastPhase
-    finish-small = phase-small (w .«type_id») (w .phase) isFinish refl finish-due
+    finish-small = phase-small (w .«type_id») (w .phase) isFinish refl (sym ht ∙ e)
 
     module _ (most : ℕ) where
       finish-end : finishAt (avm most) end w s ≡ finish (avm most) w s
       unfolding finish
-      finish-end = go (due (w .phase) (planOf (w .«type_id»))) finish-due
+      finish-end = go (due (w .phase) (planOf (w .«type_id»))) (sym ht ∙ e)
         where
           go : (q : Plan) → isFinish (dueOf q) ≡ true → finishAt (avm most) end w s ≡ finishAt (avm most) q w s
           go shut e = absurd (false≢true e)

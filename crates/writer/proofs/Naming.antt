@@ -6,6 +6,7 @@ use mathlib.Core.List.{List, _++_}
 use native.Mathlib.Omega.{arith}
 use lib.ListN.{length}
 use Rattle.wire.specs.declared.Refusal.{Refusal}
+use Rattle.transaction.specs.Signed.{mostBytes}
 use Rattle.transaction.specs.Plan.{contentOf, elementsOf, Plan, shut, end, field, many, planOf}
 use Rattle.transaction.specs.Avm.{avm}
 use Rattle.transaction.specs.declared.FieldName.{FieldName}
@@ -27,7 +28,7 @@ use Rattle.writer_buffer.proofs.Stores.{room-inv}
 use Rattle.writer.specs.declared.Writer.{Writer}
 use Rattle.writer.specs.declared.Step.{Step}
 use Rattle.writer.specs.Steps.{answered, prev, sane, grown, appended, putField, putElement, after}
-use Rattle.writer.specs.code.Answer.{refusedStep, notDueStep, noRoomStep, dueAt, segmentStep, opensNext, elementStep, SameBytes}
+use Rattle.writer.specs.code.Answer.{refusedStep, notDueStep, noRoomStep, dueAt, segmentStep, opensNext, elementStep}
 use Rattle.writer.proofs.Laws.{guarded-fine, guarded-short, not-true, not-false}
 use Rattle.writer.proofs.Entering.{kept-out}
 use Rattle.writer.proofs.Fitting.{other-field, fieldVerdict, fieldStep, field-put, other-list, elementVerdict, element-put}
@@ -84,17 +85,18 @@ module _ (w : Writer) (s : List ℕ) (f : FieldName) (t : Bool) (ht : t ≡ isFi
         field-refused d e r h = kept-out w s _ _ _ d (field-judged (J.Refuse d) e) r h ∙ field-here
 
         -- zs is what the code has written of the field
-        pub field-is : x ≡ J.Allowed → (zs : List ℕ) → (x ≡ J.Allowed → zs ≡ g .bytes) → (r : Step) (u : List ℕ)
-            → after r u ≡ segmentStep w s zs (opensNext w) → after r u ≡ putField (avm most) w s f g
+        pub field-is : x ≡ J.Allowed → (zs : List ℕ) → zs ≡ g .bytes → (r : Step) (u : List ℕ) → after r u ≡ segmentStep w s zs (opensNext w)
+            → after r u ≡ putField (avm most) w s f g
         field-is e zs hz r u h =
-            h ∙ ap (λ (y : List ℕ). segmentStep w s y (opensNext w)) (hz e)
+            h ∙ ap (λ (y : List ℕ). segmentStep w s y (opensNext w)) hz
             ∙ ap (λ (v : Verdict). fieldStep most w s f g v (opensNext w)) (sym (field-judged J.Allowed e)) ∙ field-here
 
 -- ---- elements
 
-element-bytes : (w : Writer) (s ys zs : List ℕ) → SameBytes ys zs → elementStep w s ys ≡ elementStep w s zs
+-- the bytes of an element matter only if it is not longer than a transaction
+element-bytes : (w : Writer) (s ys zs : List ℕ) → length ys ≡ length zs → (length ys ≤ mostBytes → ys ≡ zs) → elementStep w s ys ≡ elementStep w s zs
 unfolding answered
-element-bytes w s ys zs (long, e) = go (roomFor (w .at + length ys) s) refl
+element-bytes w s ys zs long e = go (roomFor (w .at + length ys) s) refl
   where
     go : (v : Verdict) → roomFor (w .at + length ys) s ≡ v → elementStep w s ys ≡ elementStep w s zs
     go J.Allowed f = ap (elementStep w s) (e (omega (arith, room-inv (w .at + length ys) s f .1)))
@@ -137,8 +139,8 @@ module _ (w : Writer) (s : List ℕ) (l : ListName) (t : Bool) (ht : t ≡ (isOp
         element-refused d e r h = kept-out w s _ _ _ d (element-judged (J.Refuse d) e) r h ∙ element-here
 
         -- zs is what the code has written of the element
-        pub element-is : x ≡ J.Allowed → (zs : List ℕ) → (x ≡ J.Allowed → SameBytes zs (g .bytes)) → (r : Step) (u : List ℕ)
-            → after r u ≡ elementStep w s zs → after r u ≡ putElement (avm most) w s l g
-        element-is e zs hz r u h =
-            h ∙ element-bytes w s zs (g .bytes) (hz e)
+        pub element-is : x ≡ J.Allowed → (zs : List ℕ) → length zs ≡ length (g .bytes) → (length zs ≤ mostBytes → zs ≡ g .bytes)
+            → (r : Step) (u : List ℕ) → after r u ≡ elementStep w s zs → after r u ≡ putElement (avm most) w s l g
+        element-is e zs same i r u h =
+            h ∙ element-bytes w s zs (g .bytes) same i
             ∙ ap (λ (v : Verdict). answered v w s (grown w (length (g .bytes))) (appended w s (g .bytes))) (sym (element-judged J.Allowed e)) ∙ element-here

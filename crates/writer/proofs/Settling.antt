@@ -109,14 +109,14 @@ sane-inv w e =
 
 module _ (w : Writer) (s ys : List ℕ) (x : End) (u : List ℕ)
     (p : (x, u) ≡ stored (roomFor (w .at + length ys) s) (w .at + length ys) s (overwrite s (w .at) ys)) where
-  pub append-refused : (e : Refusal) → x ≡ P.Refused e → (r : Step) → r ≡ refusedStep w e → after r u ≡ elementStep w s ys
-  append-refused e q r h = store-refused _ _ w s _ x u p _ r _ e q h
+  pub element-refused : (e : Refusal) → x ≡ P.Refused e → (r : Step) → r ≡ refusedStep w e → after r u ≡ elementStep w s ys
+  element-refused e q r h = store-refused _ _ w s _ x u p _ r _ e q h
 
-  pub append-done : sane w ≡ true → (m : ℕ) → x ≡ P.At m → (z : List ℕ) → z ≡ withInteger u (w .list) (w .count + 1) → (r : Step)
+  pub element-done : sane w ≡ true → (m : ℕ) → x ≡ P.At m → (z : List ℕ) → z ≡ withInteger u (w .list) (w .count + 1) → (r : Step)
       → r ≡ storedStep record { «type_id» = w .«type_id»; phase = w .phase; at = m; list = w .list; count = w .count + 1; last = w .at }
       → after r z ≡ elementStep w s ys
   unfolding answered grown appended
-  append-done t m q z hz r h =
+  element-done t m q z hz r h =
       let (a, b) = sane-inv w t in
       let (i, k, j) = stored-at (w .at + length ys) s (overwrite s (w .at) ys) x u (roomFor (w .at + length ys) s) p m q in
       let (f, _) = room-inv (w .at + length ys) s i in

@@ -42,8 +42,8 @@ pub struct Step {
     pub answer: Written,
 }
 
-// Each step is refused in the same order: if it is not due, if the buffer is shorter than the bytes written so far, by its rules, and last, by the
-// store, for lack of room. A refused step changes neither state nor buffer.
+// Each step makes its tests in the same order: whether it is due, whether the buffer has the bytes written so far, its rules, and last, in the
+// store, whether there is room. A refused step changes neither state nor buffer.
 impl Writer {
     // A writer that has written nothing: the state that `start` needs.
     pub fn fresh() -> Writer
@@ -111,56 +111,87 @@ impl Writer {
     pub fn memo(self, buf: &mut [u8], bytes: &[u8]) -> Step
         ensures { λ r. ⌜ after r (now (buf .exit)) ≡ putMemo memoMost self (now (buf .entry)) (now (bytes .entry)) ⌝ }
     {
-        let rules = values::memo_rules(bytes.len(), transaction::MEMO_MOST);
+        if !questions::field_at(self.type_id, self.phase, FieldName::Memo) {
+            return steps::not_due(self);
+        }
+        if buf.len() < self.at {
+            return steps::no_room(self);
+        }
+        if let Verdict::Refuse(refusal) = values::memo_rules(bytes.len(), transaction::MEMO_MOST) {
+            return steps::refused(self, refusal);
+        }
         let mut count = [0u8; 4];
         wire::put_integer(&mut count, bytes.len() as u64);
-        steps::put_field(self, buf, FieldName::Memo, rules, &count, bytes)
+        steps::put_segment(self, buf, &count, bytes)
     }
 
     // Writes the name of a new asset, 1 to 128 printable characters.
     pub fn name(self, buf: &mut [u8], bytes: &[u8]) -> Step
         ensures { λ r. ⌜ after r (now (buf .exit)) ≡ putName memoMost self (now (buf .entry)) (now (bytes .entry)) ⌝ }
     {
-        let rules = values::text_rules(bytes, string::NAME_MOST as usize);
+        if !questions::field_at(self.type_id, self.phase, FieldName::Name) {
+            return steps::not_due(self);
+        }
+        if buf.len() < self.at {
+            return steps::no_room(self);
+        }
+        if let Verdict::Refuse(refusal) = values::text_rules(bytes, string::NAME_MOST as usize) {
+            return steps::refused(self, refusal);
+        }
         let mut count = [0u8; 2];
         wire::put_integer(&mut count, bytes.len() as u64);
-        steps::put_field(self, buf, FieldName::Name, rules, &count, bytes)
+        steps::put_segment(self, buf, &count, bytes)
     }
 
     // Writes the symbol of a new asset, 1 to 4 printable characters.
     pub fn symbol(self, buf: &mut [u8], bytes: &[u8]) -> Step
         ensures { λ r. ⌜ after r (now (buf .exit)) ≡ putSymbol memoMost self (now (buf .entry)) (now (bytes .entry)) ⌝ }
     {
-        let rules = values::text_rules(bytes, string::SYMBOL_MOST as usize);
+        if !questions::field_at(self.type_id, self.phase, FieldName::Symbol) {
+            return steps::not_due(self);
+        }
+        if buf.len() < self.at {
+            return steps::no_room(self);
+        }
+        if let Verdict::Refuse(refusal) = values::text_rules(bytes, string::SYMBOL_MOST as usize) {
+            return steps::refused(self, refusal);
+        }
         let mut count = [0u8; 2];
         wire::put_integer(&mut count, bytes.len() as u64);
-        steps::put_field(self, buf, FieldName::Symbol, rules, &count, bytes)
+        steps::put_segment(self, buf, &count, bytes)
     }
 
     // Writes the denomination of a new asset, at most 32.
     pub fn denomination(self, buf: &mut [u8], value: u8) -> Step
         ensures { λ r. ⌜ after r (now (buf .exit)) ≡ putDenomination memoMost self (now (buf .entry)) value ⌝ }
     {
-        let rules = values::denomination_rules(value);
+        if !questions::field_at(self.type_id, self.phase, FieldName::Denomination) {
+            return steps::not_due(self);
+        }
+        if buf.len() < self.at {
+            return steps::no_room(self);
+        }
+        if let Verdict::Refuse(refusal) = values::denomination_rules(value) {
+            return steps::refused(self, refusal);
+        }
         let mut byte = [0u8; 1];
         wire::put_integer(&mut byte, value as u64);
         let none = [0u8; 1];
-        steps::put_field(self, buf, FieldName::Denomination, rules, &byte, &none[..0])
+        steps::put_segment(self, buf, &byte, &none[..0])
     }
 
     // Writes the source chain of an import, or the destination chain of an export.
     pub fn chain(self, buf: &mut [u8], id: [u8; 32]) -> Step
         ensures { λ r. ⌜ after r (now (buf .exit)) ≡ putChain memoMost self (now (buf .entry)) id ⌝ }
     {
+        if !questions::field_at(self.type_id, self.phase, FieldName::Chain) {
+            return steps::not_due(self);
+        }
+        if buf.len() < self.at {
+            return steps::no_room(self);
+        }
         let none = [0u8; 1];
-        steps::put_field(
-            self,
-            buf,
-            FieldName::Chain,
-            Verdict::Allowed,
-            &none[..0],
-            &id,
-        )
+        steps::put_segment(self, buf, &none[..0], &id)
     }
 
     // Adds a transferable output. `addresses` holds its addresses one after the other, 20 bytes each.
@@ -175,6 +206,12 @@ impl Writer {
     ) -> Step
         ensures { λ r. ⌜ after r (now (buf .exit)) ≡ addOutput memoMost self (now (buf .entry)) asset amount locktime threshold (now (addresses .entry)) ⌝ }
     {
+        if !steps::is_element_due(self, ListName::Output) {
+            return steps::not_due(self);
+        }
+        if buf.len() < self.at {
+            return steps::no_room(self);
+        }
         let last = steps::last_of(self, &buf[..]);
         let mut head = [0u8; 60];
         let rules = transfers::output_rules(
@@ -186,16 +223,11 @@ impl Writer {
             addresses,
             &mut head,
         );
+        if let Verdict::Refuse(refusal) = rules {
+            return steps::refused(self, refusal);
+        }
         let none = [0u32; 1];
-        steps::put_element(
-            self,
-            buf,
-            ListName::Output,
-            rules,
-            &head,
-            addresses,
-            &none[..0],
-        )
+        steps::put_element(self, buf, &head, addresses, &none[..0])
     }
 
     // Adds a transferable input, base or imported.
@@ -210,54 +242,55 @@ impl Writer {
     ) -> Step
         ensures { λ r. ⌜ after r (now (buf .exit)) ≡ addInput memoMost self (now (buf .entry)) txid index asset amount (now (indices .entry)) ⌝ }
     {
+        if !steps::is_element_due(self, ListName::Input) {
+            return steps::not_due(self);
+        }
+        if buf.len() < self.at {
+            return steps::no_room(self);
+        }
         let last = steps::last_of(self, &buf[..]);
         let mut head = [0u8; 84];
         let rules = transfers::input_rules(last, txid, index, asset, amount, indices, &mut head);
+        if let Verdict::Refuse(refusal) = rules {
+            return steps::refused(self, refusal);
+        }
         let none = [0u8; 1];
-        steps::put_element(
-            self,
-            buf,
-            ListName::Input,
-            rules,
-            &head,
-            &none[..0],
-            indices,
-        )
+        steps::put_element(self, buf, &head, &none[..0], indices)
     }
 
     // Adds an operation, given as its bytes.
     pub fn add_operation(self, buf: &mut [u8], bytes: &[u8]) -> Step
         ensures { λ r. ⌜ after r (now (buf .exit)) ≡ addOperation memoMost self (now (buf .entry)) (now (bytes .entry)) ⌝ }
     {
-        let rules = elements::operation_rules(bytes);
+        if !steps::is_element_due(self, ListName::Operation) {
+            return steps::not_due(self);
+        }
+        if buf.len() < self.at {
+            return steps::no_room(self);
+        }
+        if let Verdict::Refuse(refusal) = elements::operation_rules(bytes) {
+            return steps::refused(self, refusal);
+        }
         let none = [0u32; 1];
-        steps::put_element(
-            self,
-            buf,
-            ListName::Operation,
-            rules,
-            &bytes[..0],
-            bytes,
-            &none[..0],
-        )
+        steps::put_element(self, buf, &bytes[..0], bytes, &none[..0])
     }
 
     // Adds an initial state, given as its bytes.
     pub fn add_initial_state(self, buf: &mut [u8], bytes: &[u8]) -> Step
         ensures { λ r. ⌜ after r (now (buf .exit)) ≡ addInitialState memoMost self (now (buf .entry)) (now (bytes .entry)) ⌝ }
     {
+        if !steps::is_element_due(self, ListName::State) {
+            return steps::not_due(self);
+        }
+        if buf.len() < self.at {
+            return steps::no_room(self);
+        }
         let last = steps::last_of(self, &buf[..]);
-        let rules = elements::state_rules(last, bytes);
+        if let Verdict::Refuse(refusal) = elements::state_rules(last, bytes) {
+            return steps::refused(self, refusal);
+        }
         let none = [0u32; 1];
-        steps::put_element(
-            self,
-            buf,
-            ListName::State,
-            rules,
-            &bytes[..0],
-            bytes,
-            &none[..0],
-        )
+        steps::put_element(self, buf, &bytes[..0], bytes, &none[..0])
     }
 
     // Ends the transaction with its blank credentials, in which every signature is zero bytes.

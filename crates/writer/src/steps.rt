@@ -1,4 +1,4 @@
-// What the methods share: whether the step is due, the order of its refusals, the store and the next state.
+// What the methods share: whether an element is due, and, after its rules are judged, the store and the next state.
 ghost use Prim.Native.Nat.{_≤_};
 ghost use mathlib.Core.Path.{_≡_};
 ghost use mathlib.Core.Bool.{true, _&&_};
@@ -8,18 +8,15 @@ ghost use Rattle.plan.specs.Due.{isOpen};
 ghost use Rattle.plan.specs.code.Rows.{lastPhase};
 ghost use Rattle.writer_rules.specs.code.Elements.{integersBytes};
 ghost use Rattle.writer.specs.Steps.{prev, sane, after};
-ghost use Rattle.writer.specs.code.Answer.{PutsField, PutsElement, refusedStep, notDueStep, noRoomStep, storedStep, dueAt, settled, segmentStep};
-ghost use Rattle.writer.specs.code.Answer.{opensNext, elementStep};
+ghost use Rattle.writer.specs.code.Answer.{refusedStep, notDueStep, noRoomStep, storedStep, dueAt, settled, segmentStep, opensNext, elementStep};
 use crate::Step;
 use crate::Writer;
 use crate::Written;
 use plan::questions;
-use transaction::FieldName;
 use transaction::ListName;
 use wire::End;
 use wire::Refusal;
 use wire::Rule;
-use writer_rules::Verdict;
 
 // The answer of a refused step, which changes neither state nor buffer.
 pub fn refused(writer: Writer, refusal: Refusal) -> Step
@@ -81,7 +78,7 @@ pub fn last_of(writer: Writer, buf: &[u8]) -> &[u8]
 }
 
 // Is an element of this list due, in a consistent state?
-fn is_element_due(writer: Writer, list: ListName) -> bool
+pub fn is_element_due(writer: Writer, list: ListName) -> bool
     ensures { λ r. ⌜ r ≡ isOpen list (dueAt writer) && sane writer ⌝ }
 {
     if questions::open_at(writer.type_id, writer.phase, list) {
@@ -144,31 +141,8 @@ pub(crate) fn put_segment(writer: Writer, buf: &mut [u8], first: &[u8], second: 
     settle(writer, buf, first, second, opens, from)
 }
 
-// Stores a field whose rules gave the verdict `rules`, if it is due.
-pub fn put_field(
-    writer: Writer,
-    buf: &mut [u8],
-    field: FieldName,
-    rules: Verdict,
-    first: &[u8],
-    second: &[u8],
-) -> Step
-    ensures { λ r. ⌜ PutsField writer (now (buf .entry)) field rules (now (first .entry) ++ now (second .entry)) (after r (now (buf .exit))) ⌝ }
-{
-    if !questions::field_at(writer.type_id, writer.phase, field) {
-        return not_due(writer);
-    }
-    if buf.len() < writer.at {
-        return no_room(writer);
-    }
-    if let Verdict::Refuse(refusal) = rules {
-        return refused(writer, refusal);
-    }
-    put_segment(writer, buf, first, second)
-}
-
 // Stores an element after the others of the open list, and overwrites the list's count with the new one.
-fn append_element(
+pub(crate) fn put_element(
     writer: Writer,
     buf: &mut [u8],
     first: &[u8],
@@ -194,29 +168,4 @@ fn append_element(
             })
         }
     }
-}
-
-// Stores an element whose rules gave the verdict `rules`, if it is due.
-pub fn put_element(
-    writer: Writer,
-    buf: &mut [u8],
-    list: ListName,
-    rules: Verdict,
-    first: &[u8],
-    second: &[u8],
-    numbers: &[u32],
-) -> Step
-    ensures { λ r. ⌜ PutsElement writer (now (buf .entry)) list rules ((now (first .entry) ++ now (second .entry)) ++ integersBytes (now (numbers .entry)))
-        (after r (now (buf .exit))) ⌝ }
-{
-    if !is_element_due(writer, list) {
-        return not_due(writer);
-    }
-    if buf.len() < writer.at {
-        return no_room(writer);
-    }
-    if let Verdict::Refuse(refusal) = rules {
-        return refused(writer, refusal);
-    }
-    append_element(writer, buf, first, second, numbers)
 }

@@ -1,26 +1,17 @@
 -- What the functions that the methods call answer. Assumes nothing.
-use mathlib.Core.Path.{_≡_}
-use Prim.Native.Nat.{ℕ, suc, _+_, _≤_}
+use Prim.Native.Nat.{ℕ, suc, _+_}
 use mathlib.Core.Bool.{Bool}
 use mathlib.Core.List.{List, _++_}
 use lib.ListN.{length}
 use Rattle.wire.specs.declared.Refusal.{Refusal}
 use Rattle.wire.specs.Numbers.{refusal, noRoom, stepNotDue}
-use Rattle.transaction.specs.Signed.{mostBytes}
-use Rattle.transaction.specs.Plan.{contentOf, elementsOf, planOf}
-use Rattle.transaction.specs.Avm.{avm}
-use Rattle.transaction.specs.declared.FieldName.{FieldName}
-use Rattle.transaction.specs.declared.ListName.{ListName}
-use Rattle.writer_rules.specs.declared.Verdict.{Verdict}
-use Rattle.writer_rules.specs.declared.Verdict.the-variants as J
-use Rattle.writer_rules.specs.Given.{Given}
-use Rattle.writer_rules.specs.Judged.{judged}
+use Rattle.transaction.specs.Plan.{planOf}
 use Rattle.plan.specs.declared.Due.{Due}
 use Rattle.plan.specs.Due.{due, dueOf, isList}
 use Rattle.writer.specs.declared.Writer.{Writer}
 use Rattle.writer.specs.declared.Step.{Step}
 use Rattle.writer.specs.declared.Written.the-variants as W
-use Rattle.writer.specs.Steps.{Turn, answered, prev, grown, appended, putField, putElement}
+use Rattle.writer.specs.Steps.{Turn, answered, grown, appended}
 use Rattle.writer_buffer.specs.Stores.{roomFor, overwrite}
 use Rattle.writer_buffer.specs.code.Stores.{countOf}
 
@@ -64,21 +55,6 @@ segmentStep w s ys opens = settled w s ys opens record { «type_id» = w .«type
 abbrev pub opensNext : Writer → Bool
 opensNext w = isList (dueOf (due (suc (w .phase)) (planOf (w .«type_id»))))
 
--- t is the step that puts the field f, where the rules give the verdict v: for any content with that verdict, and with the bytes ys if it is allowed
-unfoldable pub PutsField : Writer → List ℕ → FieldName → Verdict → List ℕ → Turn → Type 0
-PutsField w s f v ys t =
-    (most : ℕ) (g : Given) → v ≡ judged (contentOf most f) g J.Allowed → (v ≡ J.Allowed → ys ≡ g .bytes) → t ≡ putField (avm most) w s f g
-
 -- an element whose bytes are ys
 abbrev pub elementStep : Writer → List ℕ → List ℕ → Turn
 elementStep w s ys = answered (roomFor (w .at + length ys) s) w s (grown w (length ys)) (appended w s ys)
-
--- the bytes of an element matter only if it is not longer than a transaction
-abbrev pub SameBytes : List ℕ → List ℕ → Type 0
-SameBytes ys zs = (length ys ≡ length zs) × (length ys ≤ mostBytes → ys ≡ zs)
-
--- t is the step that puts an element into the list l, where the rules give the verdict v
-unfoldable pub PutsElement : Writer → List ℕ → ListName → Verdict → List ℕ → Turn → Type 0
-PutsElement w s l v ys t =
-    (most : ℕ) (g : Given) → v ≡ judged (elementsOf l .element (prev w s)) g J.Allowed → (v ≡ J.Allowed → SameBytes ys (g .bytes))
-    → t ≡ putElement (avm most) w s l g

@@ -1,7 +1,8 @@
 -- `writer::Writer::add_initial_state` meets its contract. Assumes nothing.
 use borrow.Author.Needs.{needs}
-use Rattle.writer.proofs.Methods.{state-put}
 use Rattle.writer_rules.specs.code.Elements.{integersBytes}
+use Rattle.writer.proofs.Naming.{element-not, element-sane, element-short}
+use Rattle.writer.proofs.Methods.{state-refused, state-is}
 use Rattle.writer.proofs.Writer.add_initial_state.Statement.{statement}
 use Rattle.writer.proofs.Writer.add_initial_state.Tie as tie
 
@@ -10,7 +11,15 @@ unfolding integersBytes
 add-initial-state-spec =
     tie.close
     (tie.spec
-    (λ c κs. search needs) (λ c κs. search needs) (λ c. search needs)  -- last-of-requires, state-rules-requires, slice-aggregate-put-element
-    (λ c. search needs) (λ c. search needs) (λ c κs. search needs)  -- array-share-prefix-none, slice-aggregate-put-element-2, put-element-requires
-    (λ c. search needs)  -- same-length
-    (λ c. search state-put))  -- returns
+    (λ c κs. search needs) (λ c κs. search needs)  -- is-element-due-requires, not-due-requires
+    (λ c. search element-not)  -- returns
+    (λ c κs. search needs)  -- no-room-requires
+    (λ c. search element-short)  -- returns-2
+    (λ c κs. search needs) (λ c κs. search needs) (λ c. search needs)  -- last-of-requires, state-rules-requires, enum-known-refusal
+    (λ c κs. search needs) (λ c. search needs)  -- refused-requires, same-length
+    (λ c. search state-refused)  -- returns-3
+    (λ c. search needs) (λ c. search needs) (λ c. search needs)  -- enum-told, slice-aggregate-put-element, array-share-prefix-none
+    (λ c. search needs)  -- slice-aggregate-put-element-2
+    (λ c κs. search element-sane)  -- put-element-requires
+    (λ c. search needs)  -- same-length-2
+    (λ c. search state-is))  -- returns-4

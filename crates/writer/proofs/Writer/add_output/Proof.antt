@@ -1,7 +1,8 @@
 -- `writer::Writer::add_output` meets its contract. Assumes nothing.
 use borrow.Author.Needs.{needs}
-use Rattle.writer.proofs.Methods.{output-head-wide, output-put}
 use Rattle.writer_rules.specs.code.Elements.{integersBytes}
+use Rattle.writer.proofs.Naming.{element-not, element-sane, element-short}
+use Rattle.writer.proofs.Methods.{output-head-wide, output-refused, output-is}
 use Rattle.writer.proofs.Writer.add_output.Statement.{statement}
 use Rattle.writer.proofs.Writer.add_output.Tie as tie
 
@@ -10,10 +11,18 @@ unfolding integersBytes
 add-output-spec =
     tie.close
     (tie.spec
-    (λ c κs. search needs) (λ c κs. search needs)  -- last-of-requires, output-rules-requires
+    (λ c κs. search needs) (λ c κs. search needs)  -- is-element-due-requires, not-due-requires
+    (λ c. search element-not)  -- returns
+    (λ c κs. search needs)  -- no-room-requires
+    (λ c. search element-short)  -- returns-2
+    (λ c κs. search needs) (λ c κs. search needs) (λ c. search needs)  -- last-of-requires, output-rules-requires, enum-known-rules
+    (λ c κs. search needs) (λ c. search needs)  -- refused-requires, same-length
+    (λ c. search output-refused)  -- returns-3
+    (λ c. search needs)  -- enum-told
     (λ c.
     let start : tie.Start = search in
     search (needs, output-head-wide, start .good))  -- slice-aggregate-put-element
     (λ c. search needs) (λ c. search needs)  -- array-share-prefix-none, slice-aggregate-put-element-2
-    (λ c κs. search needs) (λ c. search needs)  -- put-element-requires, same-length
-    (λ c. search output-put))  -- returns
+    (λ c κs. search element-sane)  -- put-element-requires
+    (λ c. search needs)  -- same-length-2
+    (λ c. search output-is))  -- returns-4

@@ -1,6 +1,7 @@
 -- `writer::Writer::chain` meets its contract. Assumes nothing.
 use borrow.Author.Needs.{needs}
-use Rattle.writer.proofs.Methods.{chain-put}
+use Rattle.writer.proofs.Naming.{field-not, field-small, field-short}
+use Rattle.writer.proofs.Methods.{chain-is}
 use Rattle.writer.proofs.Writer.chain.Statement.{statement}
 use Rattle.writer.proofs.Writer.chain.Tie as tie
 
@@ -8,6 +9,12 @@ pub chain-spec : {M : Type 1} → statement M
 chain-spec =
     tie.close
     (tie.spec
-    (λ c. search needs) (λ c. search needs) (λ c. search needs)  -- array-share-prefix-none, slice-aggregate-put-field, slice-aggregate-put-field-2
-    (λ c κs. search needs) (λ c. search needs)  -- put-field-requires, same-length
-    (λ c. search chain-put))  -- returns
+    (λ c κs. search needs) (λ c κs. search needs)  -- field-at-requires, not-due-requires
+    (λ c. search field-not)  -- returns
+    (λ c κs. search needs)  -- no-room-requires
+    (λ c. search field-short)  -- returns-2
+    (λ c. search needs) (λ c. search needs)  -- array-share-prefix-none, slice-aggregate-put-segment
+    (λ c. search needs)  -- slice-aggregate-put-segment-2
+    (λ c κs. search field-small)  -- put-segment-requires
+    (λ c. search needs)  -- same-length
+    (λ c. search chain-is))  -- returns-3

@@ -1,6 +1,7 @@
 -- `writer::Writer::denomination` meets its contract. Assumes nothing.
 use borrow.Author.Needs.{needs}
-use Rattle.writer.proofs.Methods.{denomination-put}
+use Rattle.writer.proofs.Naming.{field-not, field-small, field-short}
+use Rattle.writer.proofs.Methods.{denomination-refused, denomination-is}
 use Rattle.writer.proofs.Writer.denomination.Statement.{statement}
 use Rattle.writer.proofs.Writer.denomination.Tie as tie
 
@@ -8,7 +9,15 @@ pub denomination-spec : {M : Type 1} → statement M
 denomination-spec =
     tie.close
     (tie.spec
-    (λ c κs. search needs) (λ c. search needs) (λ c κs. search needs)  -- denomination-rules-requires, slice-aggregate-put-integer, put-integer-requires
-    (λ c. search needs) (λ c. search needs) (λ c. search needs)  -- slice-aggregate-put-field, array-share-prefix-none, slice-aggregate-put-field-2
-    (λ c κs. search needs) (λ c. search needs)  -- put-field-requires, same-length
-    (λ c. search denomination-put))  -- returns
+    (λ c κs. search needs) (λ c κs. search needs)  -- field-at-requires, not-due-requires
+    (λ c. search field-not)  -- returns
+    (λ c κs. search needs)  -- no-room-requires
+    (λ c. search field-short)  -- returns-2
+    (λ c κs. search needs) (λ c. search needs) (λ c κs. search needs)  -- denomination-rules-requires, enum-known-refusal, refused-requires
+    (λ c. search denomination-refused)  -- returns-3
+    (λ c. search needs) (λ c. search needs) (λ c κs. search needs)  -- enum-told, slice-aggregate-put-integer, put-integer-requires
+    (λ c. search needs) (λ c. search needs)  -- slice-aggregate-put-segment, array-share-prefix-none
+    (λ c. search needs)  -- slice-aggregate-put-segment-2
+    (λ c κs. search field-small)  -- put-segment-requires
+    (λ c. search needs)  -- same-length
+    (λ c. search denomination-is))  -- returns-4
