@@ -280,7 +280,7 @@ static void print(int call, const size_t *count, const size_t *most)
         all = most[row] > all ? most[row] : all;
         if (count[row] != 0)
             printf(row < TYPES ? "%s, done, type %zu: %zu calls, %zu bytes\n"
-                               : "%s, refused by %zu: %zu calls, %zu bytes\n",
+                               : "%s, answered %zu: %zu calls, %zu bytes\n",
                    names[call], row < TYPES ? row : row - TYPES, count[row], most[row]);
     }
     printf("%s: %zu calls, at most %zu bytes\n", names[call], calls, all);
