@@ -42,6 +42,12 @@ use Rattle.draft_slot_table.specs.Table.{tabledSlots}
 use Rattle.draft.specs.Reader.{reader, body, slotCount, slot}
 use Rattle.draft.specs.Calls.{answerNumber, merged, mergeCall, fillCall}
 use Rattle.writer_theorems.proofs.Occurring.{eachByte, bytes-of, zeros, word, typed, paid, one-occurs}
+use Rattle.upload.specs.Calls.{standingNumber, shown}
+use Rattle.upload.proofs.Showing.{shown-number}
+use Rattle.upload_theorems.specs.Answers.{pieceNumbers, endNumbers}
+use Rattle.upload_theorems.specs.Pieces.{answer, ended}
+use Rattle.upload_theorems.proofs.Theorems.{answer-one, answer-full, ended-one, ended-full}
+use Rattle.wire.proofs.Refusing.{contained}
 use Rattle.claims.specs.Cases.{A, edited}
 use Rattle.claims.specs.Occurring.{NumbersOccur}
 use Rattle.claims.specs.Answers.{checkNumbers, tableNumbers, entryNumbers}
@@ -151,6 +157,30 @@ entry-occurs n =
     EntryOf : ℕ → Type 0
     EntryOf n = (s : List ℕ) × (k : ℕ) × Bytes s × (entryNumber (entryOf memoMost s k .answer) ≡ n)
 
+-- ---- uploads
+
+PieceOf : ℕ → Type 0
+PieceOf n = (s p : List ℕ) × Bytes s × Bytes p × (standingNumber (answer memoMost s (p ∷ [])) ≡ n)
+
+piece-occurs : (n : ℕ) → OneOf n pieceNumbers → PieceOf n
+unfolding PieceOf
+piece-occurs n h =
+    behind PieceOf 14 n refusals ([], 0 ∷ [], tt, (omega arith, tt), ap standingNumber (answer-full memoMost))
+    (λ r. let (s, e, b, c, k) = refused-by n r in
+    let q : checked memoMost s ≡ C.Refused e = ap (λ o. onResult o C.Refused (λ v m. C.Accepted (Answer.layout memoMost (v .0)) m)) c in
+    (s, s, b, b, ap standingNumber (answer-one memoMost s ∙ ap shown q) ∙ shown-number e ∙ k))
+    (contained (14 ∷ refusals) pieceNumbers refl n h)
+
+EndOf : ℕ → Type 0
+EndOf n = (s p : List ℕ) × Bytes s × Bytes p × (checkedNumber (ended memoMost s (p ∷ [])) ≡ n)
+
+end-occurs : (n : ℕ) → OneOf n endNumbers → EndOf n
+unfolding EndOf
+end-occurs n h =
+    behind EndOf 14 n checkNumbers ([], 0 ∷ [], tt, (omega arith, tt), ap checkedNumber (ended-full memoMost))
+    (λ r. let (s, b, k) = check-occurs n r in (s, s, b, b, ap checkedNumber (ended-one memoMost s) ∙ k))
+    (contained (14 ∷ checkNumbers) endNumbers refl n h)
+
 -- ---- merge and fill
 
 abbrev MergeOf : ℕ → Type 0
@@ -196,10 +226,12 @@ fill-cases =
     ∷ []
 
 pub numbers-occur : NumbersOccur
-unfolding Listing merge-cases fill-cases
+unfolding Listing PieceOf EndOf merge-cases fill-cases
 numbers-occur =
     record {
       check = check-occurs;
+      piece = piece-occurs;
+      end = end-occurs;
       check-with-table = listing-occurs (tabled memoMost) (table-answers .refused-bytes) (tables .0) (tables .1);
       entry = entry-occurs;
       slots = listing-occurs (tabledSlots memoMost) (slots-answers .lists .refused-bytes) (slot-tables .0) (slot-tables .1);

@@ -6,7 +6,7 @@ use mathlib.Core.List.{List, _++_}
 use native.Mathlib.Omega.{arith}
 use lib.Dec.{eqb}
 use lib.ListN.{length}
-use borrow.Author.Tests.{eqb-false, eq-eqb}
+use borrow.Author.Tests.{eqb-true, eqb-false, eq-eqb}
 use Rattle.wire.specs.Bytes.{Bytes, pick}
 use Rattle.wire.specs.declared.Refusal.{Refusal}
 use Rattle.wire.specs.Numbers.{ruleNumber, numberOf}
@@ -24,7 +24,7 @@ use Rattle.transaction.proofs.Verdicts.{refused-check}
 use Rattle.upload.specs.declared.Standing.{Standing}
 use Rattle.upload.specs.declared.Standing.the-variants as S
 use Rattle.upload.specs.declared.Upload.{Upload}
-use Rattle.upload.specs.Calls.{shown, kept, verdict, grown, pieceCall}
+use Rattle.upload.specs.Calls.{standingNumber, shown, kept, verdict, grown, pieceCall}
 
 -- nothing and a refusal do not stand at once
 pub not-both : {A : Type 0} (x : Standing) (e : Refusal) → x ≡ S.NeedMore → x ≡ S.Refused e → A
@@ -41,6 +41,15 @@ pub shown-2 : (x : Checked) → checkedNumber x ≡ 2 → shown x ≡ S.NeedMore
 unfolding shown
 shown-2 (C.Accepted w n) h = refl
 shown-2 (C.Refused e) h = rw (eq-eqb (numberOf e) 2 h)
+
+-- a refusal keeps its number: 2 is need more's
+pub shown-number : (e : Refusal) → standingNumber (shown (C.Refused e)) ≡ numberOf e
+unfolding shown
+shown-number e = go (eqb (numberOf e) 2) refl
+  where
+    go : (b : Bool) → eqb (numberOf e) 2 ≡ b → standingNumber (pick b S.NeedMore (S.Refused e)) ≡ numberOf e
+    go true q = sym (eqb-true (numberOf e) 2 q)
+    go false q = refl
 
 -- a refusal that is shown is the check's, and not 2
 pub shown-inv : (x : Checked) (e : Refusal) → shown x ≡ S.Refused e → (x ≡ C.Refused e) × (numberOf e ≡ 2 → ⊥)

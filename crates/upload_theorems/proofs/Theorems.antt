@@ -1,12 +1,12 @@
 -- THE THEOREM: however bytes are cut into pieces, the upload is answered as the whole. For every limit of the memo. Assumes nothing.
 use Prim.Native.Nat.{ℕ, _<_}
 use mathlib.Core.Path.{_≡_, refl, sym, ap, _∙_}
-use mathlib.Core.List.{List, [], _++_}
+use mathlib.Core.List.{List, [], _∷_, _++_, append-nil}
 use native.Mathlib.Omega.{arith}
 use lib.ListN.{length, drop, length-append}
 use lib.Seq.{take-at}
 use Rattle.wire.specs.declared.Refusal.{Refusal}
-use Rattle.wire.specs.Numbers.{refusal, tooLong}
+use Rattle.wire.specs.Numbers.{refusal, tooLong, noRoom}
 use Rattle.transaction.specs.Signed.{mostBytes}
 use Rattle.transaction.specs.Answer.{checked}
 use Rattle.transaction.specs.declared.Checked.the-variants as C
@@ -15,8 +15,9 @@ use Rattle.upload.specs.declared.Standing.the-variants as S
 use Rattle.upload.specs.declared.Upload.{Upload}
 use Rattle.upload.specs.Calls.{fresh, shown, endCall}
 use Rattle.upload.proofs.Calling.{checked-long, end-stands, end-checked}
-use Rattle.upload_theorems.specs.Pieces.{whole, after, answer, ended, Fits, CutFreely}
+use Rattle.upload_theorems.specs.Pieces.{whole, run, after, answer, ended, Fits, CutFreely}
 use Rattle.upload.proofs.Showing.{shown-inv}
+use Rattle.upload_theorems.proofs.Answering.{upload-owes}
 use Rattle.upload_theorems.proofs.Running.{held, run-stood, run-append, run-more, run-answer, empty-more}
 
 module _ (most : ℕ) where
@@ -52,6 +53,28 @@ module _ (most : ℕ) where
       go : (x : Standing) → answer most s ps ≡ x → (e : Refusal) × (ended most s ps ≡ C.Refused e)
       go S.NeedMore q = (refusal tooLong 0, ended-more s ps q ∙ checked-long most (whole ps) h)
       go (S.Refused e) q = (e, end-refused s ps e q)
+
+  -- ---- one piece
+
+  -- over a store of its length it is answered as the check shows it, and the end as the check
+  pub answer-one : (p : List ℕ) → answer most p (p ∷ []) ≡ shown (checked most p)
+  unfolding run
+  answer-one p = upload-owes most .piece-decides .answered 0 p p (omega arith)
+
+  pub ended-one : (p : List ℕ) → ended most p (p ∷ []) ≡ checked most p
+  ended-one p = go (shown (checked most p)) refl
+    where
+      go : (x : Standing) → shown (checked most p) ≡ x → ended most p (p ∷ []) ≡ checked most p
+      go S.NeedMore q = ended-more p (p ∷ []) (answer-one p ∙ q) ∙ ap (checked most) (append-nil p)
+      go (S.Refused e) q = end-refused p (p ∷ []) e (answer-one p ∙ q) ∙ sym (shown-inv (checked most p) e q .0)
+
+  -- a byte does not fit an empty store
+  pub answer-full : answer most [] ((0 ∷ []) ∷ []) ≡ S.Refused (refusal noRoom 0)
+  unfolding run
+  answer-full = ap (λ (a : Upload × List ℕ). a .0 .standing) (upload-owes most .piece-decides .no-room 0 [] (0 ∷ []) (omega arith))
+
+  pub ended-full : ended most [] ((0 ∷ []) ∷ []) ≡ C.Refused (refusal noRoom 0)
+  ended-full = end-refused [] ((0 ∷ []) ∷ []) (refusal noRoom 0) answer-full
 
   pub cut-freely : CutFreely most
   cut-freely =
