@@ -10,19 +10,19 @@ pub is-sane-spec : {M : Type 1} → statement M
 is-sane-spec =
     tie.close
     (tie.spec
-    (λ c. count-outside (c .before .before .args .w) (omega (arith, c .if1 .taken)))  -- returns
+    (λ c. count-outside (c .before .before .args .writer) (omega (arith, c .if1 .taken)))  -- returns
     (λ c.
     let start : tie.Start = search in
-    count-outside (start .args .w) (omega (arith, c .if2 .taken, c .before .before .before .if1 .left)))  -- returns-2
+    count-outside (start .args .writer) (omega (arith, c .if2 .taken, c .before .before .before .if1 .left)))  -- returns-2
     (λ c.
     let else1 : tie.Else1 = search in
     let start : tie.Start = search in
-    last-outside (start .args .w) (omega
+    last-outside (start .args .writer) (omega
     (arith, c .before .before .if2 .left, else1 .if1 .left)) (c .if3 .taken))  -- returns-3
     (λ c. search needs)  -- cast-result
     (λ c.
     let else1 : tie.Else1 = search in
     let start : tie.Start = search in
-    inside (start .args .w) _ (omega
+    inside (start .args .writer) _ (omega
     (arith, c .before .before .before .if2 .left, else1 .if1 .left))
     (c .before .if3 .left) refl))  -- returns-4

@@ -10,4 +10,4 @@ no-room-spec =
     tie.close
     (tie.spec
     (λ c κs. search needs) (λ c κs. search needs)  -- refuse-requires, refused-requires
-    (λ c. c .refused .ensures ∙ ap (refusedStep (c .before .before .args .w)) (c .before .refuse .ensures)))  -- returns
+    (λ c. c .refused .ensures ∙ ap (refusedStep (c .before .before .args .writer)) (c .before .refuse .ensures)))  -- returns

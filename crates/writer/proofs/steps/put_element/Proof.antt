@@ -13,7 +13,7 @@ put-element-spec =
     (λ c. search needs)  -- enum-known-end
     (λ c.
     let start : tie.Start = search in
-    omega (arith, sane-inv (start .args .w) (start .pre) .1))  -- add-count
+    omega (arith, sane-inv (start .args .writer) (start .pre) .1))  -- add-count
     (λ c. search needs) (λ c κs. search needs) (λ c κs. search needs)  -- cast-put-u32, put-u32-requires, stored-requires
     (λ c. search needs)  -- same-length
     (λ c. search element-refused)  -- returns

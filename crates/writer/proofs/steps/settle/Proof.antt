@@ -31,7 +31,7 @@ settle-spec =
     let a = start .args in
     omega (
       arith,
-      settle-place (a .w) (a .buf .now) (a .first .now) (a .second .now) (a .opens) (a .from) _ (counted .counts-of .ensures) _ _
+      settle-place (a .writer) (a .buf .now) (a .first .now) (a .second .now) (a .opens) (a .from) _ (counted .counts-of .ensures) _ _
           (at-store .store .ensures) _ (c .before .end .given .1),
     ))  -- sub-t18
     (λ c κs. search needs) (λ c. search needs)  -- stored-requires, same-length
