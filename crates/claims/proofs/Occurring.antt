@@ -165,7 +165,7 @@ PieceOf n = (s p : List ℕ) × Bytes s × Bytes p × (standingNumber (answer me
 piece-occurs : (n : ℕ) → OneOf n pieceNumbers → PieceOf n
 unfolding PieceOf
 piece-occurs n h =
-    behind PieceOf 14 n refusals ([], 0 ∷ [], tt, (omega arith, tt), ap standingNumber (answer-full memoMost))
+    first-or PieceOf 14 n refusals ([], 0 ∷ [], tt, (omega arith, tt), ap standingNumber (answer-full memoMost))
     (λ r. let (s, e, b, c, k) = refused-by n r in
     let q : checked memoMost s ≡ C.Refused e = ap (λ o. onResult o C.Refused (λ v m. C.Accepted (Answer.layout memoMost (v .0)) m)) c in
     (s, s, b, b, ap standingNumber (answer-one memoMost s ∙ ap shown q) ∙ shown-number e ∙ k))
@@ -177,7 +177,7 @@ EndOf n = (s p : List ℕ) × Bytes s × Bytes p × (checkedNumber (ended memoMo
 end-occurs : (n : ℕ) → OneOf n endNumbers → EndOf n
 unfolding EndOf
 end-occurs n h =
-    behind EndOf 14 n checkNumbers ([], 0 ∷ [], tt, (omega arith, tt), ap checkedNumber (ended-full memoMost))
+    first-or EndOf 14 n checkNumbers ([], 0 ∷ [], tt, (omega arith, tt), ap checkedNumber (ended-full memoMost))
     (λ r. let (s, b, k) = check-occurs n r in (s, s, b, b, ap checkedNumber (ended-one memoMost s) ∙ k))
     (contained (14 ∷ checkNumbers) endNumbers refl n h)
 
