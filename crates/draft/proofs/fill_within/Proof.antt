@@ -7,16 +7,10 @@ use Rattle.draft.proofs.fill_within.Tie as tie
 
 pub fill-within-spec : {M : Type 1} → statement M
 fill-within-spec =
-    tie.close
-    (tie.spec
+    tie.close (tie.spec
     (λ c κs. search needs) (λ c. search needs) (λ c. search needs)  -- check-within-requires, enum-known-layout, enum-told
-    (λ c κs. search needs) (λ c. search needs)  -- refused-requires, same-length
-    (λ c. search fill-17)  -- returns
-    (λ c. search start-fits)  -- add-place-of
-    (λ c κs. search needs) (λ c. search needs) (λ c. search needs)  -- place-of-requires, enum-known-at, enum-told-2
-    (λ c κs. search needs) (λ c. search needs)  -- refused-requires-2, same-length-2
-    (λ c. search fill-15)  -- returns-2
-    (λ c κs. search needs) (λ c. search needs)  -- refused-requires-3, same-length-3
-    (λ c. search fill-21)  -- returns-3
-    (λ c κs. search needs) (λ c. search needs)  -- fill-at-requires, same-length-4
-    (λ c. search fill-at))  -- returns-4
+    (λ c κs. search needs) (λ c. search needs) (λ c. search fill-17)  -- refused-requires, same-length, returns
+    (λ c. search start-fits) (λ c κs. search needs) (λ c. search needs) (λ c. search needs)  -- add-place-of, place-of-requires, enum-known-at, enum-told-2
+    (λ c κs. search needs) (λ c. search needs) (λ c. search fill-15)  -- refused-requires-2, same-length-2, returns-2
+    (λ c κs. search needs) (λ c. search needs) (λ c. search fill-21)  -- refused-requires-3, same-length-3, returns-3
+    (λ c κs. search needs) (λ c. search needs) (λ c. search fill-at))  -- fill-at-requires, same-length-4, returns-4

@@ -8,13 +8,10 @@ use Rattle.draft.proofs.merge_alike.Tie as tie
 
 pub merge-alike-spec : {M : Type 1} → statement M
 merge-alike-spec =
-    tie.close
-    (tie.spec
-    (λ c κs. search needs) (λ c. search needs) (λ c κs. search needs)  -- first-clash-requires, enum-known-slot, refused-requires
-    (λ c. search merge-20)  -- returns
-    (λ c. search needs) (λ c κs. search needs)  -- enum-told, refused-requires-2
-    (λ c. search merge-14)  -- returns-2
+    tie.close (tie.spec
+    (λ c κs. search needs) (λ c. search needs)  -- first-clash-requires, enum-known-slot
+    (λ c κs. search needs) (λ c. search merge-20)  -- refused-requires, returns
+    (λ c. search needs) (λ c κs. search needs) (λ c. search merge-14)  -- enum-told, refused-requires-2, returns-2
     (λ c. search needs)  -- slice-relend-prefix-put-merge
     (λ c. sym (length-take-le _ _ (c .before .if1 .left)))  -- slice-aggregate-put-merge
-    (λ c κs. search needs) (λ c. search needs)  -- put-merge-requires, same-length
-    (λ c. search merge-0))  -- returns-3
+    (λ c κs. search needs) (λ c. search needs) (λ c. search merge-0))  -- put-merge-requires, same-length, returns-3

@@ -26,17 +26,12 @@ returns-4 c =
 
 pub merge-within-spec : {M : Type 1} → statement M
 merge-within-spec =
-    tie.close
-    (tie.spec
+    tie.close (tie.spec
     (λ c κs. search needs) (λ c. search needs) (λ c. search needs)  -- check-within-requires, enum-known-layout, enum-told
-    (λ c κs. search needs)  -- refused-requires
-    (λ c. search merge-17)  -- returns
+    (λ c κs. search needs) (λ c. search merge-17)  -- refused-requires, returns
     (λ c κs. search needs) (λ c. search needs) (λ c. search needs)  -- check-within-requires-2, enum-known-other, enum-told-2
-    (λ c κs. search needs)  -- refused-requires-2
-    (λ c. search merge-18)  -- returns-2
+    (λ c κs. search needs) (λ c. search merge-18)  -- refused-requires-2, returns-2
     (λ c κs. search needs) (λ c κs. search needs) (λ c κs. search needs)  -- between-requires, between-requires-2, same-bytes-requires
-    (λ c κs. search needs)  -- refused-requires-3
-    (λ c. search merge-19)  -- returns-3
-    (λ c. search start-fits)  -- add-merge-alike
-    (λ c κs. search needs) (λ c. search needs)  -- merge-alike-requires, same-length
+    (λ c κs. search needs) (λ c. search merge-19)  -- refused-requires-3, returns-3
+    (λ c. search start-fits) (λ c κs. search needs) (λ c. search needs)  -- add-merge-alike, merge-alike-requires, same-length
     returns-4)

@@ -17,7 +17,6 @@ returns c =
 
 pub put-merge-spec : {M : Type 1} → statement M
 put-merge-spec =
-    tie.close
-    (tie.spec
+    tie.close (tie.spec
     (λ c κs. search needs) (λ c κs. search needs) (λ c. search needs)  -- put-bytes-requires, join-slots-requires, same-length
     returns)

@@ -19,14 +19,9 @@ abbrev μ-loop : tie.MeasureT-loop
 
 pub count-spec : {M : Type 1} → statement M
 count-spec =
-    tie.close
-    (tie.spec
-    Inv-loop
-    μ-loop
+    tie.close (tie.spec Inv-loop μ-loop
     (λ c. (omega arith, omega arith))  -- loop-holds
-    (λ c κs. search needs) (λ c. search needs) (λ c. search needs)  -- range-at-requires, enum-known-in-credential, enum-told
-    (λ c. search counting)  -- returns
-    (λ c. search slots-counted)  -- add-slots
-    (λ c. search needs) (λ c. search needs)  -- sub-left, loop-less
-    (λ c. (search counting, search range-ends))  -- loop-again
+    (λ c κs. search needs) (λ c. search needs) (λ c. search needs) (λ c. search counting)  -- range-at-requires, enum-known-in-credential, enum-told, returns
+    (λ c. search slots-counted) (λ c. search needs)  -- add-slots, sub-left
+    (λ c. search needs) (λ c. (search counting, search range-ends))  -- loop-less, loop-again
     (λ c. search counting))  -- returns-2

@@ -6,8 +6,6 @@ use Rattle.draft_slot_table.proofs.filled_at.Tie as tie
 
 pub filled-at-spec : {M : Type 1} → statement M
 filled-at-spec =
-    tie.close
-    (tie.spec
-    (λ c κs. search needs) (λ c κs. search needs)  -- slot-of-requires, is-blank-requires
-    (λ c. search filling)  -- returns
+    tie.close (tie.spec
+    (λ c κs. search needs) (λ c κs. search needs) (λ c. search filling)  -- slot-of-requires, is-blank-requires, returns
     (λ c. search filling))  -- returns-2

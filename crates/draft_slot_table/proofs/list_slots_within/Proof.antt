@@ -7,13 +7,8 @@ use Rattle.draft_slot_table.proofs.list_slots_within.Tie as tie
 
 pub list-slots-within-spec : {M : Type 1} → statement M
 list-slots-within-spec =
-    tie.close
-    (tie.spec
+    tie.close (tie.spec
     (λ c κs. search needs) (λ c. search needs) (λ c. search needs)  -- check-within-requires, enum-known-refusal, enum-known-layout
-    (λ c. search start-fits)  -- add-at
-    (λ c κs. search needs) (λ c κs. search needs)  -- count-requires, refuse-requires
-    (λ c. search listing)  -- returns
-    (λ c κs. (search short, search room))  -- put-slots-requires
-    (λ c. search listing)  -- returns-2
-    (λ c. search needs)  -- same-length
-    (λ c. search listing))  -- returns-3
+    (λ c. search start-fits) (λ c κs. search needs) (λ c κs. search needs) (λ c. search listing)  -- add-at, count-requires, refuse-requires, returns
+    (λ c κs. (search short, search room)) (λ c. search listing)  -- put-slots-requires, returns-2
+    (λ c. search needs) (λ c. search listing))  -- same-length, returns-3

@@ -20,15 +20,11 @@ abbrev μ-loop : tie.MeasureT-loop
 
 pub put-range-spec : {M : Type 1} → statement M
 put-range-spec =
-    tie.close
-    (tie.spec
-    Inv-loop
-    μ-loop
+    tie.close (tie.spec Inv-loop μ-loop
     (λ c. (refl, refl, omega arith, omega arith, omega arith))  -- loop-holds
     (λ c κs. (omega arith, (omega arith, omega arith)))  -- put-row-requires
     (λ c. search needs) (λ c. search needs) (λ c. search needs) (λ c. search needs)  -- add-row-at, add-slot-at, sub-left, loop-less
     (λ c.
     let same = same-length _ _ _ _ (c .before .before .put-row .ensures) in
     (search running, omega arith, omega arith, omega arith, omega arith))  -- loop-again
-    (λ c. search needs)  -- same-length
-    (λ c. search running))  -- returns
+    (λ c. search needs) (λ c. search running))  -- same-length, returns

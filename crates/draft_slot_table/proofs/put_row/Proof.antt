@@ -8,8 +8,7 @@ use Rattle.draft_slot_table.proofs.put_row.Tie as tie
 
 pub put-row-spec : {M : Type 1} → statement M
 put-row-spec =
-    tie.close
-    (tie.spec
+    tie.close (tie.spec
     (λ c. search needs) (λ c. search needs) (λ c. search needs) (λ c. search needs)  -- cast-table, mul-table, slice-write-table, cast-table-2
     (λ c. search needs) (λ c. search needs)  -- add-table, mul-table-2
     (λ c. simp length-set (omega arith))  -- slice-write-table-2

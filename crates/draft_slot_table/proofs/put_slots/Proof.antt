@@ -22,14 +22,10 @@ abbrev μ-loop : tie.MeasureT-loop
 
 pub put-slots-spec : {M : Type 1} → statement M
 put-slots-spec =
-    tie.close
-    (tie.spec
-    Inv-loop
-    μ-loop
+    tie.close (tie.spec Inv-loop μ-loop
     (λ c. (refl, refl, omega arith, omega arith))  -- loop-holds
     (λ c κs. search needs) (λ c. search needs) (λ c. search needs)  -- range-at-requires, enum-known-slots-at, enum-told
-    (λ c. search needs)  -- same-length
-    (λ c. search slotting)  -- returns
+    (λ c. search needs) (λ c. search slotting)  -- same-length, returns
     (λ c κs. (omega arith, (search rows-fit, (search range-starts, search range-fits))))  -- put-range-requires
     (λ c. search row-numbers)  -- mul-rows-at
     (λ c.
@@ -38,8 +34,7 @@ put-slots-spec =
     let here = (let found : tie.After-slots-at Inv-loop μ-loop = search in found .slots-at .given .1) in
     let more = left-after _ (l .credential) _ _ range (l .left) _ _ _ here (omega arith) in
     omega arith)  -- add-rows-at
-    (λ c. search credential-counted)  -- add-credential
-    (λ c. search needs) (λ c. search needs)  -- sub-left, loop-less
+    (λ c. search credential-counted) (λ c. search needs) (λ c. search needs)  -- add-credential, sub-left, loop-less
     (λ c.
     let l = (let turn : tie.At-loop Inv-loop μ-loop = search in turn .loop) in
     let range = (let called : tie.After-range-at Inv-loop μ-loop = search in called .range-at .ensures) in
@@ -47,5 +42,4 @@ put-slots-spec =
     let more = left-after _ (l .credential) _ _ range (l .left) _ _ _ here (omega arith) in
     let same = same-length _ _ _ _ (c .before .before .put-range .ensures) in
     (search slotting, omega arith, omega arith, search credential-ends))  -- loop-again
-    (λ c. search needs)  -- same-length-2
-    (λ c. search slotting))  -- returns-2
+    (λ c. search needs) (λ c. search slotting))  -- same-length-2, returns-2

@@ -10,12 +10,10 @@ use Rattle.element_lengths.proofs.list_past.Tie as tie
 pub list-past-spec : {M : Type 1} → statement M
 unfolding byCount
 list-past-spec =
-    tie.close
-    (tie.spec
-    (λ c κs. search needs) (λ c. search needs) (λ c. search needs)  -- u32-at-requires, enum-known-count, enum-told
-    (λ c κs. search needs)  -- cut-requires
+    tie.close (tie.spec
+    (λ c κs. search needs) (λ c. search needs) (λ c. search needs) (λ c κs. search needs)  -- u32-at-requires, enum-known-count, enum-told, cut-requires
     (λ c. list-answered _ _ _ _ (search passing depth 8))  -- returns
-    (λ c. search (product-fits, value-small))  -- mul-field-at
-    (λ c κs. search needs) (λ c. search needs) (λ c. search needs)  -- field-at-requires, enum-known-refusal, enum-known-next
+    (λ c. search (product-fits, value-small)) (λ c κs. search needs) (λ c. search needs)  -- mul-field-at, field-at-requires, enum-known-refusal
+    (λ c. search needs)  -- enum-known-next
     (λ c. list-answered _ _ _ _ (search passing depth 8))  -- returns-2
     (λ c. list-answered _ _ _ _ (search passing depth 8)))  -- returns-3

@@ -17,13 +17,9 @@ abbrev μ-loop : tie.MeasureT-loop
 
 pub outputs-past-spec : {M : Type 1} → statement M
 outputs-past-spec =
-    tie.close
-    (tie.spec
-    Inv-loop
-    μ-loop
+    tie.close (tie.spec Inv-loop μ-loop
     (λ c. search looping-outputs)  -- loop-holds
     (λ c κs. search needs) (λ c. search needs)  -- output-past-requires, enum-known-refusal
     (λ c fx. passes (nondecreasing (output (fxOutputs fx)) _) _ _ _ (search looping-outputs))  -- returns
-    (λ c. search needs) (λ c. search needs) (λ c. search needs)  -- enum-known-next, sub-left, loop-less
-    (λ c. search looping-outputs)  -- loop-again
+    (λ c. search needs) (λ c. search needs) (λ c. search needs) (λ c. search looping-outputs)  -- enum-known-next, sub-left, loop-less, loop-again
     (λ c fx. passes (nondecreasing (output (fxOutputs fx)) _) _ _ _ (search looping-outputs)))  -- returns-2

@@ -16,13 +16,9 @@ abbrev μ-loop : tie.MeasureT-loop
 
 pub owners-list-past-spec : {M : Type 1} → statement M
 owners-list-past-spec =
-    tie.close
-    (tie.spec
-    Inv-loop
-    μ-loop
+    tie.close (tie.spec Inv-loop μ-loop
     (λ c. search looping)  -- loop-holds
     (λ c κs. search needs) (λ c. search needs)  -- owners-past-requires, enum-known-refusal
     (λ c. passes (unordered owners _) _ _ _ (search looping))  -- returns
-    (λ c. search needs) (λ c. search needs) (λ c. search needs)  -- enum-known-next, sub-left, loop-less
-    (λ c. search looping)  -- loop-again
+    (λ c. search needs) (λ c. search needs) (λ c. search needs) (λ c. search looping)  -- enum-known-next, sub-left, loop-less, loop-again
     (λ c. passes (unordered owners _) _ _ _ (search looping)))  -- returns-2

@@ -7,12 +7,8 @@ use Rattle.element_lengths.proofs.recipients_past.Tie as tie
 
 pub recipients-past-spec : {M : Type 1} → statement M
 recipients-past-spec =
-    tie.close
-    (tie.spec
+    tie.close (tie.spec
     (λ c κs. search needs) (λ c. search needs) (λ c. search needs)  -- u32-at-requires, enum-known-count, enum-told
-    (λ c κs. search needs)  -- cut-requires
-    (λ c. search typed)  -- returns
-    (λ c κs. search needs)  -- owners-list-past-requires
-    (λ c. search typed)  -- returns-2
-    (λ c κs. search needs)  -- owners-past-requires
-    (λ c. search typed))  -- returns-3
+    (λ c κs. search needs) (λ c. search typed)  -- cut-requires, returns
+    (λ c κs. search needs) (λ c. search typed)  -- owners-list-past-requires, returns-2
+    (λ c κs. search needs) (λ c. search typed))  -- owners-past-requires, returns-3

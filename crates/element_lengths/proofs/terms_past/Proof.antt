@@ -9,11 +9,9 @@ use Rattle.element_lengths.proofs.terms_past.Tie as tie
 pub terms-past-spec : {M : Type 1} → statement M
 unfolding andThen
 terms-past-spec =
-    tie.close
-    (tie.spec
+    tie.close (tie.spec
     (λ c κs. search needs) (λ c. search needs) (λ c. search needs)  -- list-past-requires, enum-known-refusal, enum-known-count
-    (λ c κs. search needs) (λ c. search needs) (λ c. search needs)  -- field-at-requires, enum-known-payload, enum-told
-    (λ c κs. search needs)  -- cut-requires
+    (λ c κs. search needs) (λ c. search needs) (λ c. search needs) (λ c κs. search needs)  -- field-at-requires, enum-known-payload, enum-told, cut-requires
     (λ c. terms-answered _ _ (search needs) _ (search passing depth 8))  -- returns
     (λ c κs. search needs) (λ c. search needs) (λ c. search needs)  -- string-past-requires, enum-known-refusal-2, enum-known-next
     (λ c. terms-answered _ _ (search needs) _ (search passing depth 8))  -- returns-2

@@ -15,11 +15,9 @@ abbrev μ-loop : tie.MeasureT-loop
 
 pub print-rows-spec : {M : Type 1} → statement M
 print-rows-spec =
-    tie.close
-    (tie.spec
-    Inv-loop
-    μ-loop
-    (λ c. search needs) (λ c. search needs) (λ c. search needs)  -- loop-holds, sub-if1, returns
+    tie.close (tie.spec Inv-loop μ-loop
+    (λ c. search needs)  -- loop-holds
+    (λ c. search needs) (λ c. search needs)  -- sub-if1, returns
     (λ c. search needs) (λ c. search needs) (λ c. search needs)  -- mul-print-row, shared-slice-read-print-row, add-print-row
     (λ c. search needs) (λ c. search needs) (λ c. search needs)  -- mul-print-row-2, shared-slice-read-print-row-2, add-print-row-2
     (λ c. search needs) (λ c. search needs) (λ c κs. search needs)  -- mul-print-row-3, shared-slice-read-print-row-3, print-row-requires

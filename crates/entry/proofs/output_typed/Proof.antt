@@ -6,8 +6,7 @@ use Rattle.entry.proofs.output_typed.Tie as tie
 
 pub output-typed-spec : {M : Type 1} → statement M
 output-typed-spec =
-    tie.close
-    (tie.spec
+    tie.close (tie.spec
     (λ c κs. search needs) (λ c. search needs) (λ c. search needs) (λ c. search typing depth 12)  -- field-at-requires, enum-known-output-at, enum-told, returns
     (λ c κs. search needs) (λ c. search needs)  -- output-at-requires, enum-told-2
     (λ c. search needs) (λ c. search typing depth 12)  -- enum-known-fields, returns-2

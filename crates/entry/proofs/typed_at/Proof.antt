@@ -6,8 +6,7 @@ use Rattle.entry.proofs.typed_at.Tie as tie
 
 pub typed-at-spec : {M : Type 1} → statement M
 typed-at-spec =
-    tie.close
-    (tie.spec
+    tie.close (tie.spec
     (λ c κs. search needs) (λ c. search passing depth 10)  -- credential-typed-requires, returns
     (λ c κs. search needs) (λ c. search passing depth 10)  -- state-output-typed-requires, returns-2
     (λ c κs. search needs) (λ c. search passing depth 10)  -- operation-typed-requires, returns-3

@@ -6,8 +6,7 @@ use Rattle.entry_fields.proofs.action_at.Tie as tie
 
 pub action-at-spec : {M : Type 1} → statement M
 action-at-spec =
-    tie.close
-    (tie.spec
+    tie.close (tie.spec
     (λ c κs. search needs) (λ c. search needs) (λ c. search needs) (λ c. search finding depth 12)  -- u32-at-requires, enum-known-type-id, enum-told, returns
     (λ c κs. search needs) (λ c. search needs) (λ c. search needs)  -- terms-at-requires, enum-told-2, enum-known-terms
     (λ c κs. search needs) (λ c. search needs)  -- recipients-at-requires, enum-told-3

@@ -6,8 +6,7 @@ use Rattle.entry_fields.proofs.input_at.Tie as tie
 
 pub input-at-spec : {M : Type 1} → statement M
 input-at-spec =
-    tie.close
-    (tie.spec
+    tie.close (tie.spec
     (λ c κs. search needs) (λ c. search needs) (λ c. search needs) (λ c. search finding depth 12)  -- field-at-requires, enum-known-index-at, enum-told, returns
     (λ c κs. search needs) (λ c. search needs) (λ c. search needs) (λ c. search finding depth 12)  -- u32-at-requires, enum-known-index, enum-told-2, returns-2
     (λ c κs. search needs) (λ c. search needs)  -- field-at-requires-2, enum-known-type-at

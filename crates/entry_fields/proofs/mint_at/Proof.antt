@@ -6,7 +6,6 @@ use Rattle.entry_fields.proofs.mint_at.Tie as tie
 
 pub mint-at-spec : {M : Type 1} → statement M
 mint-at-spec =
-    tie.close
-    (tie.spec
+    tie.close (tie.spec
     (λ c κs. search needs) (λ c. search needs) (λ c. search needs) (λ c. search finding depth 12)  -- owners-at-requires, enum-told, enum-known-owners, returns
     (λ c. search finding depth 12))  -- returns-2

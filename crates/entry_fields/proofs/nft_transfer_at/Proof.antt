@@ -6,8 +6,7 @@ use Rattle.entry_fields.proofs.nft_transfer_at.Tie as tie
 
 pub nft-transfer-at-spec : {M : Type 1} → statement M
 nft-transfer-at-spec =
-    tie.close
-    (tie.spec
+    tie.close (tie.spec
     (λ c κs. search needs) (λ c. search needs) (λ c. search needs) (λ c. search finding depth 12)  -- u32-at-requires, enum-known-group, enum-told, returns
     (λ c κs. search needs) (λ c. search needs)  -- u32-at-requires-2, enum-known-payload-length
     (λ c. search needs) (λ c. search finding depth 12)  -- enum-told-2, returns-2

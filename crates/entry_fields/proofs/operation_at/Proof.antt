@@ -7,8 +7,7 @@ use Rattle.entry_fields.proofs.operation_at.Tie as tie
 
 pub operation-at-spec : {M : Type 1} → statement M
 operation-at-spec =
-    tie.close
-    (tie.spec
+    tie.close (tie.spec
     (λ c κs. search needs) (λ c. search needs) (λ c. search needs) (λ c. search finding depth 12)  -- field-at-requires, enum-known-count-at, enum-told, returns
     (λ c κs. search needs) (λ c. search needs)  -- u32-at-requires, enum-known-outputs-count
     (λ c. search needs) (λ c. search finding depth 12)  -- enum-told-2, returns-2

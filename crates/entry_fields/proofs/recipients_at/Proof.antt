@@ -6,8 +6,7 @@ use Rattle.entry_fields.proofs.recipients_at.Tie as tie
 
 pub recipients-at-spec : {M : Type 1} → statement M
 recipients-at-spec =
-    tie.close
-    (tie.spec
+    tie.close (tie.spec
     (λ c κs. search needs) (λ c. search needs)  -- u32-at-requires, enum-known-owners-count
     (λ c. search needs) (λ c. search finding depth 12)  -- enum-told, returns
     (λ c. search finding depth 12)  -- returns-2

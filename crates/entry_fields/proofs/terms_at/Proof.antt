@@ -7,8 +7,7 @@ use Rattle.entry_fields.proofs.terms_at.Tie as tie
 
 pub terms-at-spec : {M : Type 1} → statement M
 terms-at-spec =
-    tie.close
-    (tie.spec
+    tie.close (tie.spec
     (λ c κs. search needs) (λ c. search needs)  -- u32-at-requires, enum-known-indices-count
     (λ c. search needs) (λ c. search finding depth 12)  -- enum-told, returns
     (λ c. search (needs, product-fits, value-small)) (λ c κs. search needs) (λ c. search needs)  -- mul-field-at, field-at-requires, enum-known-group-at

@@ -6,8 +6,7 @@ use Rattle.entry_fields.proofs.transfer_at.Tie as tie
 
 pub transfer-at-spec : {M : Type 1} → statement M
 transfer-at-spec =
-    tie.close
-    (tie.spec
+    tie.close (tie.spec
     (λ c κs. search needs) (λ c. search needs) (λ c. search needs) (λ c. search finding depth 12)  -- u64-at-requires, enum-known-amount, enum-told, returns
     (λ c κs. search needs) (λ c. search needs)  -- owners-at-requires, enum-told-2
     (λ c. search needs) (λ c. search finding depth 12)  -- enum-known-owners, returns-2

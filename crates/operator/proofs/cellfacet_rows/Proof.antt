@@ -6,7 +6,5 @@ use Rattle.operator.proofs.cellfacet_rows.Tie as tie
 
 pub cellfacet-rows-spec : {M : Type 1} → statement M
 cellfacet-rows-spec =
-    tie.close
-    (tie.spec
-    (λ c κs. search needs) (λ c κs. search needs) (λ c. search needs)  -- check-table-requires, word-requires, same-length
-    (λ c. search answered))  -- returns
+    tie.close (tie.spec
+    (λ c κs. search needs) (λ c κs. search needs) (λ c. search needs) (λ c. search answered))  -- check-table-requires, word-requires, same-length, returns

@@ -6,7 +6,5 @@ use Rattle.operator.proofs.cellfacet_slots.Tie as tie
 
 pub cellfacet-slots-spec : {M : Type 1} → statement M
 cellfacet-slots-spec =
-    tie.close
-    (tie.spec
-    (λ c κs. search needs) (λ c κs. search needs) (λ c. search needs)  -- list-slots-requires, word-requires, same-length
-    (λ c. search answered))  -- returns
+    tie.close (tie.spec
+    (λ c κs. search needs) (λ c κs. search needs) (λ c. search needs) (λ c. search answered))  -- list-slots-requires, word-requires, same-length, returns

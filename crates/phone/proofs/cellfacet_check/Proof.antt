@@ -7,9 +7,6 @@ use Rattle.phone.proofs.cellfacet_check.Tie as tie
 
 pub cellfacet-check-spec : {M : Type 1} → statement M
 cellfacet-check-spec =
-    tie.close
-    (tie.spec
+    tie.close (tie.spec
     (λ c κs. search needs) (λ c. search needs) (λ c. search needs)  -- check-requires, enum-known-end, enum-known-refusal
-    (λ c κs. search refused-small)  -- word-requires
-    (λ c. search packing)  -- returns
-    (λ c. search packing))  -- returns-2
+    (λ c κs. search refused-small) (λ c. search packing) (λ c. search packing))  -- word-requires, returns, returns-2

@@ -7,11 +7,7 @@ use Rattle.phone.proofs.cellfacet_merge.Tie as tie
 
 pub cellfacet-merge-spec : {M : Type 1} → statement M
 cellfacet-merge-spec =
-    tie.close
-    (tie.spec
+    tie.close (tie.spec
     (λ c κs. search needs) (λ c. search needs) (λ c. search needs)  -- merge-requires, enum-known-end, enum-known-refusal
-    (λ c κs. search (called-small, slice-bytes))  -- word-requires
-    (λ c. search needs)  -- same-length
-    (λ c. search merged-packing)  -- returns
-    (λ c. search needs)  -- same-length-2
-    (λ c. search merged-packing))  -- returns-2
+    (λ c κs. search (called-small, slice-bytes)) (λ c. search needs) (λ c. search merged-packing)  -- word-requires, same-length, returns
+    (λ c. search needs) (λ c. search merged-packing))  -- same-length-2, returns-2

@@ -9,11 +9,8 @@ use Rattle.string.proofs.denomination_at.Tie as tie
 pub denomination-at-spec : {M : Type 1} → statement M
 unfolding denomination
 denomination-at-spec =
-    tie.close
-    (tie.spec
+    tie.close (tie.spec
     (λ c κs. search needs) (λ c. search needs) (λ c. search needs)  -- u8-at-requires, enum-known-value, enum-told
-    (λ c κs. search needs)  -- cut-requires
-    (λ c. search reading depth 12)  -- returns
-    (λ c κs. search needs)  -- refuse-requires
-    (λ c. search reading depth 12)  -- returns-2
+    (λ c κs. search needs) (λ c. search reading depth 12)  -- cut-requires, returns
+    (λ c κs. search needs) (λ c. search reading depth 12)  -- refuse-requires, returns-2
     (λ c. search reading depth 12))  -- returns-3

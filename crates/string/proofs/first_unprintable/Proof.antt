@@ -18,15 +18,9 @@ abbrev μ-loop : tie.MeasureT-loop
 
 pub first-unprintable-spec : {M : Type 1} → statement M
 first-unprintable-spec =
-    tie.close
-    (tie.spec
-    Inv-loop
-    μ-loop
+    tie.close (tie.spec Inv-loop μ-loop
     (λ c. unprintable-all _)  -- loop-holds
-    (λ c. search needs)  -- shared-slice-read-if1
-    (λ c. search characters)  -- returns
-    (λ c. search needs)  -- shared-slice-read-if2
-    (λ c. search characters)  -- returns-2
-    (λ c. search needs) (λ c. search needs)  -- add-i, loop-less
-    (λ c. search characters)  -- loop-again
+    (λ c. search needs) (λ c. search characters)  -- shared-slice-read-if1, returns
+    (λ c. search needs) (λ c. search characters)  -- shared-slice-read-if2, returns-2
+    (λ c. search needs) (λ c. search needs) (λ c. search characters)  -- add-i, loop-less, loop-again
     (λ c. search characters))  -- returns-3

@@ -10,20 +10,13 @@ use Rattle.string.proofs.text_at.Tie as tie
 pub text-at-spec : {M : Type 1} → statement M
 unfolding text
 text-at-spec =
-    tie.close
-    (tie.spec
+    tie.close (tie.spec
     (λ c κs. search needs) (λ c. search needs) (λ c. search needs)  -- u16-at-requires, enum-known-length, enum-told
-    (λ c κs. search needs)  -- cut-requires
-    (λ c. search (on-value, on-short, tests) depth 12)  -- returns
-    (λ c κs. search needs)  -- refuse-requires
-    (λ c. search (on-value, on-short, tests) depth 12)  -- returns-2
-    (λ c κs. search needs)  -- refuse-requires-2
-    (λ c. search (on-value, on-short, tests) depth 12)  -- returns-3
+    (λ c κs. search needs) (λ c. search (on-value, on-short, tests) depth 12)  -- cut-requires, returns
+    (λ c κs. search needs) (λ c. search (on-value, on-short, tests) depth 12)  -- refuse-requires, returns-2
+    (λ c κs. search needs) (λ c. search (on-value, on-short, tests) depth 12)  -- refuse-requires-2, returns-3
     (λ c κs. search needs) (λ c. search needs) (λ c. search needs)  -- field-at-requires, enum-known-next, enum-told-2
-    (λ c κs. search needs)  -- cut-requires-2
-    (λ c. search (on-value, on-short, on-part, on-cut, tests) depth 12)  -- returns-4
-    (λ c κs. search needs) (λ c κs. search needs)  -- between-requires, first-unprintable-requires
-    (λ c. search (needs, unprintable-fits))  -- add-t19
-    (λ c κs. search needs)  -- refuse-requires-3
-    (λ c. search (on-value, on-part, tests, if-unprintable) depth 12)  -- returns-5
+    (λ c κs. search needs) (λ c. search (on-value, on-short, on-part, on-cut, tests) depth 12)  -- cut-requires-2, returns-4
+    (λ c κs. search needs) (λ c κs. search needs) (λ c. search (needs, unprintable-fits))  -- between-requires, first-unprintable-requires, add-t19
+    (λ c κs. search needs) (λ c. search (on-value, on-part, tests, if-unprintable) depth 12)  -- refuse-requires-3, returns-5
     (λ c. search (on-value, on-part, tests, if-printable) depth 12))  -- returns-6

@@ -6,10 +6,7 @@ use Rattle.test_exports.proofs.cellfacet_test_fill.Tie as tie
 
 pub cellfacet-test-fill-spec : {M : Type 1} → statement M
 cellfacet-test-fill-spec =
-    tie.close
-    (tie.spec
+    tie.close (tie.spec
     (λ c κs. search needs) (λ c. search needs) (λ c. search needs)  -- fill-requires, enum-known-length, enum-known-refusal
-    (λ c κs. search needs) (λ c. search needs) (λ c. search needs)  -- number-of-requires, cast-t14, same-length
-    (λ c. search filling)  -- returns
-    (λ c. search needs)  -- same-length-2
-    (λ c. search filling))  -- returns-2
+    (λ c κs. search needs) (λ c. search needs) (λ c. search needs) (λ c. search filling)  -- number-of-requires, cast-t14, same-length, returns
+    (λ c. search needs) (λ c. search filling))  -- same-length-2, returns-2

@@ -6,7 +6,6 @@ use Rattle.test_exports.proofs.put.Tie as tie
 
 pub put-spec : {M : Type 1} → statement M
 put-spec =
-    tie.close
-    (tie.spec
+    tie.close (tie.spec
     (λ c. search needs) (λ c. search needs) (λ c. search needs) (λ c. search needs)  -- mul-numbers, slice-write-numbers, same-length, returns
     (λ c. search (put-past, needs)))  -- returns-2

@@ -7,12 +7,11 @@ use Rattle.test_exports.proofs.put_answer.Tie as tie
 
 pub put-answer-spec : {M : Type 1} → statement M
 put-answer-spec =
-    tie.close
-    (tie.spec
-    (λ c. search needs) (λ c κs. search needs) (λ c κs. search needs)  -- enum-known-answer, put-requires, put-requires-2
-    (λ c κs. search needs) (λ c κs. search needs) (λ c κs. search needs)  -- put-requires-3, put-requires-4, put-entry-requires
-    (λ c. search needs) (λ c κs. search needs) (λ c. search needs)  -- enum-known-answer-2, number-of-requires, cast-put
-    (λ c κs. search needs) (λ c κs. search needs) (λ c. search needs)  -- put-requires-5, put-requires-6, same-length
+    tie.close (tie.spec
+    (λ c. search needs) (λ c κs. search needs) (λ c κs. search needs) (λ c κs. search needs)  -- enum-known-answer, put-requires, put-requires-2, put-requires-3
+    (λ c κs. search needs) (λ c κs. search needs) (λ c. search needs)  -- put-requires-4, put-entry-requires, enum-known-answer-2
+    (λ c κs. search needs) (λ c. search needs) (λ c κs. search needs) (λ c κs. search needs)  -- number-of-requires, cast-put, put-requires-5, put-requires-6
+    (λ c. search needs)  -- same-length
     (λ c.
     let fourth : tie.After-put4 = search in
     let third : tie.After-put3 = search in

@@ -6,8 +6,6 @@ use Rattle.test_exports.proofs.put_credential.Tie as tie
 
 pub put-credential-spec : {M : Type 1} → statement M
 put-credential-spec =
-    tie.close
-    (tie.spec
+    tie.close (tie.spec
     (λ c κs. search needs) (λ c κs. search needs) (λ c κs. search needs)  -- put-requires, put-requires-2, put-requires-3
-    (λ c. search needs)  -- same-length
-    (λ c. search put-three))  -- returns
+    (λ c. search needs) (λ c. search put-three))  -- same-length, returns

@@ -7,8 +7,7 @@ use Rattle.test_exports.proofs.put_entry.Tie as tie
 
 pub put-entry-spec : {M : Type 1} → statement M
 put-entry-spec =
-    tie.close
-    (tie.spec
+    tie.close (tie.spec
     (λ c. search needs) (λ c κs. search needs) (λ c κs. search needs)  -- enum-known-entry, put-requires, put-output-requires
     (λ c. search needs) (λ c κs. search needs) (λ c κs. search needs)  -- enum-known-entry-2, put-requires-2, put-input-requires
     (λ c. search needs) (λ c κs. search needs) (λ c κs. search needs)  -- enum-known-entry-3, put-requires-3, put-operation-requires

@@ -6,11 +6,10 @@ use Rattle.test_exports.proofs.put_operation.Tie as tie
 
 pub put-operation-spec : {M : Type 1} → statement M
 put-operation-spec =
-    tie.close
-    (tie.spec
-    (λ c κs. search needs) (λ c κs. search needs) (λ c κs. search needs)  -- put-requires, put-requires-2, put-requires-3
-    (λ c κs. search needs) (λ c κs. search needs) (λ c κs. search needs)  -- put-requires-4, put-requires-5, put-requires-6
-    (λ c κs. search needs) (λ c κs. search needs) (λ c. search needs)  -- put-requires-7, put-recipients-requires, same-length
+    tie.close (tie.spec
+    (λ c κs. search needs) (λ c κs. search needs) (λ c κs. search needs) (λ c κs. search needs)  -- put-requires, put-requires-2, put-requires-3, put-requires-4
+    (λ c κs. search needs) (λ c κs. search needs) (λ c κs. search needs)  -- put-requires-5, put-requires-6, put-requires-7
+    (λ c κs. search needs) (λ c. search needs)  -- put-recipients-requires, same-length
     (λ c.
     let seventh : tie.After-put7 = search in
     let sixth : tie.After-put6 = search in

@@ -7,8 +7,7 @@ use Rattle.test_exports.proofs.put_output.Tie as tie
 
 pub put-output-spec : {M : Type 1} → statement M
 put-output-spec =
-    tie.close
-    (tie.spec
+    tie.close (tie.spec
     (λ c. search needs) (λ c κs. search needs) (λ c κs. search needs)  -- enum-known-fields, put-requires, put-owners-requires
     (λ c. search needs) (λ c κs. search needs) (λ c κs. search needs)  -- enum-known-fields-2, put-requires-2, put-requires-3
     (λ c κs. search needs) (λ c. search needs) (λ c κs. search needs)  -- put-owners-requires-2, enum-known-fields-3, put-requires-4

@@ -7,8 +7,7 @@ use Rattle.test_exports.proofs.put_recipients.Tie as tie
 
 pub put-recipients-spec : {M : Type 1} → statement M
 put-recipients-spec =
-    tie.close
-    (tie.spec
+    tie.close (tie.spec
     (λ c. search needs) (λ c κs. search needs) (λ c κs. search needs)  -- enum-known-recipients, put-requires, put-requires-2
     (λ c κs. search needs) (λ c. search needs) (λ c κs. search needs)  -- put-requires-3, enum-known-recipients-2, put-requires-4
     (λ c κs. search needs) (λ c. search needs)  -- put-owners-requires, same-length

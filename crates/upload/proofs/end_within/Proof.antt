@@ -8,12 +8,8 @@ use Rattle.upload.proofs.end_within.Tie as tie
 
 pub end-within-spec : {M : Type 1} → statement M
 end-within-spec =
-    tie.close
-    (tie.spec
-    (λ c. search needs)  -- enum-known-standing
-    (λ c. search ending)  -- returns
-    (λ c. search needs) (λ c κs. search needs)  -- enum-told, refuse-requires
-    (λ c. search ending)  -- returns-2
+    tie.close (tie.spec
+    (λ c. search needs) (λ c. search ending)  -- enum-known-standing, returns
+    (λ c. search needs) (λ c κs. search needs) (λ c. search ending)  -- enum-told, refuse-requires, returns-2
     (λ c. sym (length-take-le _ _ (c .before .if1 .left)))  -- slice-aggregate-check-within
-    (λ c κs. search needs)  -- check-within-requires
-    (λ c. search ending))  -- returns-3
+    (λ c κs. search needs) (λ c. search ending))  -- check-within-requires, returns-3

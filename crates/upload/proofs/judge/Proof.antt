@@ -12,15 +12,13 @@ inside c = search needs
 
 pub judge-spec : {M : Type 1} → statement M
 judge-spec =
-    tie.close
-    (tie.spec
-    (λ c. search needs) (λ c. search needs) (λ c. search needs)  -- add-end, sub-put-bytes, part-put-bytes-start
-    (λ c. search needs) (λ c κs. search needs) (λ c κs. search needs)  -- part-put-bytes-end, put-bytes-requires, put-at-requires
+    tie.close (tie.spec
+    (λ c. search needs) (λ c. search needs) (λ c. search needs) (λ c. search needs)  -- add-end, sub-put-bytes, part-put-bytes-start, part-put-bytes-end
+    (λ c κs. search needs) (λ c κs. search needs)  -- put-bytes-requires, put-at-requires
     inside  -- slice-reshare-prefix-check-within
     (λ c. sym (length-take-le _ _ (inside (c .before))))  -- slice-aggregate-check-within
     (λ c κs. search needs) (λ c κs. search needs) (λ c. search needs)  -- check-within-requires, shown-requires, enum-told
-    (λ c. search needs) (λ c κs. search needs) (λ c. search needs)  -- enum-known-refusal, put-at-requires-2, same-length
-    (λ c. search needs)  -- same-length-2
+    (λ c. search needs) (λ c κs. search needs) (λ c. search needs) (λ c. search needs)  -- enum-known-refusal, put-at-requires-2, same-length, same-length-2
     (λ c.
     let start : tie.Start = search in
     let a = start .args in

@@ -7,8 +7,7 @@ use Rattle.upload.proofs.judge_any.Tie as tie
 
 pub judge-any-spec : {M : Type 1} → statement M
 judge-any-spec =
-    tie.close
-    (tie.spec
+    tie.close (tie.spec
     (λ c κs. search needs)  -- refused-requires
     (λ c.
     let start : tie.Start = search in

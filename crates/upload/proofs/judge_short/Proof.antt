@@ -11,8 +11,7 @@ inside c = search needs
 
 pub judge-short-spec : {M : Type 1} → statement M
 judge-short-spec =
-    tie.close
-    (tie.spec
+    tie.close (tie.spec
     inside  -- array-borrow-prefix-aside
     (λ c. sym (length-take-le _ _ (inside (c .before))))  -- slice-aggregate-judge
     (λ c κs. let start : tie.Start = search in (start .pre .0, length-take-le _ _ (inside (c .before))))  -- judge-requires

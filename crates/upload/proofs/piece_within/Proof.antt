@@ -7,8 +7,7 @@ use Rattle.upload.proofs.piece_within.Tie as tie
 
 pub piece-within-spec : {M : Type 1} → statement M
 piece-within-spec =
-    tie.close
-    (tie.spec
+    tie.close (tie.spec
     (λ c. search needs) (λ c. search needs)  -- enum-told, enum-told-2
     (λ c.
     let start : tie.Start = search in

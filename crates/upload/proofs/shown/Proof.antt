@@ -6,9 +6,6 @@ use Rattle.upload.proofs.shown.Tie as tie
 
 pub shown-spec : {M : Type 1} → statement M
 shown-spec =
-    tie.close
-    (tie.spec
-    (λ c. search needs) (λ c. search needs) (λ c κs. search needs)  -- enum-told, enum-known-answer, number-of-requires
-    (λ c. search showing)  -- returns
-    (λ c. search showing)  -- returns-2
-    (λ c. search showing))  -- returns-3
+    tie.close (tie.spec
+    (λ c. search needs) (λ c. search needs) (λ c κs. search needs) (λ c. search showing)  -- enum-told, enum-known-answer, number-of-requires, returns
+    (λ c. search showing) (λ c. search showing))  -- returns-2, returns-3

@@ -25,9 +25,7 @@ none-past k n at h l = cases (eqb k 0) refl
 
 pub are-there-spec : {M : Type 1} → statement M
 are-there-spec =
-    tie.close
-    (tie.spec
+    tie.close (tie.spec
     (λ c. search fewer)  -- returns
-    (λ c. search needs)  -- sub-if2
-    (λ c. search none-past)  -- returns-2
+    (λ c. search needs) (λ c. search none-past)  -- sub-if2, returns-2
     (λ c. search enough))  -- returns-3

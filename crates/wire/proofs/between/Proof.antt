@@ -6,8 +6,7 @@ use Rattle.wire.proofs.between.Tie as tie
 
 pub between-spec : {M : Type 1} → statement M
 between-spec =
-    tie.close
-    (tie.spec
+    tie.close (tie.spec
     (λ c. search needs)  -- slice-aggregate-result
     (λ c. part-out _ _ _ (c .before .if1 .taken))  -- returns
     (λ c. search needs)  -- slice-aggregate-result-2

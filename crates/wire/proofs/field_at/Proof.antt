@@ -6,10 +6,6 @@ use Rattle.wire.proofs.field_at.Tie as tie
 
 pub field-at-spec : {M : Type 1} → statement M
 field-at-spec =
-    tie.close
-    (tie.spec
-    (λ c κs. search needs)  -- are-there-requires
-    (λ c. search (needs, room-fits))  -- add-t5
-    (λ c. search leaf)  -- returns
-    (λ c κs. search needs)  -- cut-requires
-    (λ c. search leaf))  -- returns-2
+    tie.close (tie.spec
+    (λ c κs. search needs) (λ c. search (needs, room-fits)) (λ c. search leaf)  -- are-there-requires, add-t5, returns
+    (λ c κs. search needs) (λ c. search leaf))  -- cut-requires, returns-2

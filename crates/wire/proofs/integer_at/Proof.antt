@@ -6,11 +6,7 @@ use Rattle.wire.proofs.integer_at.Tie as tie
 
 pub integer-at-spec : {M : Type 1} → statement M
 integer-at-spec =
-    tie.close
-    (tie.spec
-    (λ c κs. search needs)  -- are-there-requires
-    (λ c κs. search (needs, room-there))  -- value-at-requires
-    (λ c. search (needs, room-fits))  -- add-t6
-    (λ c. search leaf)  -- returns
-    (λ c κs. search needs)  -- cut-requires
-    (λ c. search leaf))  -- returns-2
+    tie.close (tie.spec
+    (λ c κs. search needs) (λ c κs. search (needs, room-there))  -- are-there-requires, value-at-requires
+    (λ c. search (needs, room-fits)) (λ c. search leaf)  -- add-t6, returns
+    (λ c κs. search needs) (λ c. search leaf))  -- cut-requires, returns-2

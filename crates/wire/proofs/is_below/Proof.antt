@@ -15,15 +15,10 @@ abbrev μ-loop : tie.MeasureT-loop
 
 pub is-below-spec : {M : Type 1} → statement M
 is-below-spec =
-    tie.close
-    (tie.spec
-    Inv-loop
-    μ-loop
+    tie.close (tie.spec Inv-loop μ-loop
     (λ c κs. search needs)  -- shorter-requires
     (λ c. below-all _ _)  -- loop-holds
     (λ c. search needs) (λ c. search needs) (λ c. search needs)  -- shared-slice-read-if, shared-slice-read-if-2, shared-slice-read-result
-    (λ c. search needs)  -- shared-slice-read-result-2
-    (λ c. search separating)  -- returns
-    (λ c. search needs) (λ c. search needs)  -- add-i, loop-less
-    (λ c. search separating)  -- loop-again
+    (λ c. search needs) (λ c. search separating)  -- shared-slice-read-result-2, returns
+    (λ c. search needs) (λ c. search needs) (λ c. search separating)  -- add-i, loop-less, loop-again
     (λ c. search separating))  -- returns-2

@@ -7,8 +7,7 @@ use Rattle.wire.proofs.number_of.Tie as tie
 
 pub number-of-spec : {M : Type 1} → statement M
 number-of-spec =
-    tie.close
-    (tie.spec
+    tie.close (tie.spec
     (λ c. search needs) (λ c. search needs) (λ c. search needs) (λ c. search needs)  -- enum-told, enum-told-2, enum-told-3, enum-told-4
     (λ c. search needs) (λ c. search needs) (λ c. search needs) (λ c. search needs)  -- enum-told-5, enum-told-6, enum-told-7, enum-told-8
     (λ c. search needs) (λ c. search needs) (λ c. search needs) (λ c. search needs)  -- enum-told-9, enum-told-10, enum-told-11, enum-told-12

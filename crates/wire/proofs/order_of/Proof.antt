@@ -16,17 +16,10 @@ abbrev μ-loop : tie.MeasureT-loop
 
 pub order-of-spec : {M : Type 1} → statement M
 order-of-spec =
-    tie.close
-    (tie.spec
-    Inv-loop
-    μ-loop
+    tie.close (tie.spec Inv-loop μ-loop
     (λ c. order-all _ _)  -- loop-holds
     (λ c. search comparing)  -- returns
-    (λ c. search needs) (λ c. search needs)  -- shared-slice-read-if2, shared-slice-read-if2-2
-    (λ c. search comparing)  -- returns-2
-    (λ c. search needs) (λ c. search needs)  -- shared-slice-read-if3, shared-slice-read-if3-2
-    (λ c. search comparing)  -- returns-3
-    (λ c. search needs) (λ c. search needs)  -- add-i, loop-less
-    (λ c. search comparing)  -- loop-again
-    (λ c. search comparing)  -- returns-4
-    (λ c. search comparing))  -- returns-5
+    (λ c. search needs) (λ c. search needs) (λ c. search comparing)  -- shared-slice-read-if2, shared-slice-read-if2-2, returns-2
+    (λ c. search needs) (λ c. search needs) (λ c. search comparing)  -- shared-slice-read-if3, shared-slice-read-if3-2, returns-3
+    (λ c. search needs) (λ c. search needs) (λ c. search comparing)  -- add-i, loop-less, loop-again
+    (λ c. search comparing) (λ c. search comparing))  -- returns-4, returns-5

@@ -8,11 +8,8 @@ use Rattle.wire.proofs.put_bytes.Tie as tie
 
 pub put-bytes-spec : {M : Type 1} → statement M
 put-bytes-spec =
-    tie.close
-    (tie.spec
-    (λ c κs. search needs) (λ c. search needs)  -- copy-requires, same-length
-    (λ c. search copy-all)  -- returns
+    tie.close (tie.spec
+    (λ c κs. search needs) (λ c. search needs) (λ c. search copy-all)  -- copy-requires, same-length, returns
     (λ c. simp length-take (omega arith))  -- slice-aggregate-copy
     (λ c κs. simp length-take (omega arith))  -- copy-requires-2
-    (λ c. search needs)  -- same-length-2
-    (λ c. search copy-some))  -- returns-2
+    (λ c. search needs) (λ c. search copy-some))  -- same-length-2, returns-2

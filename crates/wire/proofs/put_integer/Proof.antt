@@ -36,10 +36,7 @@ loop-again c =
 
 pub put-integer-spec : {M : Type 1} → statement M
 put-integer-spec =
-    tie.close
-    (tie.spec
-    Inv-loop
-    μ-loop
+    tie.close (tie.spec Inv-loop μ-loop
     loop-holds
     (λ c. search needs) (λ c. search needs) (λ c. search needs) (λ c. search needs)  -- sub-i, cast-room, slice-write-room, loop-less
     loop-again

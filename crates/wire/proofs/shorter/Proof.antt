@@ -5,6 +5,6 @@ use Rattle.wire.proofs.shorter.Tie as tie
 
 pub shorter-spec : {M : Type 1} → statement M
 shorter-spec =
-    tie.close
-    (tie.spec
-    (λ c. search needs) (λ c. search needs))  -- returns, returns-2
+    tie.close (tie.spec
+    (λ c. search needs)  -- returns
+    (λ c. search needs))  -- returns-2

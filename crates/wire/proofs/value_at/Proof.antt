@@ -18,10 +18,7 @@ abbrev μ-loop : tie.MeasureT-loop
 pub value-at-spec : {M : Type 1} → statement M
 unfolding value
 value-at-spec =
-    tie.close
-    (tie.spec
-    Inv-loop
-    μ-loop
+    tie.close (tie.spec Inv-loop μ-loop
     (λ c. (search needs, refl))  -- loop-holds
     (λ c. search needs) (λ c. search needs)  -- add-byte, shared-slice-read-byte
     (λ c. let l = c .before .before in omega (arith, c .shared-slice-known .given (l .before .args .at + l .loop .i)))  -- cast-byte

@@ -6,8 +6,6 @@ use Rattle.writer_buffer.proofs.put_at.Tie as tie
 
 pub put-at-spec : {M : Type 1} → statement M
 put-at-spec =
-    tie.close
-    (tie.spec
-    (λ c. search needs) (λ c. search needs) (λ c. search needs)  -- add-put-bytes, sub-put-bytes, part-put-bytes-start
-    (λ c. search needs) (λ c κs. search needs) (λ c. search needs)  -- part-put-bytes-end, put-bytes-requires, same-length
-    (λ c. search bytes-back))  -- returns
+    tie.close (tie.spec
+    (λ c. search needs) (λ c. search needs) (λ c. search needs) (λ c. search needs)  -- add-put-bytes, sub-put-bytes, part-put-bytes-start, part-put-bytes-end
+    (λ c κs. search needs) (λ c. search needs) (λ c. search bytes-back))  -- put-bytes-requires, same-length, returns

@@ -22,10 +22,7 @@ abbrev μ-loop : tie.MeasureT-loop
 
 pub put-integers-spec : {M : Type 1} → statement M
 put-integers-spec =
-    tie.close
-    (tie.spec
-    Inv-loop
-    μ-loop
+    tie.close (tie.spec Inv-loop μ-loop
     (λ c. (refl, omega arith, omega arith, refl))  -- loop-holds
     (λ c. search needs) (λ c. search needs)  -- mul-put-u32, shared-slice-read-put-u32
     (λ c.

@@ -7,8 +7,7 @@ use Rattle.writer_buffer.proofs.put_u32.Tie as tie
 
 pub put-u32-spec : {M : Type 1} → statement M
 put-u32-spec =
-    tie.close
-    (tie.spec
+    tie.close (tie.spec
     (λ c. let a = c .before .before .args in not-there (a .buf .now) (a .at) (a .value) (omega (arith, c .if1 .taken)))  -- returns
     (λ c. search needs)  -- sub-if2
     (λ c. let a = c .before .before .before .args in not-there (a .buf .now) (a .at) (a .value)

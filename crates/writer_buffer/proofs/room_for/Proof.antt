@@ -9,8 +9,7 @@ use Rattle.writer_buffer.proofs.room_for.Tie as tie
 
 pub room-for-spec : {M : Type 1} → statement M
 room-for-spec =
-    tie.close
-    (tie.spec
+    tie.close (tie.spec
     (λ c κs. search needs)  -- refuse-step-requires
     (λ c. let a = c .before .before .args in c .refuse-step .ensures ∙ no-room (a .at + a .width) (a .limit) (omega (arith, c .before .if1 .taken)))  -- returns
     (λ c κs. search needs)  -- refuse-step-requires-2

@@ -7,8 +7,7 @@ use Rattle.writer_buffer.proofs.room_of.Tie as tie
 
 pub room-of-spec : {M : Type 1} → statement M
 room-of-spec =
-    tie.close
-    (tie.spec
+    tie.close (tie.spec
     (λ c κs. search needs)  -- refuse-step-requires
     (λ c.
     let start : tie.Start = search in
@@ -27,8 +26,7 @@ room-of-spec =
     let a = start .args in
     c .refuse-step3 .ensures
     ∙ integers-long (a .first .now) (a .second .now) (a .numbers .now) (a .at) (a .limit) (c .before .if3 .taken))  -- returns-3
-    (λ c. search needs) (λ c. search needs) (λ c. search needs)  -- add-room-for, mul-room-for, add-room-for-2
-    (λ c κs. search needs)  -- room-for-requires
+    (λ c. search needs) (λ c. search needs) (λ c. search needs) (λ c κs. search needs)  -- add-room-for, mul-room-for, add-room-for-2, room-for-requires
     (λ c.
     let start : tie.Start = search in
     let a = start .args in

@@ -22,10 +22,9 @@ sum allowed =
 
 pub store-spec : {M : Type 1} → statement M
 store-spec =
-    tie.close
-    (tie.spec
-    (λ c κs. search needs) (λ c. search needs) (λ c. search needs)  -- room-of-requires, enum-known-refusal, enum-told
-    (λ c κs. search room-made)  -- put-all-requires
+    tie.close (tie.spec
+    (λ c κs. search needs) (λ c. search needs)  -- room-of-requires, enum-known-refusal
+    (λ c. search needs) (λ c κs. search room-made)  -- enum-told, put-all-requires
     (λ c. let allowed : tie.After-enum-told = search in omega (arith, sum allowed))  -- add-t14
     (λ c. let allowed : tie.After-enum-told = search in omega (arith, sum allowed))  -- add-t16
     (λ c. search needs)  -- mul-t18

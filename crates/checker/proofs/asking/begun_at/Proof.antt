@@ -6,8 +6,7 @@ use Rattle.checker.proofs.asking.begun_at.Tie as tie
 
 pub begun-at-spec : {M : Type 1} → statement M
 begun-at-spec =
-    tie.close
-    (tie.spec
+    tie.close (tie.spec
     (λ c κs. search needs) (λ c. search needs) (λ c. search needs) (λ c. search needs)  -- due-at-requires, enum-told, enum-told-2, enum-known-list
     (λ c κs. search needs) (λ c. search needs) (λ c κs. search needs)  -- list-begun-requires, enum-known-field, field-past-requires
     (λ c κs. search needs) (λ c. search beginning depth 12)  -- field-credential-requires, returns

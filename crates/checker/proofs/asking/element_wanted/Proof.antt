@@ -6,8 +6,7 @@ use Rattle.checker.proofs.asking.element_wanted.Tie as tie
 
 pub element-wanted-spec : {M : Type 1} → statement M
 element-wanted-spec =
-    tie.close
-    (tie.spec
+    tie.close (tie.spec
     (λ c κs. search needs) (λ c. search needs)  -- asking-past-requires, enum-known-signatures
     (λ c. search needs) (λ c. search element-unread depth 12)  -- enum-told, returns
     (λ c. search needs) (λ c. search element-wanted depth 12))  -- sub-t6, returns-2

@@ -16,10 +16,7 @@ abbrev μ-loop : tie.MeasureT-loop
 
 pub next-wanted-spec : {M : Type 1} → statement M
 next-wanted-spec =
-    tie.close
-    (tie.spec
-    Inv-loop
-    μ-loop
+    tie.close (tie.spec Inv-loop μ-loop
     (λ c. search nexts)  -- loop-holds
     (λ c κs. search needs) (λ c. search needs) (λ c. search nexts)  -- begun-at-requires, enum-told, returns
     (λ c. search needs) (λ c. search nexts) (λ c. search nexts)  -- enum-known-credential, add-t16, returns-2

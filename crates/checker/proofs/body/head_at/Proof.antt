@@ -9,8 +9,7 @@ use Rattle.checker.proofs.body.head_at.Tie as tie
 pub head-at-spec : {M : Type 1} → statement M
 unfolding head constant
 head-at-spec =
-    tie.close
-    (tie.spec
+    tie.close (tie.spec
     (λ c κs. search needs) (λ c. search needs) (λ c. search needs)  -- u16-at-requires, enum-known-codec, enum-told
     (λ c κs. search needs) (λ c. search heading depth 12)  -- cut-requires, returns
     (λ c κs. search needs) (λ c. search heading depth 12)  -- refuse-requires, returns-2

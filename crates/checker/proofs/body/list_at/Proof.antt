@@ -8,8 +8,7 @@ use Rattle.checker.proofs.body.list_at.Tie as tie
 pub list-at-spec : {M : Type 1} → statement M
 unfolding atLeast
 list-at-spec =
-    tie.close
-    (tie.spec
+    tie.close (tie.spec
     (λ c κs. search needs) (λ c. search needs) (λ c. search needs)  -- u32-at-requires, enum-known-count, enum-told
     (λ c κs. search needs) (λ c. search listing depth 12)  -- cut-requires, returns
     (λ c κs. search needs) (λ c. search listing depth 12)  -- refuse-requires, returns-2

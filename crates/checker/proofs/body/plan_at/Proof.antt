@@ -21,10 +21,7 @@ abbrev μ-loop : tie.MeasureT-loop
 
 pub plan-at-spec : {M : Type 1} → statement M
 plan-at-spec =
-    tie.close
-    (tie.spec
-    Inv-loop
-    μ-loop
+    tie.close (tie.spec Inv-loop μ-loop
     (λ c. (omega arith, refl))  -- loop-holds
     (λ c κs. search needs) (λ c. search needs) (λ c. search turns)  -- segment-at-requires, enum-told, returns
     (λ c. search needs) (λ c. search turns)  -- enum-known-refusal, returns-2

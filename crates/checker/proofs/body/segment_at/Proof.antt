@@ -6,8 +6,7 @@ use Rattle.checker.proofs.body.segment_at.Tie as tie
 
 pub segment-at-spec : {M : Type 1} → statement M
 segment-at-spec =
-    tie.close
-    (tie.spec
+    tie.close (tie.spec
     (λ c κs. search needs) (λ c. search needs) (λ c. search needs) (λ c. search needs)  -- due-at-requires, enum-told, enum-told-2, enum-known-field
     (λ c κs. search needs) (λ c. search needs) (λ c. search needs)  -- field-end-requires, enum-known-refusal, enum-known-next
     (λ c κs. search needs) (λ c. search passing depth 12)  -- field-credential-requires, returns

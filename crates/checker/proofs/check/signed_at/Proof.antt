@@ -6,8 +6,7 @@ use Rattle.checker.proofs.check.signed_at.Tie as tie
 
 pub signed-at-spec : {M : Type 1} → statement M
 signed-at-spec =
-    tie.close
-    (tie.spec
+    tie.close (tie.spec
     (λ c κs. search needs) (λ c. search needs) (λ c. search needs)  -- credentials-at-requires, enum-known-refusal, enum-known-end
     (λ c κs. search needs) (λ c. search signing depth 12)  -- refuse-requires, returns
     (λ c. search signing depth 12) (λ c. search signing depth 12))  -- returns-2, returns-3

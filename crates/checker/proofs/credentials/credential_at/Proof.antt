@@ -10,8 +10,7 @@ use Rattle.checker.proofs.credentials.credential_at.Tie as tie
 pub credential-at-spec : {M : Type 1} → statement M
 unfolding pieces constant
 credential-at-spec =
-    tie.close
-    (tie.spec
+    tie.close (tie.spec
     (λ c κs. search needs) (λ c. search needs) (λ c. search needs)  -- u32-at-requires, enum-known-found, enum-told
     (λ c κs. search needs) (λ c. search piecewise depth 12)  -- cut-requires, returns
     (λ c κs. search needs) (λ c. search piecewise depth 12)  -- refuse-requires, returns-2

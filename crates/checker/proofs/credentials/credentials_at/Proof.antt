@@ -6,8 +6,7 @@ use Rattle.checker.proofs.credentials.credentials_at.Tie as tie
 
 pub credentials-at-spec : {M : Type 1} → statement M
 credentials-at-spec =
-    tie.close
-    (tie.spec
+    tie.close (tie.spec
     (λ c κs. search needs) (λ c. search needs) (λ c. search needs)  -- u32-at-requires, enum-known-count, enum-told
     (λ c κs. search needs) (λ c. search counted-short depth 12)  -- cut-requires, returns
     (λ c κs. search needs) (λ c. search counted-other depth 12)  -- refuse-requires, returns-2

@@ -16,10 +16,7 @@ abbrev μ-loop : tie.MeasureT-loop
 
 pub first-cut-spec : {M : Type 1} → statement M
 first-cut-spec =
-    tie.close
-    (tie.spec
-    Inv-loop
-    μ-loop
+    tie.close (tie.spec Inv-loop μ-loop
     (λ c. refl)  -- loop-holds
     (λ c κs. search needs) (λ c. search needs) (λ c. search needs)  -- field-at-requires, enum-known-next, enum-told
     (λ c κs. search needs) (λ c. search (cut-on, on-part, on-cut) depth 8)  -- cut-requires, returns

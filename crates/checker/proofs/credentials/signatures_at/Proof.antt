@@ -7,8 +7,7 @@ use Rattle.checker.proofs.credentials.signatures_at.Tie as tie
 
 pub signatures-at-spec : {M : Type 1} → statement M
 signatures-at-spec =
-    tie.close
-    (tie.spec
+    tie.close (tie.spec
     (λ c. search signatures-fit) (λ c κs. search needs) (λ c. search needs) (λ c. search needs)  -- mul-field-at, field-at-requires, enum-known-next, enum-told
     (λ c κs. search needs) (λ c. search signatures-all)  -- first-cut-requires, returns
     (λ c. search signatures-cut))  -- returns-2

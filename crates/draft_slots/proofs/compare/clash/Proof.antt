@@ -6,11 +6,7 @@ use Rattle.draft_slots.proofs.compare.clash.Tie as tie
 
 pub clash-spec : {M : Type 1} → statement M
 clash-spec =
-    tie.close
-    (tie.spec
-    (λ c κs. search needs)  -- is-blank-requires
-    (λ c. search clashing)  -- returns
-    (λ c κs. search needs)  -- is-blank-requires-2
-    (λ c. search clashing)  -- returns-2
-    (λ c κs. search needs)  -- same-bytes-requires
-    (λ c. search clashing))  -- returns-3
+    tie.close (tie.spec
+    (λ c κs. search needs) (λ c. search clashing)  -- is-blank-requires, returns
+    (λ c κs. search needs) (λ c. search clashing)  -- is-blank-requires-2, returns-2
+    (λ c κs. search needs) (λ c. search clashing))  -- same-bytes-requires, returns-3

@@ -6,8 +6,6 @@ use Rattle.draft_slots.proofs.compare.is_blank.Tie as tie
 
 pub is-blank-spec : {M : Type 1} → statement M
 is-blank-spec =
-    tie.close
-    (tie.spec
+    tie.close (tie.spec
     (λ c. search slotted)  -- returns
-    (λ c. search needs) (λ c κs. search needs)  -- slice-aggregate-same-run, same-block-requires
-    (λ c. search slotted))  -- returns-2
+    (λ c. search needs) (λ c κs. search needs) (λ c. search slotted))  -- slice-aggregate-same-run, same-block-requires, returns-2

@@ -17,12 +17,8 @@ abbrev μ-loop : tie.MeasureT-loop
 
 pub same-block-spec : {M : Type 1} → statement M
 same-block-spec =
-    tie.close
-    (tie.spec
-    Inv-loop
-    μ-loop
+    tie.close (tie.spec Inv-loop μ-loop
     (λ c. same-all _ _)  -- loop-holds
     (λ c. search needs) (λ c. search needs) (λ c. search needs)  -- shared-slice-read-all, shared-slice-read-all-2, add-i
-    (λ c. search needs)  -- loop-less
-    (λ c. search same-on)  -- loop-again
+    (λ c. search needs) (λ c. search same-on)  -- loop-less, loop-again
     (λ c. search same-end))  -- returns

@@ -17,18 +17,14 @@ abbrev μ-loop : tie.MeasureT-loop
 
 pub same-bytes-spec : {M : Type 1} → statement M
 same-bytes-spec =
-    tie.close
-    (tie.spec
-    Inv-loop
-    μ-loop
+    tie.close (tie.spec Inv-loop μ-loop
     (λ c. search differ-length)  -- returns
     (λ c. (same-whole _ _, omega arith))  -- loop-holds
     (λ c. search needs) (λ c. search needs) (λ c. search needs) (λ c. search needs)  -- sub-loop, add-same-run, sub-same-run, part-same-run-start
-    (λ c. search needs) (λ c. search needs) (λ c. search needs)  -- part-same-run-end, add-same-run-2, sub-same-run-2
-    (λ c. search needs) (λ c. search needs)  -- part-same-run-start-2, part-same-run-end-2
+    (λ c. search needs) (λ c. search needs) (λ c. search needs) (λ c. search needs)  -- part-same-run-end, add-same-run-2, sub-same-run-2, part-same-run-start-2
+    (λ c. search needs)  -- part-same-run-end-2
     (λ c κs. simp (length-take, length-drop) (omega arith))  -- same-block-requires
-    (λ c. search needs) (λ c. search needs)  -- add-i, loop-less
-    (λ c. (search block-same, omega arith))  -- loop-again
+    (λ c. search needs) (λ c. search needs) (λ c. (search block-same, omega arith))  -- add-i, loop-less, loop-again
     (λ c. search block-differs)  -- returns-2
     (λ c. search needs) (λ c. search needs) (λ c. search needs)  -- sub-same-run-3, part-same-run-start-3, part-same-run-end-3
     (λ c. search needs) (λ c. search needs) (λ c. search needs)  -- sub-same-run-4, part-same-run-start-4, part-same-run-end-4

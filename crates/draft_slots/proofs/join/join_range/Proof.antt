@@ -19,13 +19,8 @@ abbrev μ-loop : tie.MeasureT-loop
 
 pub join-range-spec : {M : Type 1} → statement M
 join-range-spec =
-    tie.close
-    (tie.spec
-    Inv-loop
-    μ-loop
+    tie.close (tie.spec Inv-loop μ-loop
     (λ c. (refl, omega arith, refl))  -- loop-holds
     (λ c κs. search needs) (λ c κs. search needs) (λ c. search needs) (λ c. search needs)  -- slot-of-requires, join-at-requires, add-slot-at, sub-left
-    (λ c. search needs)  -- loop-less
-    (λ c. (search join-on, omega arith, search needs))  -- loop-again
-    (λ c. search needs)  -- same-length
-    (λ c. search join-end))  -- returns
+    (λ c. search needs) (λ c. (search join-on, omega arith, search needs))  -- loop-less, loop-again
+    (λ c. search needs) (λ c. search join-end))  -- same-length, returns

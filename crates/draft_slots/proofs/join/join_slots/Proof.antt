@@ -16,15 +16,10 @@ abbrev μ-loop : tie.MeasureT-loop
 
 pub join-slots-spec : {M : Type 1} → statement M
 join-slots-spec =
-    tie.close
-    (tie.spec
-    Inv-loop
-    μ-loop
+    tie.close (tie.spec Inv-loop μ-loop
     (λ c. (refl, refl))  -- loop-holds
-    (λ c κs. search needs) (λ c. search needs) (λ c. search needs) (λ c. search needs)  -- range-at-requires, enum-known-slots-at, enum-told, same-length
-    (λ c. search joining-scan)  -- returns
-    (λ c κs. search range-fits)  -- join-range-requires
-    (λ c. search needs) (λ c. search needs)  -- sub-left, loop-less
-    (λ c. (search joining-scan, search needs))  -- loop-again
-    (λ c. search needs)  -- same-length-2
-    (λ c. search joining-scan))  -- returns-2
+    (λ c κs. search needs) (λ c. search needs) (λ c. search needs)  -- range-at-requires, enum-known-slots-at, enum-told
+    (λ c. search needs) (λ c. search joining-scan)  -- same-length, returns
+    (λ c κs. search range-fits) (λ c. search needs)  -- join-range-requires, sub-left
+    (λ c. search needs) (λ c. (search joining-scan, search needs))  -- loop-less, loop-again
+    (λ c. search needs) (λ c. search joining-scan))  -- same-length-2, returns-2

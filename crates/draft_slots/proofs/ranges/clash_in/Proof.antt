@@ -19,13 +19,10 @@ abbrev μ-loop : tie.MeasureT-loop
 
 pub clash-in-spec : {M : Type 1} → statement M
 clash-in-spec =
-    tie.close
-    (tie.spec
-    Inv-loop
-    μ-loop
+    tie.close (tie.spec Inv-loop μ-loop
     (λ c. (refl, omega arith, omega arith))  -- loop-holds
-    (λ c κs. search needs) (λ c κs. search needs) (λ c κs. search needs)  -- slot-of-requires, slot-of-requires-2, clash-requires
-    (λ c. search (clash-is, clashing-range))  -- returns
-    (λ c. search needs) (λ c. search needs) (λ c. search needs) (λ c. search needs)  -- add-slot-at, add-slot, sub-left, loop-less
-    (λ c. (search clashing-range, omega arith, omega arith))  -- loop-again
+    (λ c κs. search needs) (λ c κs. search needs)  -- slot-of-requires, slot-of-requires-2
+    (λ c κs. search needs) (λ c. search (clash-is, clashing-range))  -- clash-requires, returns
+    (λ c. search needs) (λ c. search needs) (λ c. search needs)  -- add-slot-at, add-slot, sub-left
+    (λ c. search needs) (λ c. (search clashing-range, omega arith, omega arith))  -- loop-less, loop-again
     (λ c. search (clash-is, clashing-range)))  -- returns-2

@@ -19,18 +19,12 @@ abbrev μ-loop : tie.MeasureT-loop
 
 pub first-clash-spec : {M : Type 1} → statement M
 first-clash-spec =
-    tie.close
-    (tie.spec
-    Inv-loop
-    μ-loop
+    tie.close (tie.spec Inv-loop μ-loop
     (λ c. (refl, omega arith))  -- loop-holds
-    (λ c κs. search needs) (λ c. search needs) (λ c. search needs)  -- range-at-requires, enum-known-slots-at, enum-told
-    (λ c. search (clash-is, clashing-scan))  -- returns
+    (λ c κs. search needs) (λ c. search needs)  -- range-at-requires, enum-known-slots-at
+    (λ c. search needs) (λ c. search (clash-is, clashing-scan))  -- enum-told, returns
     (λ c κs. search (range-fits, range-starts))  -- clash-in-requires
-    (λ c. search needs)  -- enum-known-conflict
-    (λ c. search (clash-is, clashing-scan))  -- returns-2
-    (λ c. search needs)  -- enum-told-2
-    (λ c. search slots-counted)  -- add-slots-before
-    (λ c. search needs) (λ c. search needs)  -- sub-left, loop-less
-    (λ c. (search clashing-scan, search range-ends))  -- loop-again
+    (λ c. search needs) (λ c. search (clash-is, clashing-scan))  -- enum-known-conflict, returns-2
+    (λ c. search needs) (λ c. search slots-counted) (λ c. search needs)  -- enum-told-2, add-slots-before, sub-left
+    (λ c. search needs) (λ c. (search clashing-scan, search range-ends))  -- loop-less, loop-again
     (λ c. search (clash-is, clashing-scan)))  -- returns-3

@@ -15,16 +15,10 @@ abbrev μ-loop : tie.MeasureT-loop
 
 pub place-of-spec : {M : Type 1} → statement M
 place-of-spec =
-    tie.close
-    (tie.spec
-    Inv-loop
-    μ-loop
+    tie.close (tie.spec Inv-loop μ-loop
     (λ c. refl)  -- loop-holds
-    (λ c κs. search needs) (λ c. search needs) (λ c. search needs)  -- range-at-requires, enum-known-slots-at, enum-told
-    (λ c. search (place-is, placing-scan))  -- returns
-    (λ c. search slot-offset)  -- mul-t16
-    (λ c. search slot-start)  -- add-t17
-    (λ c. search (place-is, placing-scan))  -- returns-2
-    (λ c. search needs) (λ c. search needs) (λ c. search needs)  -- sub-index, sub-left, loop-less
-    (λ c. search placing-scan)  -- loop-again
+    (λ c κs. search needs) (λ c. search needs)  -- range-at-requires, enum-known-slots-at
+    (λ c. search needs) (λ c. search (place-is, placing-scan))  -- enum-told, returns
+    (λ c. search slot-offset) (λ c. search slot-start) (λ c. search (place-is, placing-scan))  -- mul-t16, add-t17, returns-2
+    (λ c. search needs) (λ c. search needs) (λ c. search needs) (λ c. search placing-scan)  -- sub-index, sub-left, loop-less, loop-again
     (λ c. search (place-is, placing-scan)))  -- returns-3

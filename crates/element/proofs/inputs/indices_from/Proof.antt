@@ -24,16 +24,11 @@ abbrev μ-loop : tie.MeasureT-loop
 pub indices-from-spec : {M : Type 1} → statement M
 unfolding guard integer
 indices-from-spec =
-    tie.close
-    (tie.spec
-    Inv-loop
-    μ-loop
+    tie.close (tie.spec Inv-loop μ-loop
     (λ c. (search needs, refl))  -- loop-holds
     (λ c κs. search needs) (λ c. search needs) (λ c. search needs)  -- u32-at-requires, enum-known-index, enum-told
-    (λ c κs. search needs)  -- cut-requires
-    (λ c. search turn depth 10)  -- returns
-    (λ c κs. search needs) (λ c. search needs) (λ c. search needs)  -- integer-follows-requires, sub-left, loop-less
-    (λ c. search (turn, value-small, if-integer-follows) depth 10)  -- loop-again
-    (λ c κs. search needs)  -- refuse-requires
-    (λ c. search (turn, value-small, if-integer-not) depth 10)  -- returns-2
+    (λ c κs. search needs) (λ c. search turn depth 10)  -- cut-requires, returns
+    (λ c κs. search needs) (λ c. search needs)  -- integer-follows-requires, sub-left
+    (λ c. search needs) (λ c. search (turn, value-small, if-integer-follows) depth 10)  -- loop-less, loop-again
+    (λ c κs. search needs) (λ c. search (turn, value-small, if-integer-not) depth 10)  -- refuse-requires, returns-2
     (λ c. search list-end))  -- returns-3

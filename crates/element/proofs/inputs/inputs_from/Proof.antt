@@ -26,20 +26,15 @@ abbrev μ-loop : tie.MeasureT-loop
 pub inputs-from-spec : {M : Type 1} → statement M
 unfolding guard key inputAfter
 inputs-from-spec =
-    tie.close
-    (tie.spec
-    Inv-loop
-    μ-loop
+    tie.close (tie.spec Inv-loop μ-loop
     (λ c. (refl, search needs, inputs-are _ (c .shared-slice-known .given) _ _))  -- loop-holds
-    (λ c κs. search needs) (λ c. search needs) (λ c. search needs) (λ c κs. search needs)  -- field-at-requires, enum-known-index-at, enum-told, cut-requires
-    (λ c. search key-cut depth 10)  -- returns
-    (λ c κs. search needs) (λ c κs. search needs) (λ c. search needs)  -- id-at-requires, u32-at-requires, enum-known-index
-    (λ c. search needs) (λ c κs. search needs)  -- enum-told-2, cut-requires-2
-    (λ c. search key-cut depth 10)  -- returns-2
-    (λ c κs. search needs) (λ c κs. search needs) (λ c. search needs)  -- key-follows-requires, spend-at-requires, enum-known-refusal
-    (λ c. search (key-above, on-spend-refused) depth 10)  -- returns-3
-    (λ c. search needs) (λ c. search needs) (λ c. search needs)  -- enum-known-next, sub-left, loop-less
-    (λ c. (search id-length, search value-small, search (key-above, on-spend, key-again) depth 10))  -- loop-again
-    (λ c κs. search needs)  -- refuse-requires
-    (λ c. search key-not-above depth 10)  -- returns-4
+    (λ c κs. search needs) (λ c. search needs) (λ c. search needs)  -- field-at-requires, enum-known-index-at, enum-told
+    (λ c κs. search needs) (λ c. search key-cut depth 10)  -- cut-requires, returns
+    (λ c κs. search needs) (λ c κs. search needs) (λ c. search needs) (λ c. search needs)  -- id-at-requires, u32-at-requires, enum-known-index, enum-told-2
+    (λ c κs. search needs) (λ c. search key-cut depth 10)  -- cut-requires-2, returns-2
+    (λ c κs. search needs) (λ c κs. search needs)  -- key-follows-requires, spend-at-requires
+    (λ c. search needs) (λ c. search (key-above, on-spend-refused) depth 10)  -- enum-known-refusal, returns-3
+    (λ c. search needs) (λ c. search needs)  -- enum-known-next, sub-left
+    (λ c. search needs) (λ c. (search id-length, search value-small, search (key-above, on-spend, key-again) depth 10))  -- loop-less, loop-again
+    (λ c κs. search needs) (λ c. search key-not-above depth 10)  -- refuse-requires, returns-4
     (λ c. search list-end))  -- returns-5

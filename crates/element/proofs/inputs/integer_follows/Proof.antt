@@ -6,7 +6,5 @@ use Rattle.element.proofs.inputs.integer_follows.Tie as tie
 
 pub integer-follows-spec : {M : Type 1} → statement M
 integer-follows-spec =
-    tie.close
-    (tie.spec
-    (λ c. search follows)  -- returns
-    (λ c. search follows))  -- returns-2
+    tie.close (tie.spec
+    (λ c. search follows) (λ c. search follows))  -- returns, returns-2

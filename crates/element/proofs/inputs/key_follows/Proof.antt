@@ -7,8 +7,6 @@ use Rattle.element.proofs.inputs.key_follows.Tie as tie
 
 pub key-follows-spec : {M : Type 1} → statement M
 key-follows-spec =
-    tie.close
-    (tie.spec
-    (λ c κs. search needs)  -- key-below-requires
-    (λ c. search follows)  -- returns
+    tie.close (tie.spec
+    (λ c κs. search needs) (λ c. search follows)  -- key-below-requires, returns
     (λ c. search follows))  -- returns-2

@@ -19,13 +19,9 @@ abbrev μ-loop : tie.MeasureT-loop
 
 pub operations-from-spec : {M : Type 1} → statement M
 operations-from-spec =
-    tie.close
-    (tie.spec
-    Inv-loop
-    μ-loop
+    tie.close (tie.spec Inv-loop μ-loop
     (λ c. refl)  -- loop-holds
-    (λ c κs. search needs) (λ c. search needs)  -- operation-at-requires, enum-known-refusal
-    (λ c. search (list-on, on-operation-refused) depth 6)  -- returns
+    (λ c κs. search needs) (λ c. search needs) (λ c. search (list-on, on-operation-refused) depth 6)  -- operation-at-requires, enum-known-refusal, returns
     (λ c. search needs) (λ c. search needs) (λ c. search needs)  -- enum-known-next, sub-left, loop-less
     (λ c. search (list-on, on-operation, unordered-again operation) depth 6)  -- loop-again
     (λ c. search list-end))  -- returns-2

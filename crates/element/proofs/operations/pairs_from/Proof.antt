@@ -27,18 +27,13 @@ abbrev μ-loop : tie.MeasureT-loop
 pub pairs-from-spec : {M : Type 1} → statement M
 unfolding guard key
 pairs-from-spec =
-    tie.close
-    (tie.spec
-    Inv-loop
-    μ-loop
+    tie.close (tie.spec Inv-loop μ-loop
     (λ c. (refl, search needs, refl))  -- loop-holds
-    (λ c κs. search needs) (λ c. search needs) (λ c. search needs) (λ c κs. search needs)  -- field-at-requires, enum-known-index-at, enum-told, cut-requires
-    (λ c. search key-cut depth 10)  -- returns
-    (λ c κs. search needs) (λ c κs. search needs) (λ c. search needs)  -- id-at-requires, u32-at-requires, enum-known-index
-    (λ c. search needs) (λ c κs. search needs)  -- enum-told-2, cut-requires-2
-    (λ c. search key-cut depth 10)  -- returns-2
-    (λ c κs. search needs) (λ c. search needs) (λ c. search needs)  -- key-follows-requires, sub-left, loop-less
-    (λ c. search (key-above, key-again) depth 10)  -- loop-again
-    (λ c κs. search needs)  -- refuse-requires
-    (λ c. search key-not-above depth 10)  -- returns-3
+    (λ c κs. search needs) (λ c. search needs) (λ c. search needs)  -- field-at-requires, enum-known-index-at, enum-told
+    (λ c κs. search needs) (λ c. search key-cut depth 10)  -- cut-requires, returns
+    (λ c κs. search needs) (λ c κs. search needs) (λ c. search needs) (λ c. search needs)  -- id-at-requires, u32-at-requires, enum-known-index, enum-told-2
+    (λ c κs. search needs) (λ c. search key-cut depth 10)  -- cut-requires-2, returns-2
+    (λ c κs. search needs) (λ c. search needs)  -- key-follows-requires, sub-left
+    (λ c. search needs) (λ c. search (key-above, key-again) depth 10)  -- loop-less, loop-again
+    (λ c κs. search needs) (λ c. search key-not-above depth 10)  -- refuse-requires, returns-3
     (λ c. search list-end))  -- returns-4

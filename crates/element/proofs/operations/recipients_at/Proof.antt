@@ -9,12 +9,8 @@ use Rattle.element.proofs.operations.recipients_at.Tie as tie
 pub recipients-at-spec : {M : Type 1} → statement M
 unfolding countPrefixed
 recipients-at-spec =
-    tie.close
-    (tie.spec
+    tie.close (tie.spec
     (λ c κs. search needs) (λ c. search needs) (λ c. search needs)  -- u32-at-requires, enum-known-count, enum-told
-    (λ c κs. search needs)  -- cut-requires
-    (λ c. search (reading, if-mint, if-transfer) depth 12)  -- returns
-    (λ c κs. search needs)  -- owners-list-at-requires
-    (λ c. search (reading, if-mint, if-transfer) depth 12)  -- returns-2
-    (λ c κs. search needs)  -- owners-at-requires
-    (λ c. search (reading, if-mint, if-transfer) depth 12))  -- returns-3
+    (λ c κs. search needs) (λ c. search (reading, if-mint, if-transfer) depth 12)  -- cut-requires, returns
+    (λ c κs. search needs) (λ c. search (reading, if-mint, if-transfer) depth 12)  -- owners-list-at-requires, returns-2
+    (λ c κs. search needs) (λ c. search (reading, if-mint, if-transfer) depth 12))  -- owners-at-requires, returns-3

@@ -26,19 +26,15 @@ abbrev μ-loop : tie.MeasureT-loop
 pub states-from-spec : {M : Type 1} → statement M
 unfolding guard initialStateAfter
 states-from-spec =
-    tie.close
-    (tie.spec
-    Inv-loop
-    μ-loop
+    tie.close (tie.spec Inv-loop μ-loop
     (λ c. (search needs, states-are _ (c .shared-slice-known .given) _ _))  -- loop-holds
-    (λ c κs. search needs) (λ c. search needs) (λ c. search needs) (λ c κs. search needs)  -- u32-at-requires, enum-known-fx, enum-told, cut-requires
-    (λ c. search (list-on, on-fx, on-fx-unknown, on-fx-short) depth 10)  -- returns
-    (λ c κs. search needs)  -- refuse-requires
-    (λ c. search (list-on, on-fx, on-fx-unknown) depth 10)  -- returns-2
-    (λ c κs. search needs) (λ c κs. search needs) (λ c. search needs)  -- integer-follows-requires, state-outputs-at-requires, enum-known-refusal
+    (λ c κs. search needs) (λ c. search needs) (λ c. search needs)  -- u32-at-requires, enum-known-fx, enum-told
+    (λ c κs. search needs) (λ c. search (list-on, on-fx, on-fx-unknown, on-fx-short) depth 10)  -- cut-requires, returns
+    (λ c κs. search needs) (λ c. search (list-on, on-fx, on-fx-unknown) depth 10)  -- refuse-requires, returns-2
+    (λ c κs. search needs) (λ c κs. search needs)  -- integer-follows-requires, state-outputs-at-requires
+    (λ c. search needs)  -- enum-known-refusal
     (λ c. search (list-on, on-fx, on-fx-unknown, on-fx-short, if-fx-follows, if-fx-not, on-state-outputs-refused) depth 10)  -- returns-3
-    (λ c. search needs) (λ c. search needs) (λ c. search needs)  -- enum-known-next, sub-left, loop-less
-    (λ c. (search needs, search (list-on, on-fx, if-fx-follows, on-state-outputs, fx-again) depth 10))  -- loop-again
-    (λ c κs. search needs)  -- refuse-requires-2
-    (λ c. search (list-on, on-fx, on-fx-unknown, on-fx-short, if-fx-follows, if-fx-not) depth 10)  -- returns-4
+    (λ c. search needs) (λ c. search needs)  -- enum-known-next, sub-left
+    (λ c. search needs) (λ c. (search needs, search (list-on, on-fx, if-fx-follows, on-state-outputs, fx-again) depth 10))  -- loop-less, loop-again
+    (λ c κs. search needs) (λ c. search (list-on, on-fx, on-fx-unknown, on-fx-short, if-fx-follows, if-fx-not) depth 10)  -- refuse-requires-2, returns-4
     (λ c. search list-end))  -- returns-5

@@ -8,15 +8,11 @@ use Rattle.element.proofs.operations.terms_at.Tie as tie
 pub terms-at-spec : {M : Type 1} → statement M
 unfolding terms
 terms-at-spec =
-    tie.close
-    (tie.spec
+    tie.close (tie.spec
     (λ c κs. search needs) (λ c. search needs) (λ c. search needs)  -- u32-at-requires, enum-known-count, enum-told
-    (λ c κs. search needs)  -- cut-requires
-    (λ c. search reading depth 12)  -- returns
+    (λ c κs. search needs) (λ c. search reading depth 12)  -- cut-requires, returns
     (λ c κs. search needs) (λ c. search needs) (λ c. search needs)  -- indices-from-requires, enum-known-refusal, enum-known-group-at
     (λ c κs. search needs) (λ c. search needs) (λ c. search needs)  -- u32-at-requires-2, enum-known-payload-at, enum-told-2
-    (λ c κs. search needs)  -- cut-requires-2
-    (λ c. search reading depth 12)  -- returns-2
-    (λ c κs. search needs)  -- string-at-requires
-    (λ c. search reading depth 12)  -- returns-3
+    (λ c κs. search needs) (λ c. search reading depth 12)  -- cut-requires-2, returns-2
+    (λ c κs. search needs) (λ c. search reading depth 12)  -- string-at-requires, returns-3
     (λ c. search reading depth 12))  -- returns-4

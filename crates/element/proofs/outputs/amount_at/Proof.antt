@@ -8,11 +8,8 @@ use Rattle.element.proofs.outputs.amount_at.Tie as tie
 pub amount-at-spec : {M : Type 1} → statement M
 unfolding amount
 amount-at-spec =
-    tie.close
-    (tie.spec
+    tie.close (tie.spec
     (λ c κs. search needs) (λ c. search needs) (λ c. search needs)  -- u64-at-requires, enum-known-amount, enum-told
-    (λ c κs. search needs)  -- cut-requires
-    (λ c. search reading depth 12)  -- returns
-    (λ c κs. search needs)  -- refuse-requires
-    (λ c. search reading depth 12)  -- returns-2
+    (λ c κs. search needs) (λ c. search reading depth 12)  -- cut-requires, returns
+    (λ c κs. search needs) (λ c. search reading depth 12)  -- refuse-requires, returns-2
     (λ c. search reading depth 12))  -- returns-3

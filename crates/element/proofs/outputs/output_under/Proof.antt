@@ -7,9 +7,6 @@ use Rattle.element.proofs.outputs.output_under.Tie as tie
 
 pub output-under-spec : {M : Type 1} → statement M
 output-under-spec =
-    tie.close
-    (tie.spec
-    (λ c κs. search needs)  -- secp-at-requires
-    (λ c. search under-secp)  -- returns
-    (λ c κs. search needs)  -- nft-at-requires
-    (λ c. search under-nft))  -- returns-2
+    tie.close (tie.spec
+    (λ c κs. search needs) (λ c. search under-secp)  -- secp-at-requires, returns
+    (λ c κs. search needs) (λ c. search under-nft))  -- nft-at-requires, returns-2

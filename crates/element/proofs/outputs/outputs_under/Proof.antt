@@ -22,13 +22,9 @@ abbrev μ-loop : tie.MeasureT-loop
 
 pub outputs-under-spec : {M : Type 1} → statement M
 outputs-under-spec =
-    tie.close
-    (tie.spec
-    Inv-loop
-    μ-loop
+    tie.close (tie.spec Inv-loop μ-loop
     (λ c. search list-start)  -- loop-holds
-    (λ c κs. search needs) (λ c κs. search needs) (λ c. search needs)  -- output-under-requires, in-order-requires, enum-known-refusal
-    (λ c. search ordering depth 8)  -- returns
-    (λ c. search needs) (λ c. search needs) (λ c. search needs)  -- enum-known-next, sub-left, loop-less
-    (λ c. search ordering depth 8)  -- loop-again
+    (λ c κs. search needs) (λ c κs. search needs)  -- output-under-requires, in-order-requires
+    (λ c. search needs) (λ c. search ordering depth 8)  -- enum-known-refusal, returns
+    (λ c. search needs) (λ c. search needs) (λ c. search needs) (λ c. search ordering depth 8)  -- enum-known-next, sub-left, loop-less, loop-again
     (λ c. search list-end))  -- returns-2

@@ -8,9 +8,7 @@ use Rattle.element.proofs.outputs.transfer_body_at.Tie as tie
 pub transfer-body-at-spec : {M : Type 1} → statement M
 unfolding transferBody
 transfer-body-at-spec =
-    tie.close
-    (tie.spec
+    tie.close (tie.spec
     (λ c κs. search needs) (λ c. search needs) (λ c. search needs)  -- amount-at-requires, enum-known-refusal, enum-known-after-amount
-    (λ c κs. search needs)  -- owners-at-requires
-    (λ c. search reading depth 12)  -- returns
+    (λ c κs. search needs) (λ c. search reading depth 12)  -- owners-at-requires, returns
     (λ c. search reading depth 12))  -- returns-2

@@ -9,14 +9,10 @@ use Rattle.element.proofs.outputs.transferable_at.Tie as tie
 pub transferable-at-spec : {M : Type 1} → statement M
 unfolding transferableOutput
 transferable-at-spec =
-    tie.close
-    (tie.spec
-    (λ c κs. search needs) (λ c. search needs) (λ c. search needs) (λ c κs. search needs)  -- field-at-requires, enum-known-type-at, enum-told, cut-requires
-    (λ c. search reading depth 12)  -- returns
+    tie.close (tie.spec
+    (λ c κs. search needs) (λ c. search needs) (λ c. search needs)  -- field-at-requires, enum-known-type-at, enum-told
+    (λ c κs. search needs) (λ c. search reading depth 12)  -- cut-requires, returns
     (λ c κs. search needs) (λ c. search needs) (λ c. search needs)  -- u32-at-requires, enum-known-type-id, enum-told-2
-    (λ c κs. search needs)  -- cut-requires-2
-    (λ c. search reading depth 12)  -- returns-2
-    (λ c κs. search needs)  -- refuse-requires
-    (λ c. search reading depth 12)  -- returns-3
-    (λ c κs. search needs)  -- transfer-body-at-requires
-    (λ c. search reading depth 12))  -- returns-4
+    (λ c κs. search needs) (λ c. search reading depth 12)  -- cut-requires-2, returns-2
+    (λ c κs. search needs) (λ c. search reading depth 12)  -- refuse-requires, returns-3
+    (λ c κs. search needs) (λ c. search reading depth 12))  -- transfer-body-at-requires, returns-4

@@ -45,23 +45,16 @@ turn c =
 
 pub addresses-from-spec : {M : Type 1} → statement M
 addresses-from-spec =
-    tie.close
-    (tie.spec
-    Inv-loop
-    μ-loop
+    tie.close (tie.spec Inv-loop μ-loop
     (λ c. search no-address)  -- returns
-    (λ c. search needs)  -- sub-left
-    (λ c. search address-first)  -- loop-holds
+    (λ c. search needs) (λ c. search address-first)  -- sub-left, loop-holds
     (λ c κs. search needs) (λ c. search needs) (λ c. search needs)  -- field-at-requires, enum-known-at, enum-told
-    (λ c κs. search needs)  -- cut-requires
-    (λ c. search address-gone)  -- returns-2
+    (λ c κs. search needs) (λ c. search address-gone)  -- cut-requires, returns-2
     (λ c κs. search needs) (λ c. search needs) (λ c. search needs)  -- field-at-requires-2, enum-told-2, enum-told-3
-    (λ c κs. search needs)  -- cut-requires-2
-    (λ c. search address-cut)  -- returns-3
+    (λ c κs. search needs) (λ c. search address-cut)  -- cut-requires-2, returns-3
     (λ c κs. search needs) (λ c κs. search needs) (λ c κs. search needs)  -- address-at-requires, address-at-requires-2, address-below-requires
     (λ c. search needs) (λ c. search needs)  -- sub-left-2, loop-less
     (λ c. turn (c .before) .again (c .if2 .taken))  -- loop-again
     (λ c κs. search needs)  -- refuse-requires
     (λ c. turn (c .before .before) .out-of-order (c .before .if2 .left) _ (c .refuse .ensures))  -- returns-4
-    (λ c κs. search needs)  -- field-at-requires-3
-    (λ c. search address-last))  -- returns-5
+    (λ c κs. search needs) (λ c. search address-last))  -- field-at-requires-3, returns-5

@@ -19,13 +19,9 @@ abbrev μ-loop : tie.MeasureT-loop
 
 pub owners-list-at-spec : {M : Type 1} → statement M
 owners-list-at-spec =
-    tie.close
-    (tie.spec
-    Inv-loop
-    μ-loop
+    tie.close (tie.spec Inv-loop μ-loop
     (λ c. refl)  -- loop-holds
-    (λ c κs. search needs) (λ c. search needs)  -- owners-at-requires, enum-known-refusal
-    (λ c. search (list-on, on-owners-refused) depth 6)  -- returns
+    (λ c κs. search needs) (λ c. search needs) (λ c. search (list-on, on-owners-refused) depth 6)  -- owners-at-requires, enum-known-refusal, returns
     (λ c. search needs) (λ c. search needs) (λ c. search needs)  -- enum-known-next, sub-left, loop-less
     (λ c. search (list-on, on-owners, unordered-again owners) depth 6)  -- loop-again
     (λ c. search list-end))  -- returns-2

@@ -15,10 +15,7 @@ abbrev μ-loop : tie.MeasureT-loop
 
 pub count-spec : {M : Type 1} → statement M
 count-spec =
-    tie.close
-    (tie.spec
-    Inv-loop
-    μ-loop
+    tie.close (tie.spec Inv-loop μ-loop
     (λ c κs. search needs) (λ c. (search needs, search counting))  -- first-requires, loop-holds
     (λ c κs. search needs) (λ c. search needs) (λ c. search counting)  -- advance-requires, enum-told, returns
     (λ c. search needs) (λ c. search moved-less) (λ c. (search needs, search counting))  -- enum-known-next, loop-less, loop-again

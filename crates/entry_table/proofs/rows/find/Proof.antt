@@ -13,10 +13,7 @@ abbrev μ-loop : tie.MeasureT-loop
 
 pub find-spec : {M : Type 1} → statement M
 find-spec =
-    tie.close
-    (tie.spec
-    Inv-loop
-    μ-loop
+    tie.close (tie.spec Inv-loop μ-loop
     (λ c κs. search needs) (λ c. search finding)  -- first-requires, loop-holds
     (λ c κs. search needs) (λ c. search needs) (λ c. search finding)  -- advance-requires, enum-told, returns
     (λ c. search needs) (λ c. search moved-less) (λ c. search finding)  -- enum-known-next, loop-less, loop-again

@@ -12,8 +12,7 @@ use Rattle.entry_table.proofs.rows.put_row.Tie as tie
 pub put-row-spec : {M : Type 1} → statement M
 unfolding putRow
 put-row-spec =
-    tie.close
-    (tie.spec
+    tie.close (tie.spec
     (λ c. search needs) (λ c. search needs) (λ c. search needs) (λ c. search needs)  -- mul-at, mul-table, slice-write-table, cast-table
     (λ c. search needs) (λ c. search needs)  -- add-table, mul-table-2
     (λ c. simp length-set (omega arith))  -- slice-write-table-2

@@ -17,10 +17,7 @@ abbrev μ-loop : tie.MeasureT-loop
 
 pub put-rows-spec : {M : Type 1} → statement M
 put-rows-spec =
-    tie.close
-    (tie.spec
-    Inv-loop
-    μ-loop
+    tie.close (tie.spec Inv-loop μ-loop
     (λ c κs. search needs) (λ c. (search needs, refl, search putting))  -- first-requires, loop-holds
     (λ c κs. search needs) (λ c. search needs) (λ c. search needs) (λ c. search putting)  -- advance-requires, enum-told, same-length, returns
     (λ c. search needs) (λ c. search moved-less) (λ c. (search needs, search needs, search putting))  -- enum-known-next, loop-less, loop-again

@@ -6,8 +6,7 @@ use Rattle.entry_walk.proofs.steps.advance.Tie as tie
 
 pub advance-spec : {M : Type 1} → statement M
 advance-spec =
-    tie.close
-    (tie.spec
+    tie.close (tie.spec
     (λ c κs. search needs) (λ c. search needs) (λ c κs. search needs) (λ c. search needs)  -- due-at-requires, enum-told, advance-later-requires, enum-told-2
     (λ c κs. search needs) (λ c. search needs) (λ c. (search stepping, tt))  -- advance-later-requires-2, enum-told-3, returns
     (λ c κs. search needs) (λ c. search needs)  -- advance-credential-requires, enum-known-list

@@ -7,8 +7,7 @@ use Rattle.entry_walk.proofs.steps.advance_later.Tie as tie
 
 pub advance-later-spec : {M : Type 1} → statement M
 advance-later-spec =
-    tie.close
-    (tie.spec
+    tie.close (tie.spec
     (λ c. (search leading, tt))  -- returns
     (λ c. search needs) (λ c κs. search needs) (λ c. search needs) (λ c. search needs)  -- add-phase, due-at-requires, enum-told, enum-told-2
     (λ c κs. search needs) (λ c. search needs) (λ c κs. search needs)  -- advance-counted-requires, enum-told-3, advance-counted-requires-2

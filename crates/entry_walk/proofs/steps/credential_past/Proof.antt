@@ -10,8 +10,7 @@ use Rattle.entry_walk.proofs.steps.credential_past.Tie as tie
 pub credential-past-spec : {M : Type 1} → statement M
 unfolding andThen signatureWidth
 credential-past-spec =
-    tie.close
-    (tie.spec
+    tie.close (tie.spec
     (λ c κs. search needs) (λ c. search needs) (λ c. search needs)  -- u32-at-requires, enum-known-count-at, enum-told
     (λ c κs. search needs) (λ c. search (on-value, on-short))  -- cut-requires, returns
     (λ c κs. search needs) (λ c. search needs) (λ c. search needs)  -- u32-at-requires-2, enum-known-signatures, enum-told-2

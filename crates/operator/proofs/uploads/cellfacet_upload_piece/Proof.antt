@@ -6,8 +6,6 @@ use Rattle.operator.proofs.uploads.cellfacet_upload_piece.Tie as tie
 
 pub cellfacet-upload-piece-spec : {M : Type 1} → statement M
 cellfacet-upload-piece-spec =
-    tie.close
-    (tie.spec
+    tie.close (tie.spec
     (λ c κs. search needs) (λ c κs. search needs) (λ c κs. search needs)  -- upload-of-requires, piece-requires, standing-word-requires
-    (λ c κs. search needs) (λ c. search needs)  -- piece-word-requires, same-length
-    (λ c. search piece-sent))  -- returns
+    (λ c κs. search needs) (λ c. search needs) (λ c. search piece-sent))  -- piece-word-requires, same-length, returns

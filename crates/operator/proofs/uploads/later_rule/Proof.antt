@@ -7,12 +7,7 @@ use Rattle.operator.proofs.uploads.later_rule.Tie as tie
 pub later-rule-spec : {M : Type 1} → statement M
 unfolding laterRule
 later-rule-spec =
-    tie.close
-    (tie.spec
-    (λ c. search tests depth 20)  -- returns
-    (λ c. search tests depth 20)  -- returns-2
-    (λ c. search tests depth 20)  -- returns-3
-    (λ c. search tests depth 20)  -- returns-4
-    (λ c. search tests depth 20)  -- returns-5
-    (λ c. search tests depth 20)  -- returns-6
+    tie.close (tie.spec
+    (λ c. search tests depth 20) (λ c. search tests depth 20) (λ c. search tests depth 20)  -- returns, returns-2, returns-3
+    (λ c. search tests depth 20) (λ c. search tests depth 20) (λ c. search tests depth 20)  -- returns-4, returns-5, returns-6
     (λ c. search tests depth 20))  -- returns-7

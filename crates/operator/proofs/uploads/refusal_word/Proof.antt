@@ -6,7 +6,6 @@ use Rattle.operator.proofs.uploads.refusal_word.Tie as tie
 
 pub refusal-word-spec : {M : Type 1} → statement M
 refusal-word-spec =
-    tie.close
-    (tie.spec
-    (λ c κs. search needs) (λ c. search needs) (λ c. search needs) (λ c. search needs)  -- number-of-requires, cast-result, mul-result, add-result
-    (λ c. search refusal-packed))  -- returns
+    tie.close (tie.spec
+    (λ c κs. search needs) (λ c. search needs) (λ c. search needs)  -- number-of-requires, cast-result, mul-result
+    (λ c. search needs) (λ c. search refusal-packed))  -- add-result, returns

@@ -6,8 +6,7 @@ use Rattle.plan.proofs.questions.field_at.Tie as tie
 
 pub field-at-spec : {M : Type 1} → statement M
 field-at-spec =
-    tie.close
-    (tie.spec
+    tie.close (tie.spec
     (λ c κs. search needs) (λ c. search needs) (λ c. search needs) (λ c. search needs)  -- due-at-requires, enum-told, enum-told-2, enum-told-3
     (λ c. search needs) (λ c κs. search needs)  -- enum-known-name, field-code-requires
     (λ c κs. search needs) (λ c. search by-due)  -- field-code-requires-2, returns

@@ -6,8 +6,7 @@ use Rattle.plan.proofs.questions.open_at.Tie as tie
 
 pub open-at-spec : {M : Type 1} → statement M
 open-at-spec =
-    tie.close
-    (tie.spec
+    tie.close (tie.spec
     (λ c κs. search needs) (λ c. search needs) (λ c. search needs) (λ c. search needs)  -- due-at-requires, enum-told, enum-told-2, enum-told-3
     (λ c. search needs) (λ c κs. search needs)  -- enum-known-name, list-code-requires
     (λ c κs. search needs) (λ c. search by-due)  -- list-code-requires-2, returns

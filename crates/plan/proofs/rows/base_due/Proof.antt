@@ -5,6 +5,5 @@ use Rattle.plan.proofs.rows.base_due.Tie as tie
 
 pub base-due-spec : {M : Type 1} → statement M
 base-due-spec =
-    tie.close
-    (tie.spec
+    tie.close (tie.spec
     (λ c. search row) (λ c. search row))  -- returns, returns-2

@@ -6,8 +6,7 @@ use Rattle.plan.proofs.rows.element_past.Tie as tie
 
 pub element-past-spec : {M : Type 1} → statement M
 element-past-spec =
-    tie.close
-    (tie.spec
+    tie.close (tie.spec
     (λ c. search needs) (λ c κs. search needs) (λ c κs. search needs)  -- enum-told, transferable-past-requires, silent-requires
     (λ c. search needs) (λ c κs. search needs) (λ c. search needs) (λ c κs. search needs)  -- enum-told-2, input-past-requires, enum-told-3, state-past-requires
     (λ c κs. search needs) (λ c. search needs) (λ c κs. search needs)  -- silent-requires-2, enum-told-4, operation-past-requires

@@ -6,8 +6,7 @@ use Rattle.plan.proofs.rows.elements_from.Tie as tie
 
 pub elements-from-spec : {M : Type 1} → statement M
 elements-from-spec =
-    tie.close
-    (tie.spec
+    tie.close (tie.spec
     (λ c. search needs) (λ c κs. search needs) (λ c. search needs)  -- enum-told, outputs-from-requires, enum-told-2
     (λ c κs. search needs) (λ c. search needs) (λ c κs. search needs)  -- inputs-from-requires, enum-told-3, states-from-requires
     (λ c. search needs) (λ c κs. search needs) (λ c. search needs)  -- enum-told-4, operations-from-requires, enum-told-5

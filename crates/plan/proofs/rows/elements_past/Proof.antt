@@ -12,10 +12,7 @@ abbrev μ-loop : tie.MeasureT-loop
 
 pub elements-past-spec : {M : Type 1} → statement M
 elements-past-spec =
-    tie.close
-    (tie.spec
-    Inv-loop
-    μ-loop
+    tie.close (tie.spec Inv-loop μ-loop
     (λ c. search elements-passing)  -- loop-holds
     (λ c κs. search needs) (λ c. search needs) (λ c. search elements-passing)  -- element-past-requires, enum-known-refusal, returns
     (λ c. search needs) (λ c. search needs) (λ c. search needs) (λ c. search elements-passing)  -- enum-known-next, sub-left, loop-less, loop-again

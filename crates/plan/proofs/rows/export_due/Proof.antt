@@ -5,6 +5,5 @@ use Rattle.plan.proofs.rows.export_due.Tie as tie
 
 pub export-due-spec : {M : Type 1} → statement M
 export-due-spec =
-    tie.close
-    (tie.spec
+    tie.close (tie.spec
     (λ c. search row) (λ c. search row) (λ c. search row) (λ c. search row))  -- returns, returns-2, returns-3, returns-4

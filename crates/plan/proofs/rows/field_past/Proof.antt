@@ -6,8 +6,7 @@ use Rattle.plan.proofs.rows.field_past.Tie as tie
 
 pub field-past-spec : {M : Type 1} → statement M
 field-past-spec =
-    tie.close
-    (tie.spec
+    tie.close (tie.spec
     (λ c. search needs) (λ c κs. search needs) (λ c κs. search needs) (λ c. search needs)  -- enum-told, string-past-requires, place-of-requires, enum-told-2
     (λ c κs. search needs) (λ c κs. search needs) (λ c. search needs)  -- text-past-requires, place-of-requires-2, enum-told-3
     (λ c κs. search needs) (λ c κs. search needs) (λ c. search needs)  -- text-past-requires-2, place-of-requires-3, enum-told-4

@@ -6,8 +6,7 @@ use Rattle.plan.proofs.rows.own_due.Tie as tie
 
 pub own-due-spec : {M : Type 1} → statement M
 own-due-spec =
-    tie.close
-    (tie.spec
+    tie.close (tie.spec
     (λ c κs. search needs) (λ c. search by-type depth 40)  -- base-due-requires, returns
     (λ c κs. search needs) (λ c. search by-type depth 40)  -- asset-due-requires, returns-2
     (λ c κs. search needs) (λ c. search by-type depth 40)  -- operation-due-requires, returns-3

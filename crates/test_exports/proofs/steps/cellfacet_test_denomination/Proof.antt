@@ -8,8 +8,7 @@ use Rattle.test_exports.proofs.steps.cellfacet_test_denomination.Tie as
 
 pub cellfacet-test-denomination-spec : {M : Type 1} → statement M
 cellfacet-test-denomination-spec =
-    tie.close
-    (tie.spec
+    tie.close (tie.spec
     (λ c κs. search needs) (λ c κs. search needs) (λ c κs. search needs)  -- writer-of-requires, denomination-requires, step-numbers-requires
     (λ c. search needs)  -- same-length
     (λ c. search (step-of-one (putDenomination memoMost))))  -- returns

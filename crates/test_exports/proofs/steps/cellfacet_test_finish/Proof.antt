@@ -9,8 +9,7 @@ use Rattle.test_exports.proofs.steps.cellfacet_test_finish.Tie as tie
 
 pub cellfacet-test-finish-spec : {M : Type 1} → statement M
 cellfacet-test-finish-spec =
-    tie.close
-    (tie.spec
+    tie.close (tie.spec
     (λ c κs. search needs) (λ c κs. search needs) (λ c κs. search needs)  -- writer-of-requires, finish-requires, step-numbers-requires
     (λ c. search needs)  -- same-length
     (λ c. search (step-of-none (finish (avm memoMost)))))  -- returns

@@ -8,8 +8,7 @@ use Rattle.test_exports.proofs.steps.cellfacet_test_name.Tie as tie
 
 pub cellfacet-test-name-spec : {M : Type 1} → statement M
 cellfacet-test-name-spec =
-    tie.close
-    (tie.spec
+    tie.close (tie.spec
     (λ c κs. search needs) (λ c κs. search needs) (λ c κs. search needs)  -- writer-of-requires, name-requires, step-numbers-requires
     (λ c. search needs)  -- same-length
     (λ c. search (step-of-one (putName memoMost))))  -- returns

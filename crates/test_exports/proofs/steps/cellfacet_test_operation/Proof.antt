@@ -8,8 +8,7 @@ use Rattle.test_exports.proofs.steps.cellfacet_test_operation.Tie as ti
 
 pub cellfacet-test-operation-spec : {M : Type 1} → statement M
 cellfacet-test-operation-spec =
-    tie.close
-    (tie.spec
+    tie.close (tie.spec
     (λ c κs. search needs) (λ c κs. search needs) (λ c κs. search needs)  -- writer-of-requires, add-operation-requires, step-numbers-requires
     (λ c. search needs)  -- same-length
     (λ c. search (step-of-one (addOperation memoMost))))  -- returns

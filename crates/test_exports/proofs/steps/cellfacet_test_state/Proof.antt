@@ -8,8 +8,7 @@ use Rattle.test_exports.proofs.steps.cellfacet_test_state.Tie as tie
 
 pub cellfacet-test-state-spec : {M : Type 1} → statement M
 cellfacet-test-state-spec =
-    tie.close
-    (tie.spec
+    tie.close (tie.spec
     (λ c κs. search needs) (λ c κs. search needs) (λ c κs. search needs)  -- writer-of-requires, add-initial-state-requires, step-numbers-requires
     (λ c. search needs)  -- same-length
     (λ c. search (step-of-one (addInitialState memoMost))))  -- returns

@@ -9,16 +9,11 @@ use Rattle.writer.proofs.Writer.add_operation.Tie as tie
 pub add-operation-spec : {M : Type 1} → statement M
 unfolding integersBytes
 add-operation-spec =
-    tie.close
-    (tie.spec
-    (λ c κs. search needs) (λ c κs. search needs)  -- is-element-due-requires, not-due-requires
-    (λ c. search element-not)  -- returns
-    (λ c κs. search needs)  -- no-room-requires
-    (λ c. search element-short)  -- returns-2
-    (λ c κs. search needs) (λ c. search needs) (λ c κs. search needs)  -- operation-rules-requires, enum-known-refusal, refused-requires
-    (λ c. search operation-refused)  -- returns-3
+    tie.close (tie.spec
+    (λ c κs. search needs) (λ c κs. search needs) (λ c. search element-not)  -- is-element-due-requires, not-due-requires, returns
+    (λ c κs. search needs) (λ c. search element-short)  -- no-room-requires, returns-2
+    (λ c κs. search needs) (λ c. search needs)  -- operation-rules-requires, enum-known-refusal
+    (λ c κs. search needs) (λ c. search operation-refused)  -- refused-requires, returns-3
     (λ c. search needs) (λ c. search needs) (λ c. search needs)  -- enum-told, slice-aggregate-put-element, array-share-prefix-none
-    (λ c. search needs)  -- slice-aggregate-put-element-2
-    (λ c κs. search element-sane)  -- put-element-requires
-    (λ c. search needs)  -- same-length
-    (λ c. search operation-is))  -- returns-4
+    (λ c. search needs) (λ c κs. search element-sane)  -- slice-aggregate-put-element-2, put-element-requires
+    (λ c. search needs) (λ c. search operation-is))  -- same-length, returns-4

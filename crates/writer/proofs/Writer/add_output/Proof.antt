@@ -9,20 +9,14 @@ use Rattle.writer.proofs.Writer.add_output.Tie as tie
 pub add-output-spec : {M : Type 1} → statement M
 unfolding integersBytes
 add-output-spec =
-    tie.close
-    (tie.spec
-    (λ c κs. search needs) (λ c κs. search needs)  -- is-element-due-requires, not-due-requires
-    (λ c. search element-not)  -- returns
-    (λ c κs. search needs)  -- no-room-requires
-    (λ c. search element-short)  -- returns-2
+    tie.close (tie.spec
+    (λ c κs. search needs) (λ c κs. search needs) (λ c. search element-not)  -- is-element-due-requires, not-due-requires, returns
+    (λ c κs. search needs) (λ c. search element-short)  -- no-room-requires, returns-2
     (λ c κs. search needs) (λ c κs. search needs) (λ c. search needs)  -- last-of-requires, output-rules-requires, enum-known-rules
-    (λ c κs. search needs) (λ c. search needs)  -- refused-requires, same-length
-    (λ c. search output-refused)  -- returns-3
+    (λ c κs. search needs) (λ c. search needs) (λ c. search output-refused)  -- refused-requires, same-length, returns-3
     (λ c. search needs)  -- enum-told
     (λ c.
     let start : tie.Start = search in
     search (needs, output-head-wide, start .good))  -- slice-aggregate-put-element
-    (λ c. search needs) (λ c. search needs)  -- array-share-prefix-none, slice-aggregate-put-element-2
-    (λ c κs. search element-sane)  -- put-element-requires
-    (λ c. search needs)  -- same-length-2
-    (λ c. search output-is))  -- returns-4
+    (λ c. search needs) (λ c. search needs) (λ c κs. search element-sane)  -- array-share-prefix-none, slice-aggregate-put-element-2, put-element-requires
+    (λ c. search needs) (λ c. search output-is))  -- same-length-2, returns-4

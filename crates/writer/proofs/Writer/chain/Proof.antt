@@ -7,14 +7,8 @@ use Rattle.writer.proofs.Writer.chain.Tie as tie
 
 pub chain-spec : {M : Type 1} → statement M
 chain-spec =
-    tie.close
-    (tie.spec
-    (λ c κs. search needs) (λ c κs. search needs)  -- field-at-requires, not-due-requires
-    (λ c. search field-not)  -- returns
-    (λ c κs. search needs)  -- no-room-requires
-    (λ c. search field-short)  -- returns-2
-    (λ c. search needs) (λ c. search needs)  -- array-share-prefix-none, slice-aggregate-put-segment
-    (λ c. search needs)  -- slice-aggregate-put-segment-2
-    (λ c κs. search field-small)  -- put-segment-requires
-    (λ c. search needs)  -- same-length
-    (λ c. search chain-is))  -- returns-3
+    tie.close (tie.spec
+    (λ c κs. search needs) (λ c κs. search needs) (λ c. search field-not)  -- field-at-requires, not-due-requires, returns
+    (λ c κs. search needs) (λ c. search field-short)  -- no-room-requires, returns-2
+    (λ c. search needs) (λ c. search needs) (λ c. search needs)  -- array-share-prefix-none, slice-aggregate-put-segment, slice-aggregate-put-segment-2
+    (λ c κs. search field-small) (λ c. search needs) (λ c. search chain-is))  -- put-segment-requires, same-length, returns-3

@@ -6,19 +6,14 @@ use Rattle.writer.proofs.Writer.close.Tie as tie
 
 pub close-spec : {M : Type 1} → statement M
 close-spec =
-    tie.close
-    (tie.spec
-    (λ c κs. search needs) (λ c. search needs) (λ c κs. search needs)  -- due-at-requires, enum-told, not-due-requires
-    (λ c. search needs) (λ c κs. search needs) (λ c. search needs)  -- enum-told-2, not-due-requires-2, enum-told-3
-    (λ c κs. search needs) (λ c. search needs) (λ c κs. search needs)  -- not-due-requires-3, enum-known-least, no-room-requires
-    (λ c. search close-short)  -- returns
-    (λ c κs. search needs) (λ c. search needs) (λ c κs. search needs)  -- list-rules-requires, enum-known-refusal, refused-requires
-    (λ c. search close-refused)  -- returns-2
+    tie.close (tie.spec
+    (λ c κs. search needs) (λ c. search needs) (λ c κs. search needs) (λ c. search needs)  -- due-at-requires, enum-told, not-due-requires, enum-told-2
+    (λ c κs. search needs) (λ c. search needs) (λ c κs. search needs)  -- not-due-requires-2, enum-told-3, not-due-requires-3
+    (λ c. search needs) (λ c κs. search needs) (λ c. search close-short)  -- enum-known-least, no-room-requires, returns
+    (λ c κs. search needs) (λ c. search needs)  -- list-rules-requires, enum-known-refusal
+    (λ c κs. search needs) (λ c. search close-refused)  -- refused-requires, returns-2
     (λ c. search needs) (λ c. search needs) (λ c. search needs)  -- enum-told-4, array-share-prefix-none, slice-aggregate-put-segment
     (λ c. search needs) (λ c. search needs)  -- array-share-prefix-nothing, slice-aggregate-put-segment-2
-    (λ c κs. search close-small)  -- put-segment-requires
-    (λ c. search close-not)  -- returns-3
-    (λ c. search close-not)  -- returns-4
+    (λ c κs. search close-small) (λ c. search close-not) (λ c. search close-not)  -- put-segment-requires, returns-3, returns-4
     (λ c. search close-not)  -- returns-5
-    (λ c. search needs)  -- same-length
-    (λ c. search close-is))  -- returns-6
+    (λ c. search needs) (λ c. search close-is))  -- same-length, returns-6

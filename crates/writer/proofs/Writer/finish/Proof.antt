@@ -9,8 +9,7 @@ use Rattle.writer.proofs.Writer.finish.Tie as tie
 
 pub finish-spec : {M : Type 1} → statement M
 finish-spec =
-    tie.close
-    (tie.spec
+    tie.close (tie.spec
     (λ c κs. search needs) (λ c κs. search needs)  -- end-at-requires, not-due-requires
     (λ c.
     let start : tie.Start = search in

@@ -10,16 +10,11 @@ use Rattle.writer.proofs.Writer.memo.Tie as tie
 
 pub memo-spec : {M : Type 1} → statement M
 memo-spec =
-    tie.close
-    (tie.spec
-    (λ c κs. search needs) (λ c κs. search needs)  -- field-at-requires, not-due-requires
-    (λ c. search field-not)  -- returns
-    (λ c κs. search needs)  -- no-room-requires
-    (λ c. search field-short)  -- returns-2
-    (λ c κs. search needs) (λ c. search needs) (λ c κs. search needs)  -- memo-rules-requires, enum-known-refusal, refused-requires
-    (λ c. search memo-refused)  -- returns-3
+    tie.close (tie.spec
+    (λ c κs. search needs) (λ c κs. search needs) (λ c. search field-not)  -- field-at-requires, not-due-requires, returns
+    (λ c κs. search needs) (λ c. search field-short)  -- no-room-requires, returns-2
+    (λ c κs. search needs) (λ c. search needs)  -- memo-rules-requires, enum-known-refusal
+    (λ c κs. search needs) (λ c. search memo-refused)  -- refused-requires, returns-3
     (λ c. search needs) (λ c. search needs) (λ c κs. search needs)  -- enum-told, slice-aggregate-put-integer, put-integer-requires
-    (λ c. search needs)  -- slice-aggregate-put-segment
-    (λ c κs. search field-small)  -- put-segment-requires
-    (λ c. search needs)  -- same-length
+    (λ c. search needs) (λ c κs. search field-small) (λ c. search needs)  -- slice-aggregate-put-segment, put-segment-requires, same-length
     (λ c. let k : memoMost < 256 ^ 4 = omega arith in search (memo-is, k)))  -- returns-4

@@ -10,19 +10,16 @@ use Rattle.writer.proofs.Writer.start.Tie as tie
 
 pub start-spec : {M : Type 1} → statement M
 start-spec =
-    tie.close
-    (tie.spec
-    (λ c κs. search needs)  -- not-due-requires
-    (λ c. search start-not)  -- returns
-    (λ c κs. search needs)  -- no-room-requires
-    (λ c. search start-short)  -- returns-2
+    tie.close (tie.spec
+    (λ c κs. search needs) (λ c. search start-not)  -- not-due-requires, returns
+    (λ c κs. search needs) (λ c. search start-short)  -- no-room-requires, returns-2
     (λ c κs. search needs) (λ c. search needs) (λ c κs. search needs)  -- type-rules-requires, enum-known-refusal, refused-requires
     (λ c.
     let start : tie.Start = search in
     search (start-refused, start .good))  -- returns-3
-    (λ c. search needs) (λ c. search needs) (λ c. search needs)  -- enum-told, slice-aggregate-put-integer, mul-put-integer
-    (λ c. search needs) (λ c κs. search needs) (λ c. search needs)  -- add-put-integer, put-integer-requires, slice-aggregate-settle
-    (λ c. search needs) (λ c κs. search needs) (λ c. search needs)  -- slice-aggregate-settle-2, settle-requires, same-length
+    (λ c. search needs) (λ c. search needs) (λ c. search needs) (λ c. search needs)  -- enum-told, slice-aggregate-put-integer, mul-put-integer, add-put-integer
+    (λ c κs. search needs) (λ c. search needs) (λ c. search needs)  -- put-integer-requires, slice-aggregate-settle, slice-aggregate-settle-2
+    (λ c κs. search needs) (λ c. search needs)  -- settle-requires, same-length
     (λ c.
     let b : tie.Start = search in
     let k : b .args .type-id < 256 ^ 4 = omega (arith, b .fits) in

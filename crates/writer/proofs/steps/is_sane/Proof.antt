@@ -8,8 +8,7 @@ use Rattle.writer.proofs.steps.is_sane.Tie as tie
 
 pub is-sane-spec : {M : Type 1} → statement M
 is-sane-spec =
-    tie.close
-    (tie.spec
+    tie.close (tie.spec
     (λ c. count-outside (c .before .before .args .writer) (omega (arith, c .if1 .taken)))  -- returns
     (λ c.
     let start : tie.Start = search in

@@ -6,9 +6,6 @@ use Rattle.writer.proofs.steps.last_of.Tie as tie
 
 pub last-of-spec : {M : Type 1} → statement M
 last-of-spec =
-    tie.close
-    (tie.spec
-    (λ c. search needs)  -- slice-aggregate-result
-    (λ c. search no-last)  -- returns
-    (λ c κs. search needs)  -- between-requires
-    (λ c. search last-there))  -- returns-2
+    tie.close (tie.spec
+    (λ c. search needs) (λ c. search no-last)  -- slice-aggregate-result, returns
+    (λ c κs. search needs) (λ c. search last-there))  -- between-requires, returns-2

@@ -7,7 +7,6 @@ use Rattle.writer.proofs.steps.not_due.Tie as tie
 
 pub not-due-spec : {M : Type 1} → statement M
 not-due-spec =
-    tie.close
-    (tie.spec
+    tie.close (tie.spec
     (λ c κs. search needs) (λ c κs. search needs)  -- refuse-requires, refused-requires
     (λ c. c .refused .ensures ∙ ap (refusedStep (c .before .before .args .writer)) (c .before .refuse .ensures)))  -- returns

@@ -6,8 +6,6 @@ use Rattle.writer.proofs.steps.put_segment.Tie as tie
 
 pub put-segment-spec : {M : Type 1} → statement M
 put-segment-spec =
-    tie.close
-    (tie.spec
+    tie.close (tie.spec
     (λ c. search needs) (λ c κs. search needs) (λ c κs. search needs)  -- add-phase, list-at-requires, settle-requires
-    (λ c. search needs)  -- same-length
-    (λ c. search segment-settled))  -- returns
+    (λ c. search needs) (λ c. search segment-settled))  -- same-length, returns

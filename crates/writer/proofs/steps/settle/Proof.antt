@@ -8,8 +8,7 @@ use Rattle.writer.proofs.steps.settle.Tie as tie
 
 pub settle-spec : {M : Type 1} → statement M
 settle-spec =
-    tie.close
-    (tie.spec
+    tie.close (tie.spec
     (λ c κs. search needs)  -- counts-of-requires
     (λ c.
     let start : tie.Start = search in
@@ -34,7 +33,5 @@ settle-spec =
       settle-place (a .writer) (a .buf .now) (a .first .now) (a .second .now) (a .opens) (a .from) _ (counted .counts-of .ensures) _ _
           (at-store .store .ensures) _ (c .before .end .given .1),
     ))  -- sub-t18
-    (λ c κs. search needs) (λ c. search needs)  -- stored-requires, same-length
-    (λ c. search settle-refused)  -- returns
-    (λ c. search needs)  -- same-length-2
-    (λ c. search settle-done))  -- returns-2
+    (λ c κs. search needs) (λ c. search needs) (λ c. search settle-refused)  -- stored-requires, same-length, returns
+    (λ c. search needs) (λ c. search settle-done))  -- same-length-2, returns-2

@@ -18,8 +18,7 @@ made s f d e y h = ap (λ (r : Refusal). (P.Refused r, s)) e ∙ h
 
 pub append-spec : {M : Type 1} → statement M
 append-spec =
-    tie.close
-    (tie.spec
+    tie.close (tie.spec
     (λ c κs. search needs)  -- refuse-requires
     (λ c.
     let a = c .before .before .before .args in

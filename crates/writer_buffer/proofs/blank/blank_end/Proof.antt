@@ -12,8 +12,7 @@ use Rattle.writer_buffer.proofs.blank.blank_end.Tie as tie
 pub blank-end-spec : {M : Type 1} → statement M
 unfolding signatureWidth
 blank-end-spec =
-    tie.close
-    (tie.spec
+    tie.close (tie.spec
     (λ c κs. search needs)  -- refuse-requires
     (λ c.
     let a = c .before .before .args in

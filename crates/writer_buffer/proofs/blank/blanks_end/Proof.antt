@@ -22,10 +22,7 @@ abbrev μ-loop : tie.MeasureT-loop
 
 pub blanks-end-spec : {M : Type 1} → statement M
 blanks-end-spec =
-    tie.close
-    (tie.spec
-    Inv-loop
-    μ-loop
+    tie.close (tie.spec Inv-loop μ-loop
     (λ c. (λ r h. h, omega arith))  -- loop-holds
     (λ c κs. search needs) (λ c. search needs) (λ c. search needs)  -- next-wanted-requires, enum-known-signatures, enum-told
     (λ c.

@@ -17,10 +17,7 @@ abbrev μ-loop : tie.MeasureT-loop
 
 pub clear-spec : {M : Type 1} → statement M
 clear-spec =
-    tie.close
-    (tie.spec
-    Inv-loop
-    μ-loop
+    tie.close (tie.spec Inv-loop μ-loop
     (λ c. (omega arith, refl, refl))  -- loop-holds
     (λ c. search needs) (λ c. search needs) (λ c. search needs)  -- slice-write-room, add-i, loop-less
     (λ c.

@@ -8,8 +8,7 @@ use Rattle.writer_buffer.proofs.blank.close_layout.Tie as tie
 
 pub close-layout-spec : {M : Type 1} → statement M
 close-layout-spec =
-    tie.close
-    (tie.spec
+    tie.close (tie.spec
     (λ c κs. search needs) (λ c. search needs)  -- most-in-requires, slice-reshare-prefix-closing-end
     (λ c. simp length-take (omega arith))  -- slice-aggregate-closing-end
     (λ c κs. search needs) (λ c. search needs) (λ c. search needs)  -- closing-end-requires, enum-known-refusal, enum-known-end

@@ -7,8 +7,7 @@ use Rattle.writer_buffer.proofs.blank.closing_end.Tie as tie
 
 pub closing-end-spec : {M : Type 1} → statement M
 closing-end-spec =
-    tie.close
-    (tie.spec
+    tie.close (tie.spec
     (λ c κs. search needs)  -- refuse-requires
     (λ c.
     let a = c .before .before .before .args in

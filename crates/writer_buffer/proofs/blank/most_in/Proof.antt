@@ -5,7 +5,6 @@ use Rattle.writer_buffer.proofs.blank.most_in.Tie as tie
 
 pub most-in-spec : {M : Type 1} → statement M
 most-in-spec =
-    tie.close
-    (tie.spec
+    tie.close (tie.spec
     (λ c. search if-lt)  -- returns
     (λ c. search if-not-lt))  -- returns-2

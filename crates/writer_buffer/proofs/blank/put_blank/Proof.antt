@@ -9,11 +9,9 @@ use Rattle.writer_buffer.proofs.blank.put_blank.Tie as tie
 pub put-blank-spec : {M : Type 1} → statement M
 unfolding signatureWidth
 put-blank-spec =
-    tie.close
-    (tie.spec
+    tie.close (tie.spec
     (λ c. search needs) (λ c. search needs) (λ c κs. search needs) (λ c. search needs)  -- add-first, mul-width, put-u32-requires, add-put-u32
-    (λ c κs. search needs) (λ c κs. search needs) (λ c. search needs)  -- put-u32-requires-2, put-zeros-requires, add-result
-    (λ c. search needs)  -- same-length
+    (λ c κs. search needs) (λ c κs. search needs) (λ c. search needs) (λ c. search needs)  -- put-u32-requires-2, put-zeros-requires, add-result, same-length
     (λ c.
     let zeros : tie.After-put-zeros = search in
     let second : tie.After-put-u322 = search in

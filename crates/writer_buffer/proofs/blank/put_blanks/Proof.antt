@@ -16,15 +16,11 @@ abbrev μ-loop : tie.MeasureT-loop
 
 pub put-blanks-spec : {M : Type 1} → statement M
 put-blanks-spec =
-    tie.close
-    (tie.spec
-    Inv-loop
-    μ-loop
+    tie.close (tie.spec Inv-loop μ-loop
     (λ c. writing-begins (c .before .pre))  -- loop-holds
     (λ c. writing-front (c .before .loop .inv))  -- slice-reshare-prefix-next-wanted
     (λ c. simp length-take (omega (arith, writing-front (c .before .before .loop .inv))))  -- slice-aggregate-next-wanted
-    (λ c κs. search needs) (λ c. search needs) (λ c. search needs)  -- next-wanted-requires, enum-known-code, enum-told
-    (λ c. search needs)  -- same-length
+    (λ c κs. search needs) (λ c. search needs) (λ c. search needs) (λ c. search needs)  -- next-wanted-requires, enum-known-code, enum-told, same-length
     (λ c.
     let n = c .before .before in
     let l = n .before .before .before .loop in

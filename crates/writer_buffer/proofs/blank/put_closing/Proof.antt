@@ -6,8 +6,7 @@ use Rattle.writer_buffer.proofs.blank.put_closing.Tie as tie
 
 pub put-closing-spec : {M : Type 1} → statement M
 put-closing-spec =
-    tie.close
-    (tie.spec
+    tie.close (tie.spec
     (λ c κs. search needs) (λ c κs. search needs) (λ c. search needs)  -- first-wanting-requires, put-u32-requires, add-put-blanks
     (λ c κs.
     let p = c .before .before .before in

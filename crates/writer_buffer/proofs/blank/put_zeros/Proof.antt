@@ -6,8 +6,6 @@ use Rattle.writer_buffer.proofs.blank.put_zeros.Tie as tie
 
 pub put-zeros-spec : {M : Type 1} → statement M
 put-zeros-spec =
-    tie.close
-    (tie.spec
+    tie.close (tie.spec
     (λ c. search needs) (λ c. search needs) (λ c. search needs) (λ c. search needs)  -- add-clear, sub-clear, part-clear-start, part-clear-end
-    (λ c κs. search needs) (λ c. search needs)  -- clear-requires, same-length
-    (λ c. search zeros-back))  -- returns
+    (λ c κs. search needs) (λ c. search needs) (λ c. search zeros-back))  -- clear-requires, same-length, returns

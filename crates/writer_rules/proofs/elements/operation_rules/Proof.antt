@@ -9,8 +9,7 @@ use Rattle.writer_rules.proofs.elements.operation_rules.Tie as tie
 pub operation-rules-spec : {M : Type 1} → statement M
 unfolding judged
 operation-rules-spec =
-    tie.close
-    (tie.spec
+    tie.close (tie.spec
     (λ c κs. search needs) (λ c κs. search needs)  -- operation-at-requires, all-read-requires
     (λ c.
     let start : tie.Start = search in

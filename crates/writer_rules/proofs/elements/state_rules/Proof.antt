@@ -13,10 +13,8 @@ use Rattle.writer_rules.proofs.elements.state_rules.Tie as tie
 pub state-rules-spec : {M : Type 1} → statement M
 unfolding judged initialStateAfter named andThen guard
 state-rules-spec =
-    tie.close
-    (tie.spec
-    (λ c κs. search needs) (λ c. search needs) (λ c. search needs)  -- u32-at-requires, enum-known-fx, enum-told
-    (λ c κs. search needs)  -- refuse-step-requires
+    tie.close (tie.spec
+    (λ c κs. search needs) (λ c. search needs) (λ c. search needs) (λ c κs. search needs)  -- u32-at-requires, enum-known-fx, enum-told, refuse-step-requires
     (λ c.
     let start : tie.Start = search in
     let a = start .args in
@@ -30,7 +28,6 @@ state-rules-spec =
     (at-u32-at .u32-at .ensures) _ _ (c .before .before .before .fx .given .1) (c .before .if1 .taken)
     (c .refuse-step2 .ensures))  -- returns-2
     (λ c κs. search needs) (λ c κs. search needs) (λ c κs. search needs)  -- between-requires, between-requires-2, is-below-requires
-    (λ c κs. search needs) (λ c κs. search needs)  -- state-outputs-at-requires, all-read-requires
-    (λ c. search (on-fx, if-after, outputs-judged) depth 12)  -- returns-3
-    (λ c κs. search needs)  -- refuse-step-requires-3
-    (λ c. search (on-fx, if-not-after) depth 12))  -- returns-4
+    (λ c κs. search needs)  -- state-outputs-at-requires
+    (λ c κs. search needs) (λ c. search (on-fx, if-after, outputs-judged) depth 12)  -- all-read-requires, returns-3
+    (λ c κs. search needs) (λ c. search (on-fx, if-not-after) depth 12))  -- refuse-step-requires-3, returns-4

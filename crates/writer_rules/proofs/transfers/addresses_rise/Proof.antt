@@ -6,8 +6,6 @@ use Rattle.writer_rules.proofs.transfers.addresses_rise.Tie as tie
 
 pub addresses-rise-spec : {M : Type 1} → statement M
 addresses-rise-spec =
-    tie.close
-    (tie.spec
-    (λ c κs. search needs) (λ c. search needs) (λ c. search needs)  -- addresses-from-requires, enum-told, enum-told-2
-    (λ c. search addresses-rise)  -- returns
+    tie.close (tie.spec
+    (λ c κs. search needs) (λ c. search needs) (λ c. search needs) (λ c. search addresses-rise)  -- addresses-from-requires, enum-told, enum-told-2, returns
     (λ c. search addresses-fall))  -- returns-2

@@ -18,14 +18,9 @@ abbrev μ-loop : tie.MeasureT-loop
 
 pub indices-rise-spec : {M : Type 1} → statement M
 indices-rise-spec =
-    tie.close
-    (tie.spec
-    Inv-loop
-    μ-loop
+    tie.close (tie.spec Inv-loop μ-loop
     (λ c. (omega arith, refl))  -- loop-holds
     (λ c. search needs) (λ c. search needs) (λ c. search needs) (λ c. search needs)  -- mul-if1, shared-slice-read-if1, sub-if1, mul-if1-2
-    (λ c. search needs)  -- shared-slice-read-if1-2
-    (λ c. search rise)  -- returns
-    (λ c. search needs) (λ c. search needs)  -- add-i, loop-less
-    (λ c. (omega arith, search rise))  -- loop-again
+    (λ c. search needs) (λ c. search rise)  -- shared-slice-read-if1-2, returns
+    (λ c. search needs) (λ c. search needs) (λ c. (omega arith, search rise))  -- add-i, loop-less, loop-again
     (λ c. search rise))  -- returns-2

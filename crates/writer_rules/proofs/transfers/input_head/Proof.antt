@@ -36,8 +36,7 @@ returns c =
 
 pub input-head-spec : {M : Type 1} → statement M
 input-head-spec =
-    tie.close
-    (tie.spec
+    tie.close (tie.spec
     (λ c. search needs) (λ c. search needs)  -- slice-aggregate-put-bytes-after, slice-aggregate-put-bytes-after-2
     (λ c κs. search needs) (λ c. search needs)  -- put-bytes-after-requires, slice-aggregate-put-integer-after
     (λ c κs. search needs) (λ c. search needs)  -- put-integer-after-requires, slice-aggregate-put-bytes-after-3

@@ -6,13 +6,9 @@ use Rattle.writer_rules.proofs.transfers.input_rules.Tie as tie
 
 pub input-rules-spec : {M : Type 1} → statement M
 input-rules-spec =
-    tie.close
-    (tie.spec
+    tie.close (tie.spec
     (λ c κs. search needs) (λ c κs. search needs) (λ c κs. search needs)  -- input-head-requires, between-requires, between-requires-2
-    (λ c κs. search needs) (λ c κs. search needs)  -- is-below-requires, refuse-step-requires
-    (λ c. search of-input depth 12)  -- returns
-    (λ c κs. search needs)  -- refuse-step-requires-2
-    (λ c. search of-input depth 12)  -- returns-2
-    (λ c κs. search needs) (λ c κs. search needs)  -- indices-rise-requires, refuse-step-requires-3
-    (λ c. search of-input depth 12)  -- returns-3
+    (λ c κs. search needs) (λ c κs. search needs) (λ c. search of-input depth 12)  -- is-below-requires, refuse-step-requires, returns
+    (λ c κs. search needs) (λ c. search of-input depth 12)  -- refuse-step-requires-2, returns-2
+    (λ c κs. search needs) (λ c κs. search needs) (λ c. search of-input depth 12)  -- indices-rise-requires, refuse-step-requires-3, returns-3
     (λ c. search of-input depth 12))  -- returns-4

@@ -6,10 +6,7 @@ use Rattle.writer_rules.proofs.transfers.output_below.Tie as tie
 
 pub output-below-spec : {M : Type 1} → statement M
 output-below-spec =
-    tie.close
-    (tie.spec
+    tie.close (tie.spec
     (λ c κs. search needs) (λ c κs. search needs) (λ c κs. search needs)  -- output-head-requires, between-requires, between-requires-2
-    (λ c κs. search needs)  -- is-below-requires
-    (λ c. search output-many)  -- returns
-    (λ c κs. search needs)  -- pieces-below-requires
-    (λ c. search output-few))  -- returns-2
+    (λ c κs. search needs) (λ c. search output-many)  -- is-below-requires, returns
+    (λ c κs. search needs) (λ c. search output-few))  -- pieces-below-requires, returns-2

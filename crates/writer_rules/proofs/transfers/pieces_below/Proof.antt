@@ -6,11 +6,8 @@ use Rattle.writer_rules.proofs.transfers.pieces_below.Tie as tie
 
 pub pieces-below-spec : {M : Type 1} → statement M
 pieces-below-spec =
-    tie.close
-    (tie.spec
-    (λ c κs. search needs) (λ c κs. search needs) (λ c. search needs)  -- between-requires, order-of-requires, enum-told
-    (λ c. search needs) (λ c κs. search needs) (λ c κs. search needs)  -- enum-told-2, between-requires-2, is-below-requires
-    (λ c. search needs)  -- enum-told-3
-    (λ c. search pieces-below)  -- returns
+    tie.close (tie.spec
+    (λ c κs. search needs) (λ c κs. search needs) (λ c. search needs) (λ c. search needs)  -- between-requires, order-of-requires, enum-told, enum-told-2
+    (λ c κs. search needs) (λ c κs. search needs) (λ c. search needs) (λ c. search pieces-below)  -- between-requires-2, is-below-requires, enum-told-3, returns
     (λ c. search pieces-equal)  -- returns-2
     (λ c. search pieces-above))  -- returns-3

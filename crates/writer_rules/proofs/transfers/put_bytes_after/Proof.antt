@@ -6,8 +6,6 @@ use Rattle.writer_rules.proofs.transfers.put_bytes_after.Tie as tie
 
 pub put-bytes-after-spec : {M : Type 1} → statement M
 put-bytes-after-spec =
-    tie.close
-    (tie.spec
-    (λ c. search needs) (λ c. search needs) (λ c. search needs)  -- add-put-bytes, sub-put-bytes, part-put-bytes-start
-    (λ c. search needs) (λ c κs. search needs) (λ c. search needs)  -- part-put-bytes-end, put-bytes-requires, same-length
-    (λ c. search bytes-after))  -- returns
+    tie.close (tie.spec
+    (λ c. search needs) (λ c. search needs) (λ c. search needs) (λ c. search needs)  -- add-put-bytes, sub-put-bytes, part-put-bytes-start, part-put-bytes-end
+    (λ c κs. search needs) (λ c. search needs) (λ c. search bytes-after))  -- put-bytes-requires, same-length, returns

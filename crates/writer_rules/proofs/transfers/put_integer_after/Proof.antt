@@ -6,8 +6,7 @@ use Rattle.writer_rules.proofs.transfers.put_integer_after.Tie as tie
 
 pub put-integer-after-spec : {M : Type 1} → statement M
 put-integer-after-spec =
-    tie.close
-    (tie.spec
+    tie.close (tie.spec
     (λ c. search needs) (λ c. search needs) (λ c. search needs)  -- add-put-integer, sub-put-integer, part-put-integer-start
-    (λ c. search needs) (λ c κs. search needs) (λ c. search needs)  -- part-put-integer-end, put-integer-requires, same-length
-    (λ c. search integer-after))  -- returns
+    (λ c. search needs) (λ c κs. search needs)  -- part-put-integer-end, put-integer-requires
+    (λ c. search needs) (λ c. search integer-after))  -- same-length, returns

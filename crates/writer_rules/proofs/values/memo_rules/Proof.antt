@@ -8,8 +8,7 @@ use Rattle.writer_rules.proofs.values.memo_rules.Tie as tie
 
 pub memo-rules-spec : {M : Type 1} → statement M
 memo-rules-spec =
-    tie.close
-    (tie.spec
+    tie.close (tie.spec
     (λ c κs. search needs)  -- refuse-step-requires
     (λ c. if-not-le (c .before .before .args .count) (c .before .before .args .most) _ _ _ (omega (arith, c .before .if1 .taken))
     (c .refuse-step .ensures))  -- returns

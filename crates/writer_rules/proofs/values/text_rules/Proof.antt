@@ -7,12 +7,9 @@ use Rattle.writer_rules.proofs.values.text_rules.Tie as tie
 
 pub text-rules-spec : {M : Type 1} → statement M
 text-rules-spec =
-    tie.close
-    (tie.spec
-    (λ c κs. search needs)  -- refuse-step-requires
-    (λ c. search tests depth 8)  -- returns
-    (λ c κs. search needs)  -- refuse-step-requires-2
-    (λ c. search tests depth 8)  -- returns-2
+    tie.close (tie.spec
+    (λ c κs. search needs) (λ c. search tests depth 8)  -- refuse-step-requires, returns
+    (λ c κs. search needs) (λ c. search tests depth 8)  -- refuse-step-requires-2, returns-2
     (λ c κs. search needs)  -- first-unprintable-requires
     (λ c.
     let start : tie.Start = search in

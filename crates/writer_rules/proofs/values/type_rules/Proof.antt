@@ -7,9 +7,6 @@ use Rattle.writer_rules.proofs.values.type_rules.Tie as tie
 
 pub type-rules-spec : {M : Type 1} → statement M
 type-rules-spec =
-    tie.close
-    (tie.spec
-    (λ c κs. search needs)  -- is-type-requires
-    (λ c. search (type-known, type-unknown) depth 12)  -- returns
-    (λ c κs. search needs)  -- refuse-step-requires
-    (λ c. search (type-known, type-unknown) depth 12))  -- returns-2
+    tie.close (tie.spec
+    (λ c κs. search needs) (λ c. search (type-known, type-unknown) depth 12)  -- is-type-requires, returns
+    (λ c κs. search needs) (λ c. search (type-known, type-unknown) depth 12))  -- refuse-step-requires, returns-2
