@@ -17,7 +17,7 @@
 
 enum { STACK = 1 << 17, TYPES = 5, ANSWERS = TYPES + 22, WORDS = 4, NUMBERS = 23, ID = 32 };
 
-/* The calls; those of the library `test_exports` are in no header. */
+/* The calls; the table's, of the library `operator`, and those of `test_exports` are in no header. */
 typedef uint64_t check_call(const uint8_t *bytes, size_t length);
 typedef uint64_t table_call(const uint8_t *bytes, size_t length, uint32_t *table, size_t room);
 typedef void entry_call(const uint8_t *bytes, size_t length, uint64_t n, uint64_t *numbers,
@@ -30,7 +30,7 @@ typedef uint64_t merge_call(const uint8_t *first, size_t first_length, const uin
 typedef uint64_t piece_call(uint64_t *state, uint8_t *store, size_t room, const uint8_t *piece,
                             size_t length);
 typedef uint64_t end_call(const uint64_t *state, const uint8_t *store, size_t room);
-table_call cellfacet_test_table;
+table_call cellfacet_rows;
 entry_call cellfacet_test_entry;
 fill_call cellfacet_test_fill;
 
@@ -121,7 +121,7 @@ static void run_check(void)
 
 static void run_table(void)
 {
-    number = called_table(bytes, length, table, room) >> 40;
+    number = called_table(bytes, length, table, room) >> 32;
     swapcontext(&callee, &caller);
 }
 
@@ -173,7 +173,7 @@ static void (*const runs[CALLS])(void) = {run_check, run_table, run_entry, run_f
 static void call_tops(int tops)
 {
     called_check = tops ? check_top : cellfacet_check;
-    called_table = tops ? table_top : cellfacet_test_table;
+    called_table = tops ? table_top : cellfacet_rows;
     called_entry = tops ? entry_top : cellfacet_test_entry;
     called_fill = tops ? fill_top : cellfacet_test_fill;
     called_merge = tops ? merge_top : cellfacet_merge;

@@ -1,7 +1,7 @@
 // An upload: a draft that is sent in pieces and kept in a lent store. Each call takes the upload's state and returns the next one.
 //
-// The check reads one slice, so a piece is judged where it is to be stored, and what it covers there is put aside on the stack: a piece takes 66,192
-// bytes of stack, the end 592 (bench/stack.c).
+// The check reads one slice, so a piece is judged where it is to be stored, and what it covers there is put aside on the stack: a piece takes 66,176
+// bytes of stack, the end 576 (bench/stack.c).
 ghost use mathlib.Core.Path.{_≡_};
 ghost use Prim.Native.Nat.{_+_, _≤_};
 ghost use lib.ListN.{length};
