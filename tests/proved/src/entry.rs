@@ -2,7 +2,7 @@
 
 use cellfacet_tests::lines::{Answer, EntryFields, Field};
 
-use crate::library::{probe_entry, NUMBERS};
+use crate::library::{self, NUMBERS};
 
 /// The places of number, place, kind, start and end.
 const NUMBER: usize = 0;
@@ -34,20 +34,20 @@ const NAMES: [&str; NUMBERS - 5] = [
 ];
 
 /// What was put. A place is written where both fills are gone from it.
-pub struct Probed {
+pub struct EntryRead {
     numbers: [Option<u64>; NUMBERS],
     asset: [u8; 32],
     txid: [u8; 32],
 }
 
-impl Probed {
+impl EntryRead {
     /// Reads entry `n`, over buffers of two different fills.
-    pub fn new(bytes: &[u8], n: u32) -> Probed {
+    pub fn new(bytes: &[u8], n: u32) -> EntryRead {
         let (first, asset, txid) = filled(bytes, n, 0xa5);
         let (second, asset_again, txid_again) = filled(bytes, n, 0x5a);
         assert_eq!((asset, txid), (asset_again, txid_again), "identifiers are put whole");
         let numbers = std::array::from_fn(|i| (first[i] == second[i]).then_some(first[i]));
-        Probed { numbers, asset, txid }
+        EntryRead { numbers, asset, txid }
     }
 
     /// Where the entry starts and ends.
@@ -77,14 +77,14 @@ impl Probed {
 fn filled(bytes: &[u8], n: u32, fill: u8) -> ([u64; NUMBERS], [u8; 32], [u8; 32]) {
     let mut numbers = [u64::from_be_bytes([fill; 8]); NUMBERS];
     let (mut asset, mut txid) = ([fill; 32], [fill; 32]);
-    probe_entry(bytes, n.into(), &mut numbers, &mut asset, &mut txid);
+    library::entry(bytes, n.into(), &mut numbers, &mut asset, &mut txid);
     (numbers, asset, txid)
 }
 
 /// Reads entry `n` as its named fields.
 pub fn read(bytes: &[u8], n: u32) -> (Answer, Option<EntryFields>) {
-    let probed = Probed::new(bytes, n);
-    let kind = probed.numbers[KIND].map(|kind| kind as u32);
-    let entry = kind.map(|kind| EntryFields { kind, fields: probed.fields(kind) });
-    (probed.answer(), entry)
+    let read = EntryRead::new(bytes, n);
+    let kind = read.numbers[KIND].map(|kind| kind as u32);
+    let entry = kind.map(|kind| EntryFields { kind, fields: read.fields(kind) });
+    (read.answer(), entry)
 }

@@ -23,7 +23,7 @@ impl Answers for Proved {
     }
 
     fn rows(&self, bytes: &[u8], table: &mut [u32]) -> Option<(Answer, usize)> {
-        let packed = library::probe_table(bytes, table);
+        let packed = library::table(bytes, table);
         let answer = Answer { number: (packed >> 40) as u32, place: packed & LOW };
         Some((answer, (packed >> 20 & LOW) as usize))
     }
@@ -33,7 +33,7 @@ impl Answers for Proved {
     }
 
     fn fill(&self, draft: &mut [u8], slot: u64, signature: &[u8]) -> Option<Answer> {
-        let [number, place] = library::probe_fill(draft, slot, signature);
+        let [number, place] = library::fill(draft, slot, signature);
         Some(Answer { number: number as u32, place })
     }
 

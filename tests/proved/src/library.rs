@@ -99,7 +99,7 @@ pub fn upload_end(state: &UploadState, store: &[u8]) -> u64 {
 }
 
 /// Fills a slot of the lent draft: number and place.
-pub fn probe_fill(draft: &mut [u8], slot: u64, signature: &[u8]) -> [u64; 2] {
+pub fn fill(draft: &mut [u8], slot: u64, signature: &[u8]) -> [u64; 2] {
     let mut answer = [0; 2];
     let (draft, length) = (draft.as_mut_ptr(), draft.len());
     let (signature, signature_length) = (signature.as_ptr(), signature.len());
@@ -113,7 +113,7 @@ pub fn probe_fill(draft: &mut [u8], slot: u64, signature: &[u8]) -> [u64; 2] {
 
 /// Checks a whole transaction, and writes three numbers for each entry into the lent table:
 /// number × 2^40 + rows × 2^20 + place.
-pub fn probe_table(bytes: &[u8], table: &mut [u32]) -> u64 {
+pub fn table(bytes: &[u8], table: &mut [u32]) -> u64 {
     // SAFETY: the pointers and the lengths are those of two slices, of which the second is
     // borrowed mutably, so that they do not overlap; the function asks for nothing else.
     unsafe {
@@ -125,13 +125,7 @@ pub fn probe_table(bytes: &[u8], table: &mut [u32]) -> u64 {
 pub const NUMBERS: usize = 23;
 
 /// Reads entry `n`: puts its numbers at their places, and its identifiers.
-pub fn probe_entry(
-    bytes: &[u8],
-    n: u64,
-    numbers: &mut [u64],
-    asset: &mut [u8],
-    txid: &mut [u8],
-) {
+pub fn entry(bytes: &[u8], n: u64, numbers: &mut [u64], asset: &mut [u8], txid: &mut [u8]) {
     // SAFETY: the pointers and the lengths are those of slices, of which all but the first
     // are borrowed mutably, so that none overlap; the function asks for nothing else.
     unsafe {

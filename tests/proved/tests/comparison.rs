@@ -6,8 +6,8 @@ use std::fs;
 use std::path::{Path, PathBuf};
 
 use cellfacet_proved::compare::{self, compare, Met};
-use cellfacet_proved::entry::Probed;
-use cellfacet_proved::library::probe_entry;
+use cellfacet_proved::entry::EntryRead;
+use cellfacet_proved::library;
 use cellfacet_proved::Proved;
 use cellfacet_tests::check;
 use cellfacet_tests::encode::Encoder;
@@ -155,10 +155,10 @@ fn entries_stand_at_their_rows() {
         for (n, row) in rows.enumerate() {
             let end = row[1] + row[2];
             let span = Some((row[1].into(), end.into()));
-            assert_eq!(Probed::new(&bytes, n as u32).span(), span, "entry {n} of {request}");
+            assert_eq!(EntryRead::new(&bytes, n as u32).span(), span, "entry {n} of {request}");
             found += 1;
         }
-        assert_eq!(Probed::new(&bytes, count as u32).span(), None);
+        assert_eq!(EntryRead::new(&bytes, count as u32).span(), None);
     }
     assert!(found > 3_000, "{found} entries");
 }
@@ -166,10 +166,10 @@ fn entries_stand_at_their_rows() {
 #[test]
 fn no_room_for_an_entry() {
     let mut numbers = [7; 3];
-    probe_entry(&case_a(), 0, &mut numbers, &mut [], &mut []);
+    library::entry(&case_a(), 0, &mut numbers, &mut [], &mut []);
     assert_eq!(numbers, [0, 392, 1]);
     let (mut asset, mut txid) = ([9; 40], [9; 3]);
-    probe_entry(&case_a(), 1, &mut [], &mut asset, &mut txid);
+    library::entry(&case_a(), 1, &mut [], &mut asset, &mut txid);
     let a = case_a();
     assert_eq!((&asset[..32], &asset[32..]), (&a[186..218], &[9; 8][..]));
     assert_eq!(txid, a[150..153]);
