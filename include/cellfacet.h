@@ -51,7 +51,8 @@ enum {
     CELLFACET_ZERO_AMOUNT = 5,
     /* A list is out of order. Place: the start of the later of the two elements. */
     CELLFACET_OUT_OF_ORDER = 6,
-    /* A threshold is above the number of addresses. Place: the start of the threshold. */
+    /* A threshold is above the number of addresses, or 0 although there are addresses. Place:
+       the start of the threshold. */
     CELLFACET_BAD_THRESHOLD = 7,
     /* The length of a name, symbol, memo or payload is not allowed. Place: the start of the
        length. */

@@ -74,8 +74,9 @@ reasons! {
     ZeroAmount = 5, "amount is 0";
     /// A list is out of order. Place: the start of the later of the two elements.
     OutOfOrder = 6, "list is out of order";
-    /// A threshold is above the number of addresses. Place: the start of the threshold.
-    BadThreshold = 7, "threshold is above the number of addresses";
+    /// A threshold is above the number of addresses, or 0 although there are addresses. Place:
+    /// the start of the threshold.
+    BadThreshold = 7, "threshold is above the number of addresses, or 0 although there are addresses";
     /// The length of a name, symbol, memo or payload is not allowed. Place: the start of the
     /// length.
     BadLength = 8, "length of a name, symbol, memo or payload is not allowed";

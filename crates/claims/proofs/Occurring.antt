@@ -79,7 +79,7 @@ refused-cases =
     ∷ refuses (0 ∷ 1 ∷ []) refl R.WrongCodec 0 refl
     ∷ refuses (zeros 2 ++ word 9) refl R.UnknownType 2 refl
     ∷ refuses (paid ++ zeros 8) refl R.ZeroAmount 82 refl
-    ∷ refuses (paid ++ zeros 4 ++ word 1 ++ zeros 12 ++ word 2 ++ zeros 40) refl R.OutOfOrder 126 refl
+    ∷ refuses (paid ++ zeros 4 ++ word 1 ++ zeros 8 ++ word 1 ++ word 2 ++ zeros 40) refl R.OutOfOrder 126 refl
     ∷ refuses (paid ++ zeros 4 ++ word 1 ++ zeros 8 ++ word 1 ++ word 0) refl R.BadThreshold 98 refl
     ∷ refuses (zeros 50 ++ (0 ∷ 0 ∷ 1 ∷ 1 ∷ [])) refl R.BadLength 50 refl
     ∷ refuses (typed 1 ++ (0 ∷ 1 ∷ 0 ∷ [])) refl R.NotPrintable 56 refl

@@ -154,7 +154,7 @@ table =
     -- P7: threshold 3
     ∷ checks (edited 98 (0 ∷ 0 ∷ 0 ∷ 3 ∷ []) A) 7 98
     -- P8: threshold 0, two addresses
-    ∷ checks (edited 98 (0 ∷ 0 ∷ 0 ∷ 0 ∷ []) A) 0 392
+    ∷ checks (edited 98 (0 ∷ 0 ∷ 0 ∷ 0 ∷ []) A) 7 98
     -- P9: second address equal to the first
     ∷ checks (edited 126 (take 20 (drop 106 A)) A) 6 126
     -- P10: signature count 1

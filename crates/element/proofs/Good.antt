@@ -1,13 +1,13 @@
 -- The formats of a transaction's elements have exactly the values that specs/Good says. Assumes nothing.
 use mathlib.Core.Path.{_≡_, refl, ap, subst, subst⁻¹}
 use mathlib.Core.Logic.{_↔_, Iff·rfl, Iff·trans, Iff·and, _⊎_, inl, inr}
-use Prim.Native.Nat.{ℕ, suc, _^_, _≤_, _<_}
+use Prim.Native.Nat.{ℕ, zero, suc, _^_, _≤_, _<_}
 use native.Mathlib.Omega.{arith}
 use mathlib.Core.Bool.{Bool, true, false, _&&_}
 use mathlib.Core.List.{List, [], _∷_, _++_, map, map-congr-left}
 use lib.ListN.{length, take, length-append}
 use lib.Dec.{leb}
-use borrow.Author.Tests.{ltb-true, lt-ltb, leb-true, le-leb, eqb-true, eq-eqb}
+use borrow.Author.Tests.{ltb-true, lt-ltb, leb-true, le-leb, eqb-true, eq-eqb, ne-eqb}
 use Rattle.wire.specs.Bytes.{Bytes, digits, below, pick}
 use Rattle.wire.specs.laws.Bytes.{length-digits}
 use Rattle.wire.specs.Numbers.{unknownType}
@@ -21,7 +21,7 @@ use Rattle.wire.proofs.Orders.{constant-good, tag-good, keyBelow-order, above-g
 use Rattle.wire.proofs.Orders.{counted-good, adjacent-map}
 use Rattle.string.specs.Strings.{string, payload, text, denomination}
 use Rattle.string.specs.Characters.{isPrintable, unprintable}
-use Rattle.element.specs.Owners.{Owners, owners}
+use Rattle.element.specs.Owners.{Owners, thresholdFits, owners}
 use Rattle.element.specs.Outputs.{amount, transferBody, OutputType, secpMint, secpTransfer, nftMint, nftTransfer, outputCode, OutputBody}
 use Rattle.element.specs.Outputs.{outputBody, outputType, outputType-code, Output, output, TransferableOutput, transferableOutput}
 use Rattle.element.specs.Inputs.{key, indices, Input, spend, inputAfter, input}
@@ -93,22 +93,34 @@ denomination-good n = (λ h. leb-true n 32 (h .1), λ g. (omega arith, le-leb n 
 
 -- ---- owners
 
+threshold-good : (t n : ℕ) → (thresholdFits t n ≡ true) ↔ ((t ≤ n) × ((t ≡ 0) ↔ (n ≡ 0)))
+threshold-good zero n = (λ e. let none = eqb-true n 0 e in (omega arith, (λ z. none, λ z. refl)), λ g. eq-eqb n 0 (g .1 .0 refl))
+threshold-good (suc t) n =
+    rw (ne-eqb (suc t) 0 (λ z. omega arith)) (
+      λ e. let most = leb-true (suc t) n e in (most, (λ z. absurd (omega arith), λ z. absurd (omega arith))),
+      λ g. le-leb (suc t) n (g .0),
+    )
+
 pub owners-good : (o : Owners) → owners .Good o ↔ GoodOwners o
 unfolding owners blob integer
 owners-good o = (
   λ h.
       let (each, sorted) = list .0 (h .1 .1) .1 in
+      let (most, zeroes) = threshold-good (o .threshold) (length (o .addresses)) .0 (h .1 .0 .1) in
       record {
         locktime = h .0;
-        threshold = leb-true (o .threshold) (length (o .addresses))
-            (h .1 .0 .1);
+        threshold = most;
+        zeroThreshold = zeroes;
         count = h .1 .0 .0 .1;
         addresses = each;
         order = sorted;
       },
   λ g. (
     g .locktime,
-    (((omega arith, g .count), le-leb (o .threshold) (length (o .addresses)) (g .threshold)), list .1 (refl, (g .addresses, g .order))),
+    (
+      ((omega arith, g .count), threshold-good (o .threshold) (length (o .addresses)) .1 (g .threshold, g .zeroThreshold)),
+      list .1 (refl, (g .addresses, g .order)),
+    ),
   ),
 )
   where

@@ -1,5 +1,7 @@
 -- Which values the elements of a transaction have, in plain words: the widths of document 01's "Layout" and its "Rules and their moments".
 -- proofs/Good shows that these are exactly the values of the formats. Assumes nothing.
+use mathlib.Core.Path.{_≡_}
+use mathlib.Core.Logic.{_↔_}
 use Prim.Native.Nat.{ℕ, _^_, _≤_, _<_}
 use mathlib.Core.List.{List, [], _∷_, map}
 use lib.ListN.{length}
@@ -35,6 +37,7 @@ pub record GoodText (most : ℕ) (b : List ℕ) : Type 0 where
 pub record GoodOwners (o : Owners) : Type 0 where
   pub locktime : o .locktime < 2 ^ 64
   pub threshold : o .threshold ≤ length (o .addresses)
+  pub zeroThreshold : (o .threshold ≡ 0) ↔ (length (o .addresses) ≡ 0)
   pub count : length (o .addresses) < 2 ^ 32
   pub addresses : All (Sized 20) (o .addresses)
   pub order : Increasing (o .addresses)

@@ -4,7 +4,8 @@ use Prim.Native.Nat.{ℕ, _-_, _*_}
 use mathlib.Core.Bool.{Bool}
 use mathlib.Core.List.{List, []}
 use lib.ListN.{length}
-use lib.Dec.{leb}
+use lib.Dec.{leb, eqb}
+use Rattle.wire.specs.Bytes.{pick}
 use Rattle.wire.specs.Numbers.{badThreshold}
 use Rattle.wire.specs.Format.{Format}
 use Rattle.wire.specs.Fields.{integer, blob}
@@ -21,9 +22,9 @@ pub record Owners : Type 0 where
 abbrev pub addressWidth : ℕ
 addressWidth = 20
 
--- the threshold is at most the number of addresses
+-- the threshold is at most the number of addresses, and 0 only where there are none
 abbrev pub thresholdFits : ℕ → ℕ → Bool
-thresholdFits threshold addresses = leb threshold addresses
+thresholdFits threshold addresses = pick (eqb threshold 0) (eqb addresses 0) (leb threshold addresses)
 
 -- the threshold is checked when the number of addresses is read, and refused at the threshold's place
 unfoldable pub owners : Format Owners

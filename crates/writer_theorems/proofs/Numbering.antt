@@ -21,6 +21,7 @@ use Rattle.wire.specs.Parsers.{listed}
 use Rattle.wire.proofs.Refusing.{RefusesBy, NumberIn, one-of, refuses-more}
 use Rattle.string.specs.Strings.{memo, text, denomination}
 use Rattle.string.specs.Characters.{unprintable}
+use Rattle.element.specs.Owners.{thresholdFits}
 use Rattle.element.specs.Outputs.{transferableOutput}
 use Rattle.element.specs.Inputs.{input}
 use Rattle.element.specs.Operations as Operations
@@ -77,13 +78,13 @@ module _ (P : Rule → Type 0) where
       let built : List ℕ = Outputs.built asset amount locktime threshold addresses in
       let after : Verdict = pick (not (below built last)) J.Allowed (refusedBy (ruleOf outOfOrder)) in
       let rises : Verdict = pick (eachAbove (blob 20) [] (addressesOf (length addresses / 20) addresses)) after (refusedBy (ruleOf outOfOrder)) in
-      let bound : Verdict = pick (leb threshold (length addresses / 20)) rises (refusedBy (ruleOf badThreshold)) in
+      let bound : Verdict = pick (thresholdFits threshold (length addresses / 20)) rises (refusedBy (ruleOf badThreshold)) in
       let some : Verdict = pick (ltb 0 amount) bound (refusedBy (ruleOf zeroAmount)) in
       subst (Numbered P)
       (Outputs.as-output asset amount locktime threshold addresses last (pick (eqb (length addresses % 20) 0) some (refusedBy (ruleOf cutShort))) h refl)
       (pick-numbered P (eqb (length addresses % 20) 0) some (ruleOf cutShort)
       (pick-numbered P (ltb 0 amount) bound (ruleOf zeroAmount)
-      (pick-numbered P (leb threshold (length addresses / 20)) rises (ruleOf badThreshold)
+      (pick-numbered P (thresholdFits threshold (length addresses / 20)) rises (ruleOf badThreshold)
       (pick-numbered P (eachAbove (blob 20) [] (addressesOf (length addresses / 20) addresses)) after (ruleOf outOfOrder)
       (pick-numbered P (not (below built last)) J.Allowed (ruleOf outOfOrder) tt order) order) high) nothing) short)
 

@@ -174,7 +174,7 @@ module _ (most : ℕ) where
       gives 1 0 [] (omega arith) (omega arith) refl (at 0 1 4) (zeros 100) refl 0 refl
       ∷ gives 1 0 (zeros 1) (omega arith) (omega arith) refl (at 0 1 4) (zeros 4) refl 2 refl
       ∷ gives 0 0 [] (omega arith) (omega arith) refl (at 0 1 4) (zeros 4) refl 5 refl
-      ∷ gives 1 0 (zeros 40) (omega arith) (omega arith) refl (at 0 1 4) (zeros 4) refl 6 refl
+      ∷ gives 1 1 (zeros 40) (omega arith) (omega arith) refl (at 0 1 4) (zeros 4) refl 6 refl
       ∷ gives 1 1 [] (omega arith) (omega arith) refl (at 0 1 4) (zeros 4) refl 7 refl
       ∷ gives 1 0 [] (omega arith) (omega arith) refl (at 0 1 4) (zeros 4) refl 14 refl
       ∷ gives 1 0 [] (omega arith) (omega arith) refl (at 0 0 4) (zeros 4) refl 16 refl
@@ -232,7 +232,7 @@ module _ (most : ℕ) where
       ∷ states [] refl (at 1 7 4) (zeros 4) refl 2 refl
       ∷ states (word 2) refl (at 1 7 4) (zeros 4) refl 4 refl
       ∷ states (word 0 ++ word 1 ++ word 7 ++ zeros 8) refl (at 1 7 4) (zeros 4) refl 5 refl
-      ∷ states (word 0 ++ word 1 ++ word 6 ++ zeros 12 ++ word 2 ++ zeros 40) refl (at 1 7 4) (zeros 4) refl 6 refl
+      ∷ states (word 0 ++ word 1 ++ word 6 ++ zeros 8 ++ word 1 ++ word 2 ++ zeros 40) refl (at 1 7 4) (zeros 4) refl 6 refl
       ∷ states (word 0 ++ word 1 ++ word 6 ++ zeros 8 ++ word 1 ++ word 0) refl (at 1 7 4) (zeros 4) refl 7 refl
       ∷ states (word 1 ++ word 1 ++ word 11 ++ word 0 ++ (0 ∷ 0 ∷ 4 ∷ 1 ∷ [])) refl (at 1 7 4) (zeros 4) refl 8 refl
       ∷ states (zeros 9) refl (at 1 7 4) (zeros 4) refl 13 refl
@@ -330,7 +330,7 @@ module _ (most : ℕ) where
       ∷ ends (0 ∷ 1 ∷ []) refl 3 refl
       ∷ ends (zeros 2 ++ word 9) refl 4 refl
       ∷ ends (paid ++ zeros 8) refl 5 refl
-      ∷ ends (paid ++ zeros 4 ++ word 1 ++ zeros 12 ++ word 2 ++ zeros 40) refl 6 refl
+      ∷ ends (paid ++ zeros 4 ++ word 1 ++ zeros 8 ++ word 1 ++ word 2 ++ zeros 40) refl 6 refl
       ∷ ends (paid ++ zeros 4 ++ word 1 ++ zeros 8 ++ word 1 ++ word 0) refl 7 refl
       ∷ ends (typed 1 ++ zeros 2) refl 8 (rw (leb·zero most))
       ∷ ends (typed 1 ++ (0 ∷ 1 ∷ 0 ∷ [])) refl 9 (rw (leb·zero most))
