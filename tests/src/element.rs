@@ -131,13 +131,19 @@ fn amount(cursor: &mut Cursor) -> Result<u64, Refusal> {
     Ok(amount)
 }
 
+/// The threshold rule: at most the number of addresses, and 0 exactly where there are none.
+#[inline]
+fn threshold_allowed(threshold: u32, addresses: u32) -> bool {
+    threshold <= addresses && (threshold > 0 || addresses == 0)
+}
+
 /// Reads owners; the threshold is judged when the address count is read.
 pub fn owners(cursor: &mut Cursor) -> Result<Owners, Refusal> {
     let locktime = cursor.number64()?;
     let place = cursor.place();
     let threshold = cursor.number32()?;
     let count = cursor.number32()?;
-    ensure(threshold <= count, Number::Threshold, place)?;
+    ensure(threshold_allowed(threshold, count), Number::Threshold, place)?;
     let addresses = cursor.increasing::<20>(count)?;
     Ok(Owners { locktime, threshold, addresses })
 }

@@ -16,7 +16,7 @@ pub enum Number {
     Amount = 5,
     /// A list is not in its order.
     Order = 6,
-    /// A threshold is above the number of addresses.
+    /// A threshold is above the number of addresses, or 0 although there are addresses.
     Threshold = 7,
     /// A string's length is not allowed.
     Length = 8,

@@ -7,7 +7,7 @@ use cellfacet_tests::encode::Encoder;
 use cellfacet_tests::generate::valid::of_length;
 use cellfacet_tests::generate::Random;
 use common::{asset, bare, case_a, checked, credential, head, input, mint_output};
-use common::{operation, output, owners};
+use common::{operation, operations_of, output, owners, states_of};
 
 /// A list of one output, then no input, no memo and no credential.
 fn one_output(output: &[u8]) -> Vec<u8> {
@@ -118,6 +118,68 @@ fn the_threshold_comes_before_an_address() {
     assert_eq!(checked(&cut.done()), "2 102");
 }
 
+/// A transaction for each place where owners stand, accepted if these owners are; and the
+/// owners' place in it.
+fn owned(owners: &[u8]) -> Vec<(Vec<u8>, usize)> {
+    let output = output(1, 1, owners);
+    let exported = bare(4).raw(&[0; 32]).list(&[&output]).u32(0).done();
+    let mut owned = vec![(one_output(&output), 90), (exported, 134)];
+    owned.extend(operations_of(owners).map(|(operation, place)| {
+        (bare(2).list(&[operation]).list(&[credential(14, &[])]).done(), 58 + place)
+    }));
+    owned.extend(states_of(owners).map(|(state, place)| (states(&[state]), 65 + place)));
+    owned
+}
+
+const ADDRESSES: [[u8; 20]; 3] = [[1; 20], [2; 20], [3; 20]];
+
+#[test]
+fn thresholds_that_the_number_of_addresses_allows() {
+    for (threshold, count) in [(0, 0), (1, 1), (1, 2), (2, 2), (1, 3), (2, 3), (3, 3)] {
+        for (bytes, _) in owned(&owners(0, threshold, &ADDRESSES[..count])) {
+            assert_eq!(checked(&bytes), format!("0 {}", bytes.len()), "{threshold} of {count}");
+        }
+    }
+}
+
+#[test]
+fn thresholds_above_the_number_of_addresses_and_0_with_addresses() {
+    let above = [(1, 0), (2, 1), (3, 2), (4, 3), (u32::MAX, 0), (0x8000_0000, 3)];
+    for (threshold, count) in above.into_iter().chain([(0, 1), (0, 2), (0, 3)]) {
+        for (bytes, place) in owned(&owners(0, threshold, &ADDRESSES[..count])) {
+            let refusal = format!("7 {}", place + 8);
+            assert_eq!(checked(&bytes), refusal, "{threshold} of {count}");
+        }
+    }
+}
+
+#[test]
+fn a_threshold_of_0_is_judged_when_the_address_count_is_read() {
+    for (bytes, place) in owned(&owners(0, 0, &[[1; 20]; 2])) {
+        let refusal = format!("7 {}", place + 8);
+        // Before the second address, which is not in order, and before the first.
+        assert_eq!(checked(&bytes), refusal);
+        assert_eq!(checked(&bytes[..place + 16]), refusal);
+        assert_eq!(checked(&bytes[..place + 15]), format!("2 {}", place + 12));
+    }
+    // With a threshold that is allowed, the addresses are what is wrong.
+    for (bytes, place) in owned(&owners(0, 1, &[[1; 20]; 2])) {
+        assert_eq!(checked(&bytes), format!("6 {}", place + 36));
+        assert_eq!(checked(&bytes[..place + 16]), format!("2 {}", place + 16));
+    }
+}
+
+#[test]
+fn a_threshold_beside_a_huge_address_count() {
+    let huge = |threshold| Encoder::new().u64(0).u32(threshold).u32(u32::MAX).done();
+    for (bytes, place) in owned(&huge(0)) {
+        assert_eq!(checked(&bytes), format!("7 {}", place + 8));
+    }
+    for (bytes, place) in owned(&huge(u32::MAX)) {
+        assert_eq!(checked(&bytes[..place + 16]), format!("2 {}", place + 16));
+    }
+}
+
 #[test]
 fn outputs_are_ordered_after_their_own_rules() {
     let two = |second: &[u8]| {
@@ -126,6 +188,7 @@ fn outputs_are_ordered_after_their_own_rules() {
     };
     assert_eq!(checked(&two(&output(1, 1, &owners(0, 0, &[])))), "6 106");
     assert_eq!(checked(&two(&output(1, 0, &owners(0, 0, &[])))), "5 142");
+    assert_eq!(checked(&two(&output(1, 1, &owners(0, 0, &[[1; 20]])))), "7 158");
     assert_eq!(checked(&two(&output(1, 1, &owners(0, 1, &[[1; 20]; 2])))), "6 186");
     assert_eq!(checked(&two(&output(2, 1, &owners(0, 0, &[])))), "0 178");
     assert_eq!(checked(&two(&output(3, 1, &owners(0, 0, &[])))), "0 178");

@@ -22,7 +22,7 @@ fn p1_case_a_with_its_rows() {
 }
 
 #[test]
-fn p2_to_p12_refusals_and_p8() {
+fn p2_to_p12_refusals() {
     let a = case_a();
     assert_eq!(checked(&with(&a, 234, &[0, 0, 0, 7, 0, 0, 0, 3])), "6 238");
     assert_eq!(checked(&[]), "2 0");
@@ -30,7 +30,7 @@ fn p2_to_p12_refusals_and_p8() {
     assert_eq!(checked(&[&a[..], &[0]].concat()), "13 392");
     assert_eq!(checked(&with(&a, 82, &[0; 8])), "5 82");
     assert_eq!(checked(&with(&a, 98, &[0, 0, 0, 3])), "7 98");
-    assert_eq!(checked(&with(&a, 98, &[0; 4])), "0 392");
+    assert_eq!(checked(&with(&a, 98, &[0; 4])), "7 98");
     assert_eq!(checked(&with(&a, 126, &a[106..126])), "6 126");
     assert_eq!(checked(&with(&a, 258, &[0, 0, 0, 1])), "12 258");
     assert_eq!(checked(&a[..391]), "2 327");

@@ -5,9 +5,11 @@ mod common;
 
 use std::collections::BTreeSet;
 
+use cellfacet_tests::element::{self, alone};
 use cellfacet_tests::generate::{Kind, Requests};
 use cellfacet_tests::independent::Independent;
-use cellfacet_tests::lines::{answer, call, serve, Hex};
+use cellfacet_tests::lines::{answer, call, serve, unhex, Hex, Step};
+use cellfacet_tests::{check, Number, Refusal};
 use common::case_a;
 
 fn asked(request: &str) -> Option<String> {
@@ -153,4 +155,85 @@ fn random_writes_meet_every_number() {
     }
     let numbers = [0, 2, 4, 5, 6, 7, 8, 9, 10, 11, 13, 14, 16];
     assert_eq!(met, numbers.map(|number: u32| number.to_string()).into());
+}
+
+/// How often a threshold is refused because it is 0, and because it is too large.
+#[derive(Default)]
+struct ThresholdFaults {
+    zero: usize,
+    above: usize,
+}
+
+impl ThresholdFaults {
+    fn add(&mut self, threshold: u32) {
+        *(if threshold == 0 { &mut self.zero } else { &mut self.above }) += 1;
+    }
+
+    /// Adds the bytes' refusal where it is that of a threshold.
+    fn add_refusal(&mut self, bytes: &[u8], refusal: Option<Refusal>) {
+        let refusal = refusal.filter(|refusal| refusal.number == Number::Threshold);
+        let field = refusal.and_then(|refusal| bytes[refusal.place..].first_chunk());
+        if let Some(&threshold) = field {
+            self.add(u32::from_be_bytes(threshold));
+        }
+    }
+
+    fn assert_at_least(&self, least: usize, name: &str) {
+        let ThresholdFaults { zero, above } = *self;
+        assert!(zero.min(above) >= least, "{name}: {zero} zero, {above} above");
+    }
+}
+
+/// The transactions in a request: the bytes, both drafts, or the pieces joined.
+fn transactions(request: &str) -> Vec<Vec<u8>> {
+    let words: Vec<&str> = request.split(' ').collect();
+    let digits = match words[0] {
+        "upload" => vec![words[2..].concat().replace('-', "")],
+        "merge" | "phone-merge" => words[1..3].iter().map(|word| word.to_string()).collect(),
+        _ => vec![words[1].to_string()],
+    };
+    let bytes = digits.iter().map(|digits| match digits.as_str() {
+        "" => Vec::new(),
+        digits => unhex(digits).expect("hex"),
+    });
+    bytes.collect()
+}
+
+#[test]
+fn both_faults_of_a_threshold_are_frequent() {
+    for (name, kind) in Kind::ALL.into_iter().filter(|&(_, kind)| kind != Kind::Write) {
+        let mut faults = ThresholdFaults::default();
+        for request in Requests::new(5, vec![kind]).take(4000) {
+            for bytes in transactions(&request) {
+                faults.add_refusal(&bytes, check(&bytes).err());
+            }
+        }
+        faults.assert_at_least(40, name);
+    }
+}
+
+#[test]
+fn both_faults_of_a_threshold_are_frequent_in_each_step_with_owners() {
+    let mut outputs = ThresholdFaults::default();
+    let (mut operations, mut states) = (ThresholdFaults::default(), ThresholdFaults::default());
+    for request in Requests::new(5, vec![Kind::Write]).take(4000) {
+        let answer = asked(&request).expect("a request");
+        let words: Vec<&str> = answer.split(' ').collect();
+        let answered = request.split(' ').skip(2).zip(words.chunks_exact(2));
+        for (step, _) in answered.filter(|(_, answer)| answer[0] == "7") {
+            let alone = |kind, bytes: &[u8]| alone(kind, bytes).err();
+            match call(step).expect("a step").step {
+                Step::Output { threshold, .. } => outputs.add(threshold),
+                Step::Operation(bytes) => operations
+                    .add_refusal(&bytes, alone(element::Kind::TransferableOperation, &bytes)),
+                Step::State(bytes) => {
+                    states.add_refusal(&bytes, alone(element::Kind::InitialState, &bytes));
+                }
+                other => panic!("{other} has no threshold"),
+            }
+        }
+    }
+    outputs.assert_at_least(80, "outputs");
+    operations.assert_at_least(10, "operations");
+    states.assert_at_least(5, "states");
 }

@@ -11,7 +11,9 @@ use cellfacet_tests::independent::{make_step, Independent};
 use cellfacet_tests::lines::{answer, call, unhex, Hex};
 use cellfacet_tests::script::script;
 use cellfacet_tests::{check, fill, Writer};
-use common::{case_a, checked, mint_output, operation, shown};
+use common::{
+    case_a, checked, mint_output, operation, operations_of, owners, shown, states_of,
+};
 
 const ID: &str = "0101010101010101010101010101010101010101010101010101010101010101";
 const ALL: &str = "start output input operation state close memo name symbol denomination \
@@ -139,11 +141,51 @@ fn rules_of_an_output_in_the_order_of_the_check() {
     refused(&before, &output(0, 9, &format!("{low}00")), "2 0");
     refused(&before, &output(0, 9, &low), "5 0");
     refused(&before, &output(1, 3, &format!("{high}{low}")), "7 0");
+    refused(&before, &output(0, 0, &format!("{low}00")), "2 0");
+    refused(&before, &output(0, 0, &low), "5 0");
+    refused(&before, &output(1, 0, &format!("{high}{low}")), "7 0");
     refused(&before, &output(9, 1, &format!("{high}{low}")), "6 0");
     refused(&before, &output(9, 1, &format!("{low}{low}")), "6 0");
     refused(&before, &output(8, 0, "-"), "6 0");
     let same = format!("{before} {} {}", output(9, 0, "-"), output(9, 2, &(low + &high)));
     assert_eq!(answers(&same), "0 46 0 106 0 166 0 266");
+}
+
+/// The steps that name owners with this threshold, each with the steps that come before it.
+fn owned(threshold: u32, count: usize) -> Vec<(String, String)> {
+    let addresses = &[[1; 20], [2; 20]][..count];
+    let owners = owners(0, threshold, addresses);
+    let output = format!("output:{ID}:1:0:{threshold}:{}", Hex(&addresses.concat()));
+    let exported = format!("{} {}", base(4), right("chain"));
+    let states = format!("{} name:41 symbol:41 denomination:0", base(1));
+    let mut owned = vec![(start(0), output.clone()), (exported, output)];
+    owned.extend(
+        operations_of(&owners)
+            .map(|(operation, _)| (base(2), format!("operation:{}", Hex(&operation)))),
+    );
+    owned.extend(
+        states_of(&owners).map(|(state, _)| (states.clone(), format!("state:{}", Hex(&state)))),
+    );
+    owned
+}
+
+#[test]
+fn thresholds_in_every_step_with_owners() {
+    for (threshold, count) in [(0, 0), (1, 1), (1, 2), (2, 2)] {
+        for (before, step) in owned(threshold, count) {
+            let (answers, _) = written(4096, &format!("{before} {step} close"));
+            assert!(answers.split(' ').step_by(2).all(|number| number == "0"), "{step}");
+        }
+    }
+    for (threshold, count) in [(1, 0), (u32::MAX, 0), (0, 1), (2, 1), (0, 2), (3, 2)] {
+        for (before, step) in owned(threshold, count) {
+            refused(&before, &step, "7 0");
+            // The rules come before the room.
+            let written = written(4096, &before).0;
+            let (_, place) = written.rsplit_once(' ').expect("a place");
+            refused(&before, &step.replacen(':', &format!("@{place}:"), 1), "7 0");
+        }
+    }
 }
 
 #[test]

@@ -5,22 +5,25 @@ use crate::cursor::{Cursor, List};
 use crate::element::{self, Output, Owners, Receivers};
 use crate::transaction::{read, Entry, Kind, Own, Row, Transaction};
 
-/// What can be damaged on purpose.
+/// What can be damaged on purpose; nothing in bytes that are refused.
 #[derive(Default)]
-struct Marks {
+pub struct Marks {
     /// Place and width of numbers that stand in many entries.
     numbers: Vec<(usize, usize)>,
     /// Place and width of numbers that stand once in a transaction.
     single: Vec<(usize, usize)>,
     /// Lists of fixed-width elements, with the width.
     runs: Vec<(List, usize)>,
+    /// The addresses of all owners; the threshold stands 8 bytes before the first.
+    addresses: Vec<List>,
     /// Place and length of texts.
     texts: Vec<(usize, usize)>,
     rows: Vec<Row>,
 }
 
 impl Marks {
-    fn of(bytes: &[u8]) -> Marks {
+    /// The marks of a transaction.
+    pub fn of(bytes: &[u8]) -> Marks {
         let mut marks = Marks::default();
         let mut memo_at = 0;
         let transaction = read(bytes, |row, entry| {
@@ -28,7 +31,7 @@ impl Marks {
                 memo_at = row.start + row.length;
             }
             marks.rows.push(row);
-            marks.entry(row, entry);
+            marks.entry(bytes, row, entry);
         });
         let Ok(transaction) = transaction else {
             return Marks::default();
@@ -38,6 +41,26 @@ impl Marks {
         marks.single.extend([(0, 2), (2, 4), (transaction.credentials_at, 4)]);
         marks.own(bytes, &transaction, memo_at.max(transaction.inputs.at));
         marks
+    }
+
+    /// The marks of an operation given as its own bytes.
+    pub fn of_operation(bytes: &[u8]) -> Marks {
+        let mut marks = Marks::default();
+        if let Ok(read) = element::transferable_operation(&mut Cursor::at(bytes, 0)) {
+            marks.run(read.pairs, 36);
+            marks.operation(bytes, read.operation);
+        }
+        marks
+    }
+
+    /// The marks of an initial state given as its own bytes.
+    pub fn of_state(bytes: &[u8]) -> Marks {
+        let mut marks = Marks::default();
+        let each = |_: &Cursor, start, output| marks.output(start, output);
+        match element::initial_state(&mut Cursor::at(bytes, 0), None, each) {
+            Ok(_) => marks,
+            Err(_) => Marks::default(),
+        }
     }
 
     fn list(&mut self, list: List) {
@@ -51,10 +74,11 @@ impl Marks {
 
     fn owners(&mut self, owners: Owners) {
         self.run(owners.addresses, 20);
+        self.addresses.push(owners.addresses);
         self.numbers.push((owners.addresses.at - 8, 4));
     }
 
-    fn entry(&mut self, row: Row, entry: Entry) {
+    fn entry(&mut self, bytes: &[u8], row: Row, entry: Entry) {
         match entry {
             Entry::Output(asset, output) => {
                 let type_at = row.start + if asset.is_some() { 32 } else { 0 };
@@ -68,7 +92,7 @@ impl Marks {
             }
             Entry::Operation(operation) => {
                 self.run(operation.pairs, 36);
-                self.operation(operation.operation);
+                self.operation(bytes, operation.operation);
             }
             Entry::Credential(credential) => {
                 self.numbers.push((row.start, 4));
@@ -91,13 +115,24 @@ impl Marks {
         }
     }
 
-    fn operation(&mut self, operation: element::Operation) {
+    fn operation(&mut self, bytes: &[u8], operation: element::Operation) {
         self.numbers.push((operation.indices.at - 8, 4));
         self.run(operation.indices, 4);
         self.list(operation.payload);
         match operation.receivers {
-            Receivers::Mint(owners) => self.list(owners),
+            Receivers::Mint(list) => self.owner_list(bytes, list),
             Receivers::Transfer(owners) => self.owners(owners),
+        }
+    }
+
+    fn owner_list(&mut self, bytes: &[u8], list: List) {
+        self.list(list);
+        let mut cursor = Cursor::at(bytes, list.at);
+        for _ in 0..list.count {
+            let Ok(owners) = element::owners(&mut cursor) else {
+                return;
+            };
+            self.owners(owners);
         }
     }
 
@@ -139,9 +174,29 @@ pub fn damaged(random: &mut Random, mut bytes: Vec<u8>) -> Vec<u8> {
     bytes
 }
 
+/// A threshold at the edges of what these addresses allow: 0, their number or one more. At
+/// times the first two of them trade places, so that it shows which rule is judged first.
+pub fn edge_threshold(random: &mut Random, addresses: &mut [u8]) -> u32 {
+    let count = addresses.len() as u32 / 20;
+    if count > 1 && random.once_in(4) {
+        addresses[..40].rotate_left(20);
+    }
+    random.pick(&[0, count, count + 1])
+}
+
+/// Sets the threshold of some owners, if there are any.
+pub fn set_threshold(random: &mut Random, bytes: &mut [u8], marks: &Marks) {
+    if marks.addresses.is_empty() {
+        return;
+    }
+    let List { at, count } = random.pick(&marks.addresses);
+    let threshold = edge_threshold(random, &mut bytes[at..][..count as usize * 20]);
+    bytes[at - 8..at - 4].copy_from_slice(&threshold.to_be_bytes());
+}
+
 fn damage(random: &mut Random, bytes: &mut Vec<u8>) {
     let marks = Marks::of(bytes);
-    match random.below(12) {
+    match random.below(14) {
         0 => flip(random, bytes),
         1 => bytes.truncate(random.below(bytes.len() + 1)),
         2 => bytes.extend([0, random.byte()].iter().take(1 + random.below(2))),
@@ -149,6 +204,7 @@ fn damage(random: &mut Random, bytes: &mut Vec<u8>) {
         5 => swap_rows(random, bytes, &marks),
         6 => repeat_or_drop_row(random, bytes, &marks),
         7 => break_text(random, bytes, &marks),
+        8 | 9 if !marks.addresses.is_empty() => set_threshold(random, bytes, &marks),
         _ => alter_number(random, bytes, &marks),
     }
 }

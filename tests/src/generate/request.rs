@@ -2,7 +2,7 @@
 
 use std::collections::VecDeque;
 
-use super::damage::damaged;
+use super::damage::{damaged, edge_threshold, set_threshold, Marks};
 use super::drafts::{copies, draft, places, Grouping};
 use super::uploads::{near_limit, Cutting};
 use super::valid::{of_length, signature, small_transaction, transaction};
@@ -116,6 +116,12 @@ fn bytes(random: &mut Random) -> Vec<u8> {
     }
 }
 
+/// Sets a threshold of a transaction, which often breaks its rule.
+fn reset_threshold(random: &mut Random, bytes: &mut [u8]) {
+    let marks = Marks::of(bytes);
+    set_threshold(random, bytes, &marks);
+}
+
 fn rows(bytes: &[u8]) -> usize {
     check(bytes).map_or(3, |transaction| transaction.rows)
 }
@@ -136,7 +142,10 @@ fn check_request(random: &mut Random) -> String {
 }
 
 fn entry_request(random: &mut Random) -> String {
-    let bytes = if random.once_in(3) { bytes(random) } else { transaction(random) };
+    let mut bytes = if random.once_in(3) { bytes(random) } else { transaction(random) };
+    if random.once_in(12) {
+        reset_threshold(random, &mut bytes);
+    }
     let n = match random.below(30) {
         0 => u32::MAX as usize,
         1 | 2 => rows(&bytes),
@@ -147,8 +156,10 @@ fn entry_request(random: &mut Random) -> String {
 
 fn fill_request(random: &mut Random) -> String {
     let mut draft = draft(random);
-    if random.once_in(12) {
-        draft = damaged(random, draft);
+    match random.below(24) {
+        0 | 1 => draft = damaged(random, draft),
+        2 | 3 => reset_threshold(random, &mut draft),
+        _ => {}
     }
     let places = places(&draft);
     let some = random.below(places.len().max(1));
@@ -182,7 +193,7 @@ fn room(random: &mut Random, length: usize) -> usize {
 fn merge_request(random: &mut Random, name: &str) -> String {
     let conflicts = random.once_in(2);
     let mut drafts = copies(random, 2, conflicts);
-    match random.below(12) {
+    match random.below(14) {
         0 => drafts[0] = draft(random),
         1 => drafts[1][9] ^= 1,
         2 | 3 => {
@@ -190,6 +201,10 @@ fn merge_request(random: &mut Random, name: &str) -> String {
             drafts[broken] = damaged(random, drafts[broken].clone());
         }
         4 => drafts = drafts.into_iter().map(|draft| damaged(random, draft)).collect(),
+        5 | 6 => {
+            let reset = random.below(2);
+            reset_threshold(random, &mut drafts[reset]);
+        }
         _ => {}
     }
     let room = room(random, drafts[0].len());
@@ -292,7 +307,7 @@ fn disturb(random: &mut Random, calls: &mut Vec<Call>) {
         return;
     }
     let n = random.below(calls.len() - 1);
-    match random.below(8) {
+    match random.below(9) {
         0 => calls.swap(n, n + 1),
         1 => drop(calls.remove(n)),
         2 => calls.insert(n, calls[n].clone()),
@@ -300,17 +315,52 @@ fn disturb(random: &mut Random, calls: &mut Vec<Call>) {
             let other = calls[random.below(calls.len())].clone();
             calls.insert(n, other);
         }
+        4 => {
+            let owned = (0..calls.len()).filter(|&n| has_owners(&calls[n].step));
+            let owned: Vec<usize> = owned.collect();
+            let n = if owned.is_empty() { n } else { random.pick(&owned) };
+            let other = with_threshold(random, calls[n].step.clone());
+            put_altered(random, calls, n, other);
+        }
         _ => {
             let other = altered(random, calls[n].step.clone());
-            // Before the right step it is refused and skips nothing; in its stead the
-            // later steps may no longer be due.
-            if random.once_in(3) {
-                calls[n].step = other;
-            } else {
-                calls.insert(n, Call { step: other, lent: None });
-            }
+            put_altered(random, calls, n, other);
         }
     }
+}
+
+/// Puts a step before the right one, where a refusal skips nothing; or in its stead, where
+/// the later steps may no longer be due.
+fn put_altered(random: &mut Random, calls: &mut Vec<Call>, n: usize, step: Step) {
+    if random.once_in(3) {
+        calls[n].step = step;
+    } else {
+        calls.insert(n, Call { step, lent: None });
+    }
+}
+
+/// The step adds an element that may have owners.
+fn has_owners(step: &Step) -> bool {
+    matches!(step, Step::Output { .. } | Step::Operation(_) | Step::State(_))
+}
+
+/// The step with another threshold, if it has owners.
+fn with_threshold(random: &mut Random, mut step: Step) -> Step {
+    match &mut step {
+        Step::Output { threshold, addresses, .. } => {
+            *threshold = edge_threshold(random, addresses);
+        }
+        Step::Operation(bytes) => {
+            let marks = Marks::of_operation(bytes);
+            set_threshold(random, bytes, &marks);
+        }
+        Step::State(bytes) => {
+            let marks = Marks::of_state(bytes);
+            set_threshold(random, bytes, &marks);
+        }
+        _ => {}
+    }
+    step
 }
 
 fn altered(random: &mut Random, step: Step) -> Step {
@@ -355,9 +405,13 @@ fn altered_output(random: &mut Random, step: Step) -> Step {
     };
     match random.below(6) {
         0 => amount = 0,
-        1 => threshold = addresses.len() as u32 / 20 + random.below(2) as u32,
+        1 => threshold = edge_threshold(random, &mut addresses),
         2 => addresses.push(0),
-        3 => addresses.extend(random.array::<20>()),
+        3 => {
+            addresses.extend(random.array::<20>());
+            // Not 0 with an address: the addresses' order is asked for here.
+            threshold = threshold.max(1);
+        }
         4 => addresses.extend(addresses.clone()),
         _ => asset[random.below(32)] = random.pick(&[0, 255]),
     }

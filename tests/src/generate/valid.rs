@@ -71,9 +71,19 @@ fn printable(random: &mut Random, most: usize) -> Vec<u8> {
 fn owners(random: &mut Random, bytes: Encoder) -> Encoder {
     let count = random.few();
     let addresses: BTreeSet<[u8; 20]> = (0..count).map(|_| random.array()).collect();
-    let threshold = random.below(addresses.len() + 1) as u32;
     let addresses: Vec<_> = addresses.into_iter().collect();
-    bytes.u64(random.number64()).u32(threshold).list(&addresses)
+    let threshold = threshold(random, addresses.len());
+    bytes.u64(random.number64()).u32(threshold as u32).list(&addresses)
+}
+
+/// A threshold that a number of addresses allows, often at the edges: 1 and that number.
+fn threshold(random: &mut Random, addresses: usize) -> usize {
+    match random.below(3) {
+        _ if addresses == 0 => 0,
+        0 => 1,
+        1 => addresses,
+        _ => 1 + random.below(addresses),
+    }
 }
 
 fn payload(random: &mut Random, bytes: Encoder) -> Encoder {

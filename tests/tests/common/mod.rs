@@ -88,6 +88,31 @@ pub fn operation(indices: &[u32]) -> Vec<u8> {
     asset.u32(13).numbers(indices).u32(5).string(b"pay").raw(&owners(0, 0, &[])).done()
 }
 
+/// Operations of type 13 and 12 that name these owners, and the owners' place in each.
+pub fn operations_of(owners: &[u8]) -> [(Vec<u8>, usize); 3] {
+    let head = |type_id: u32| {
+        let asset = Encoder::new().raw(&[0xaa; 32]).u32(0);
+        asset.u32(type_id).u32(0).u32(5).u32(0)
+    };
+    let nobody = &self::owners(0, 0, &[])[..];
+    [
+        (head(13).raw(owners).done(), 52),
+        (head(12).list(&[owners]).done(), 56),
+        (head(12).list(&[nobody, owners, nobody]).done(), 72),
+    ]
+}
+
+/// Initial states with one output of each type and these owners, and the owners' place in each.
+pub fn states_of(owners: &[u8]) -> [(Vec<u8>, usize); 4] {
+    let head = |fx_id: u32, type_id: u32| Encoder::new().u32(fx_id).u32(1).u32(type_id);
+    [
+        (head(0, 6).raw(owners).done(), 12),
+        (head(0, 7).u64(1).raw(owners).done(), 20),
+        (head(1, 10).u32(5).raw(owners).done(), 16),
+        (head(1, 11).u32(5).string(b"x").raw(owners).done(), 21),
+    ]
+}
+
 pub fn mint_output(locktime: u64) -> Vec<u8> {
     Encoder::new().u32(6).raw(&owners(locktime, 0, &[])).done()
 }
