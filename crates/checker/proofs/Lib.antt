@@ -1,6 +1,3 @@
--- What is proved of the loops over a plan
+-- What is proved of the loop over a plan
 pub mod Planning
 pub mod Unsigned
-pub mod Ahead
-pub mod Besides
-pub mod Signatures

@@ -19,7 +19,7 @@ use Rattle.wire.specs.code.Answer.{ended}
 use Rattle.wire.proofs.Bytes.{Slice, slice-bytes}
 use Rattle.wire.proofs.Reading as W
 use Rattle.element.proofs.Reading.{answer-took, on-whole, on-refused}
-use Rattle.transaction.specs.Credentials.{CredentialType, secpCredential, nftCredential, Want}
+use Rattle.transaction.specs.Credentials.{CredentialType, Want}
 use Rattle.transaction.specs.Plan.{contentOf, wantOf, fieldCredential, fieldSignatures, elementsOf, Plan, shut, end, field, many, planOf}
 use Rattle.transaction.specs.Form.{atLeast, listOf, form, fieldAsks, elementAsks, asked, wanted}
 use Rattle.transaction.specs.code.Answer.{listAt}
@@ -34,32 +34,12 @@ use Rattle.plan.specs.declared.Due.the-variants as D
 use Rattle.plan.specs.Due.{tail, due, dueOf}
 use Rattle.plan.specs.code.Rows.{lastPhase, Live, credentialAsked}
 use Rattle.plan.proofs.RowLaws.{live-phase, live-next, if-nothing, if-end, if-field, if-list}
+use Rattle.credentials.proofs.Asked.{none-wanted, one-wanted, none-asked, each-asked}
 use Rattle.checker.specs.declared.Passed.{Passed}
 use Rattle.checker.specs.declared.Passed.the-variants as P
 use Rattle.checker.specs.code.Segments.{passedAt, planAt}
 
--- ---- how many credentials are asked for: one for each value, or none
-
-pub none-wanted : (c : Option CredentialType) (t n : ℕ) → t ≡ credentialAsked c → t ≡ 0 → wantOf c n ≡ []
-none-wanted none t n i z = refl
-none-wanted (some secpCredential) t n i z = absurd (omega arith)
-none-wanted (some nftCredential) t n i z = absurd (omega arith)
-
-pub one-wanted : (c : Option CredentialType) (t n : ℕ) → t ≡ credentialAsked c → (t ≡ 0 → ⊥) → length (wantOf c n) ≡ 1
-one-wanted none t n i z = absurd (z i)
-one-wanted (some c) t n i z = refl
-
-module _ {A : Type 0} (c : Option CredentialType) (f : A → ℕ) (t : ℕ) (i : t ≡ credentialAsked c) where
-  pub none-asked : t ≡ 0 → (v : List A) → asked (λ a. wantOf c (f a)) v ≡ []
-  unfolding asked
-  none-asked z [] = refl
-  none-asked z (a ∷ v) = rw (none-wanted c t (f a) i z) (none-asked z v)
-
-  pub each-asked : (t ≡ 0 → ⊥) → (v : List A) → length (asked (λ a. wantOf c (f a)) v) ≡ length v
-  unfolding asked
-  each-asked z [] = refl
-  each-asked z (a ∷ v) =
-      omega (arith, length-append (wantOf c (f a)) (asked (λ a. wantOf c (f a)) v), one-wanted c t (f a) i z, each-asked z v)
+-- ---- how many credentials are asked for: at most one for each value
 
 wanted-few : (c : Option CredentialType) (n : ℕ) → length (wantOf c n) ≤ 1
 wanted-few none n = omega arith

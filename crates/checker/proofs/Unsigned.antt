@@ -30,7 +30,7 @@ use Rattle.transaction.proofs.Good.{typeId-fits}
 use Rattle.transaction.proofs.Reading.{on-answered, on-answered-refused, written-next}
 use Rattle.plan.specs.Due.{tail, due}
 use Rattle.checker.specs.code.Segments.{planAt}
-use Rattle.checker.proofs.Planning.{none-asked}
+use Rattle.credentials.proofs.Asked.{none-asked}
 
 module _ {R : Type 0} (most : ℕ) (s : List ℕ) (z : R) (stop : Refusal → R) (go : Head TransactionType → ℕ → R) (x : Integer) (p : x ≡ headAt s 0) where
   pub on-head : (k n : ℕ) → x ≡ N.Value k n → ((h : Head TransactionType) → k ≡ typeId (h .type) → read (head (avm most)) s 0 ≡ took h n → z ≡ go h n)

@@ -1,4 +1,2 @@
--- What the loops over a plan return
+-- What the loop over a plan returns
 pub mod Segments
-pub mod Wanted
-pub mod Cut

@@ -3,7 +3,7 @@ ghost use mathlib.Core.Path.{_≡_};
 ghost use Rattle.transaction.specs.Answer.{memoMost, checked};
 ghost use Rattle.transaction.specs.code.Answer.{SignedAt};
 use crate::body;
-use crate::credentials;
+use credentials::reading;
 use transaction::Checked;
 use transaction::Layout;
 use transaction::UnsignedRead;
@@ -14,7 +14,7 @@ use wire::Rule;
 fn signed_at(s: &[u8], layout: Layout) -> Checked
     ensures { λ r. ⌜ SignedAt layout (now (s .entry)) r ⌝ }
 {
-    match credentials::credentials_at(s, layout) {
+    match reading::credentials_at(s, layout) {
         End::Refused(refusal) => Checked::Refused(refusal),
         End::At(end) => {
             if end != s.len() {

@@ -27,8 +27,8 @@ use Rattle.transaction.specs.declared.Layout.{Layout}
 use Rattle.transaction.specs.declared.UnsignedRead.{UnsignedRead}
 use Rattle.transaction.specs.declared.UnsignedRead.the-variants as U
 use Rattle.transaction.proofs.Checking.{on-unsigned, on-unsigned-refused}
-use Rattle.checker.specs.code.Wanted.{Wants, firstWanting}
-use Rattle.checker.proofs.Besides.{credentials-stand, first-wants}
+use Rattle.credentials.specs.code.Wanted.{Wants, firstWanting}
+use Rattle.credentials.proofs.Besides.{credentials-stand, first-wants}
 use Rattle.writer_rules.specs.declared.Verdict.{Verdict}
 use Rattle.writer_rules.specs.Given.{given}
 use Rattle.writer_rules.specs.Judged.{refusedBy, judged}

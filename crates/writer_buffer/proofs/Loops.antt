@@ -13,10 +13,10 @@ use Rattle.wire.specs.declared.End.the-variants as P
 use Rattle.transaction.specs.Slots.{signatureWidth}
 use Rattle.transaction.specs.declared.Layout.{Layout}
 use Rattle.transaction.specs.Credentials.{Want}
-use Rattle.checker.specs.declared.Wanting.{Wanting}
-use Rattle.checker.specs.declared.Wanted.{Wanted}
-use Rattle.checker.specs.declared.Wanted.the-variants as X
-use Rattle.checker.specs.code.Wanted.{Wants, First, Nexts, NextWants, firstWanting}
+use Rattle.credentials.specs.declared.Wanting.{Wanting}
+use Rattle.credentials.specs.declared.Wanted.{Wanted}
+use Rattle.credentials.specs.declared.Wanted.the-variants as X
+use Rattle.credentials.specs.code.Wanted.{Wants, First, Nexts, NextWants, firstWanting}
 use Rattle.writer_buffer.specs.Stores.{overwrite}
 use Rattle.writer_buffer.specs.code.Stores.{withInteger}
 use Rattle.writer_buffer.proofs.Stores.{length-overwrite, overwrite-none, overwrite-more, front-stays, integer-put}

@@ -8,10 +8,9 @@ ghost use Rattle.writer_buffer.specs.code.Stores.{written};
 ghost use Rattle.writer_buffer.specs.Closing.{closing, closable};
 ghost use Rattle.writer_buffer.specs.code.Closing.{OfAhead, Room, AllAhead, OfAll, RoomForAll, blankCredential, credentialWidth, blankBytes};
 ghost use Rattle.writer_buffer.specs.code.Closing.{closingBytes, fitted, mostIn, closed};
-use checker::Wanted;
-use checker::Wanting;
-use checker::asking;
-use checker::credentials;
+use credentials::Wanted;
+use credentials::Wanting;
+use credentials::asking;
 use transaction::Layout;
 use transaction::UnsignedRead;
 use wire::End;
@@ -153,7 +152,7 @@ fn closing_end(s: &[u8], layout: Layout, at: usize, limit: usize) -> End
     if limit - at < 4 {
         return full;
     }
-    let from = credentials::first_wanting(layout);
+    let from = asking::first_wanting(layout);
     blanks_end(
         s,
         layout.type_id,
@@ -170,7 +169,7 @@ fn put_closing(buf: &mut [u8], at: usize, layout: Layout)
     ensures { λ _. ⌜ OfAll layout (take at (now (buf .entry))) (λ ws. now (buf .exit) ≡ overwrite (now (buf .entry)) at (closingBytes ws)) ⌝ }
 {
     let count = layout.credentials_count;
-    let from = credentials::first_wanting(layout);
+    let from = asking::first_wanting(layout);
     crate::put_u32(buf, at, count);
     put_blanks(buf, at, layout.type_id, from, count, at + 4);
 }

@@ -12,8 +12,8 @@ use Rattle.transaction.specs.Slots.{signatureWidth}
 use Rattle.transaction.specs.Signed.{mostBytes}
 use Rattle.transaction.specs.declared.Layout.{Layout}
 use Rattle.transaction.specs.Credentials.{Want, each, pieces, layout, credentials, blanks}
-use Rattle.checker.specs.declared.Wanting.{Wanting}
-use Rattle.checker.specs.code.Wanted.{Wants, firstWanting}
+use Rattle.credentials.specs.declared.Wanting.{Wanting}
+use Rattle.credentials.specs.code.Wanted.{Wants, firstWanting}
 use Rattle.writer_buffer.specs.Stores.{roomFor}
 use Rattle.writer_buffer.specs.code.Stores.{written}
 
