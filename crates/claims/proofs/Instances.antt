@@ -14,7 +14,7 @@ use Rattle.wire.specs.Fields.{integer}
 use Rattle.wire.specs.Sequence.{items}
 use Rattle.wire.specs.Parsers.{listParse, listWrite, blobParse}
 use Rattle.string.specs.Strings.{string}
-use Rattle.element.specs.Owners.{owners}
+use Rattle.owners.specs.Owners.{owners}
 use Rattle.element.specs.Outputs.{transferBody, transferableOutput}
 use Rattle.element.specs.Inputs.{key, spend, inputAfter}
 use Rattle.transaction.specs.Slots.{signatureWidth, blank, slotAt, putSlot, putAll}

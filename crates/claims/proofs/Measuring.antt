@@ -6,7 +6,7 @@ use native.Mathlib.Omega.{arith}
 use lib.ListN.{length, length-append}
 use Rattle.wire.specs.laws.Bytes.{length-digits}
 use Rattle.wire.specs.Orders.{All}
-use Rattle.element.specs.Owners.{Owners}
+use Rattle.owners.specs.Owners.{Owners}
 use Rattle.element.specs.PlainBytes.{u32, joined, ownersBytes, outputBytes, inputBytes}
 use Rattle.claims.specs.Lengths.{AddressesOf20, Lengths}
 

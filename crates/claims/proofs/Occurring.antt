@@ -19,7 +19,7 @@ use Rattle.wire.specs.Parsers.{listParse, listWrite, blobParse}
 use Rattle.wire.specs.Orders.{OneOf}
 use Rattle.string.specs.Strings.{string, text, printable, denomination}
 use Rattle.string.specs.Characters.{unprintable}
-use Rattle.element.specs.Owners.{owners}
+use Rattle.owners.specs.Owners.{owners}
 use Rattle.element.specs.Outputs.{amount, transferBody, output, transferableOutput}
 use Rattle.element.specs.Inputs.{key, indices, spend, inputAfter}
 use Rattle.transaction.specs.Slots.{signatureWidth, blank, slotAt, putSlot, putAll}

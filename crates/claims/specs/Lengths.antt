@@ -4,7 +4,7 @@ use mathlib.Core.Path.{_≡_}
 use mathlib.Core.List.{List}
 use lib.ListN.{length}
 use Rattle.wire.specs.Orders.{All}
-use Rattle.element.specs.Owners.{Owners}
+use Rattle.owners.specs.Owners.{Owners}
 use Rattle.element.specs.Outputs.{secpMint, secpTransfer, nftMint, nftTransfer}
 use Rattle.element.specs.Inputs.{Input}
 use Rattle.element.specs.PlainBytes.{outputBytes, inputBytes}

@@ -21,7 +21,7 @@ use Rattle.wire.proofs.Orders.{constant-good, tag-good, keyBelow-order, above-g
 use Rattle.wire.proofs.Orders.{counted-good, adjacent-map}
 use Rattle.string.specs.Strings.{string, payload, text, denomination}
 use Rattle.string.specs.Characters.{isPrintable, unprintable}
-use Rattle.element.specs.Owners.{Owners, thresholdFits, owners}
+use Rattle.owners.specs.Owners.{Owners, thresholdFits, owners}
 use Rattle.element.specs.Outputs.{amount, transferBody, OutputType, secpMint, secpTransfer, nftMint, nftTransfer, outputCode, OutputBody}
 use Rattle.element.specs.Outputs.{outputBody, outputType, outputType-code, Output, output, TransferableOutput, transferableOutput}
 use Rattle.element.specs.Inputs.{key, indices, Input, spend, inputAfter, input}

@@ -14,7 +14,7 @@ use Rattle.wire.proofs.Refusing.{RefusesBy, NumberIn, one-of, blob-refuses, int
 use Rattle.wire.proofs.Refusing.{mapped-refuses, tag-refuses, series-refuses, above-refuses, notBelow-refuses, counted-refuses}
 use Rattle.string.specs.Strings.{payload}
 use Rattle.string.proofs.Refusing.{string-refuses}
-use Rattle.element.specs.Owners.{addressWidth, thresholdFits, owners}
+use Rattle.owners.specs.Owners.{addressWidth, thresholdFits, owners}
 use Rattle.element.specs.Outputs.{amount, OutputType, secpMint, secpTransfer, nftMint, nftTransfer, outputCode, outputType, outputType-code}
 use Rattle.element.specs.Outputs.{transferBody, outputBody, output, transferableOutput}
 use Rattle.element.specs.Inputs.{key, indices, spend, inputAfter}

@@ -9,7 +9,7 @@ use Rattle.wire.specs.Sequence.{guard, tag, items}
 use Rattle.wire.specs.Series.{left, above, notBelow, countPrefixed}
 use Rattle.wire.specs.Parsers.{listWrite}
 use Rattle.string.specs.Strings.{string, printable, text, denomination}
-use Rattle.element.specs.Owners.{Owners, owners}
+use Rattle.owners.specs.Owners.{Owners, owners}
 use Rattle.element.specs.Outputs.{OutputType, secpMint, secpTransfer, nftMint, nftTransfer, transferBody, Output, output, TransferableOutput}
 use Rattle.element.specs.Outputs.{transferableOutput}
 use Rattle.element.specs.Inputs.{Input, key, indices, spend, inputAfter, input}

@@ -8,7 +8,7 @@ use lib.ListN.{length}
 use Rattle.wire.specs.Bytes.{Bytes}
 use Rattle.wire.specs.Parsers.{Sized}
 use Rattle.wire.specs.Orders.{All, OneOf, Increasing, Nondecreasing, Ascending}
-use Rattle.element.specs.Owners.{Owners}
+use Rattle.owners.specs.Owners.{Owners}
 use Rattle.element.specs.Outputs.{OutputType, secpMint, secpTransfer, nftMint, nftTransfer, OutputBody, Output, TransferableOutput}
 use Rattle.element.specs.Inputs.{Input}
 use Rattle.element.specs.Operations.{OperationType, mintNft, transferNft, OperationOwners, Operation, Fx, secpFx, nftFx, InitialState}

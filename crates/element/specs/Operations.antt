@@ -11,7 +11,7 @@ use Rattle.wire.specs.Fields.{integer, blob}
 use Rattle.wire.specs.Sequence.{andThen, named, tag}
 use Rattle.wire.specs.Series.{above, notBelow, countPrefixed}
 use Rattle.string.specs.Strings.{payload}
-use Rattle.element.specs.Owners.{Owners, owners, ownersFields}
+use Rattle.owners.specs.Owners.{Owners, owners, ownersFields}
 use Rattle.element.specs.Outputs.{OutputType, secpMint, secpTransfer, nftMint, nftTransfer, Output, output}
 use Rattle.element.specs.Inputs.{key, keyWidth, indices}
 use Rattle.element.specs.declared.OperationFields.{OperationFields}

@@ -10,7 +10,7 @@ use Rattle.wire.specs.Format.{Format}
 use Rattle.wire.specs.Fields.{integer, blob}
 use Rattle.wire.specs.Sequence.{andThen, guard, named, tag}
 use Rattle.string.specs.Strings.{payload}
-use Rattle.element.specs.Owners.{Owners, owners, ownersFields}
+use Rattle.owners.specs.Owners.{Owners, owners, ownersFields}
 use Rattle.element.specs.declared.OutputFields.{OutputFields}
 use Rattle.element.specs.declared.OutputFields.the-variants as O
 

@@ -4,7 +4,7 @@ use Prim.Native.Nat.{ℕ}
 use mathlib.Core.List.{List, [], _∷_, _++_}
 use lib.ListN.{length}
 use Rattle.wire.specs.Bytes.{digits}
-use Rattle.element.specs.Owners.{Owners}
+use Rattle.owners.specs.Owners.{Owners}
 use Rattle.element.specs.Outputs.{secpMint, secpTransfer, nftMint, nftTransfer, Output, TransferableOutput}
 use Rattle.element.specs.Inputs.{Input}
 use Rattle.element.specs.Operations.{OperationType, mintNft, transferNft, OperationOwners, Operation, Fx, secpFx, nftFx, InitialState}

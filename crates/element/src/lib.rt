@@ -1,9 +1,10 @@
-// The elements of a transaction: owners, outputs, inputs, operations and initial states. A reader takes the fields from left to right and returns the
+// The elements of a transaction: outputs, inputs, operations and initial states. A reader takes the fields from left to right and returns the
 // offset just past the element.
 pub mod inputs;
 pub mod operations;
 pub mod outputs;
-pub mod owners;
+
+use owners::OwnersFields;
 
 // The types of outputs.
 pub const SECP_MINT: u64 = 6;
@@ -21,14 +22,6 @@ pub(crate) const SECP_INPUT: u64 = 5;
 pub const MINT_OPERATION: u64 = 12;
 
 pub(crate) const TRANSFER_OPERATION: u64 = 13;
-
-// The fields of owners. The addresses are `addresses_count` times 20 bytes from `addresses_at` on.
-pub struct OwnersFields {
-    pub locktime: u64,
-    pub threshold: u64,
-    pub addresses_at: usize,
-    pub addresses_count: u64,
-}
 
 // An output's own fields, by its type (6, 7, 10 or 11).
 pub enum OutputFields {

@@ -8,7 +8,6 @@ use crate::MINT_OPERATION;
 use crate::TRANSFER_OPERATION;
 use crate::inputs;
 use crate::outputs;
-use crate::owners;
 use wire::End;
 use wire::Integer;
 use wire::Rule;

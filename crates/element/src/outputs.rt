@@ -9,7 +9,6 @@ use crate::NFT_MINT;
 use crate::NFT_TRANSFER;
 use crate::SECP_MINT;
 use crate::SECP_TRANSFER;
-use crate::owners;
 use wire::End;
 use wire::Integer;
 use wire::Rule;

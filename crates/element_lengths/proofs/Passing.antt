@@ -32,7 +32,7 @@ use Rattle.wire.proofs.Passing.{yields-parse, yields-end, parse-whole, parse-ne
 use Rattle.wire.proofs.Passing.{value-next, value-short, tag-next, tag-short, Each, Onward}
 use Rattle.string.specs.Strings.{payload}
 use Rattle.string.proofs.Passing as S
-use Rattle.element.specs.Owners.{Owners, owners}
+use Rattle.owners.specs.Owners.{Owners, owners}
 use Rattle.element.specs.Outputs.{OutputType, outputCode, outputType, outputType-code, outputBody}
 use Rattle.element.specs.Outputs.{amount, transferBody, Output, output, transferableOutput}
 use Rattle.element.specs.Inputs.{key, indices, spend, inputAfter, input}

@@ -7,7 +7,7 @@ ghost use Rattle.wire.specs.Sequence.{andThen};
 ghost use Rattle.wire.specs.Series.{unordered, notBelow, nondecreasing};
 ghost use Rattle.wire.specs.code.Answer.{Passes, Tells};
 ghost use Rattle.string.specs.Strings.{payload};
-ghost use Rattle.element.specs.Owners.{owners};
+ghost use Rattle.owners.specs.Owners.{owners};
 ghost use Rattle.element.specs.Outputs.{output, transferableOutput};
 ghost use Rattle.element.specs.Inputs.{input};
 ghost use Rattle.element.specs.Operations.{terms, action, operation, operationOwners, operationType, Fx, fxOutputs, initialState};

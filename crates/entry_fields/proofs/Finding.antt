@@ -18,14 +18,14 @@ use Rattle.wire.specs.laws.Sizes.{items-sized, length-integer, blob-sized}
 use Rattle.wire.proofs.Bytes.{Slice, slice-bytes}
 use Rattle.wire.proofs.Reading as L
 use Rattle.string.specs.Strings.{string}
-use Rattle.element.specs.Owners.{Owners, addressWidth, thresholdFits, owners, ownersFields}
+use Rattle.owners.specs.Owners.{Owners, addressWidth, thresholdFits, owners, ownersFields}
 use Rattle.element.specs.Outputs.{amount, OutputType, secpMint, secpTransfer, nftMint, nftTransfer, outputCode, outputType, outputType-code}
 use Rattle.element.specs.Outputs.{OutputBody, transferBody, outputBody, Output, output, outputFields}
 use Rattle.element.specs.Inputs.{key, keyWidth, indices, spend, inputFields}
 use Rattle.element.specs.Operations.{OperationType, mintNft, transferNft, operationCode, operationType, operationType-code, OperationOwners}
 use Rattle.element.specs.Operations.{operationOwners, terms, termsFields, recipients, action, Operation, operation, operationFields}
 use Rattle.element.specs.code.Answer.{Terms, Action}
-use Rattle.element.specs.declared.OwnersFields.{OwnersFields}
+use Rattle.owners.specs.declared.OwnersFields.{OwnersFields}
 use Rattle.element.specs.declared.OutputFields.{OutputFields}
 use Rattle.element.specs.declared.OutputFields.the-variants as F
 use Rattle.element.specs.declared.Recipients.the-variants as Q

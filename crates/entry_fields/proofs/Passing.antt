@@ -3,7 +3,7 @@ use Prim.Native.Nat.{ℕ}
 use mathlib.Core.Path.{_≡_, sym, ap, _∙_}
 use Rattle.wire.proofs.Bytes.{found}
 use Rattle.wire.proofs.Reading as L
-use Rattle.element.specs.declared.OwnersFields.{OwnersFields}
+use Rattle.owners.specs.declared.OwnersFields.{OwnersFields}
 use Rattle.element.specs.declared.OutputFields.{OutputFields}
 use Rattle.element.specs.declared.TermsFields.{TermsFields}
 use Rattle.element.specs.declared.Recipients.{Recipients}

@@ -5,9 +5,9 @@ ghost use Rattle.entry_fields.specs.code.Found.{nftMintFound, nftTransfe
 use element::InputFields;
 use element::OperationFields;
 use element::OutputFields;
-use element::OwnersFields;
 use element::Recipients;
 use element::TermsFields;
+use owners::OwnersFields;
 use wire::End;
 use wire::Integer;
 

@@ -4,7 +4,7 @@ use mathlib.Core.Path.{_≡_, refl, ap, _∙_}
 use mathlib.Core.List.{List, [], _∷_}
 use native.Mathlib.Omega.{arith}
 use lib.ListN.{length, set}
-use Rattle.element.specs.declared.OwnersFields.{OwnersFields}
+use Rattle.owners.specs.declared.OwnersFields.{OwnersFields}
 use Rattle.element.specs.declared.OutputFields.{OutputFields}
 use Rattle.element.specs.declared.OutputFields.the-variants as O
 use Rattle.element.specs.declared.OperationFields.{OperationFields}

@@ -15,10 +15,10 @@ use draft::Answer;
 use element::InputFields;
 use element::OperationFields;
 use element::OutputFields;
-use element::OwnersFields;
 use element::Recipients;
 use entry::EntryAnswer;
 use entry_table::Tabled;
+use owners::OwnersFields;
 use transaction::CredentialFields;
 use transaction::Entry;
 

@@ -377,6 +377,13 @@ module _ {A R : Type 0} (E : List ℕ → Format A) (step : List ℕ → A → L
   pub list-again : (p q : ℕ) (w : List ℕ) → Stands s p w q → items E step (between p q s) n .parse s at stop go ≡ items E step w n .parse s at stop go
   list-again p q w h = rw (stands-part s p w q h)
 
+-- without an order, the parse does not depend on the element before
+pub unordered-again : {A : Type 0} (F : Format A) (s : List ℕ) (n at : ℕ) (stop : Refusal → End) (go : List A → ℕ → End) (p q : List ℕ)
+    → items (λ prev. F) (left (λ prev. F)) p n .parse s at stop go ≡ items (λ prev. F) (left (λ prev. F)) q n .parse s at stop go
+unfolding items listParse
+unordered-again F s zero at stop go p q = refl
+unordered-again F s (suc n) at stop go p q = refl
+
 -- one turn of a loop: the code knows an element only by its offsets
 pub ruleset turn =
     (list-on, on-value-there, on-short, on-part-there, on-cut, if-above, if-not-above, if-below, if-not-below, stands-append, list-again, part-made)

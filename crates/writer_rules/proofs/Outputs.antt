@@ -22,8 +22,8 @@ use Rattle.wire.specs.Orders.{All}
 use Rattle.wire.specs.code.Answer.{ended}
 use Rattle.wire.proofs.Bytes.{found}
 use Rattle.wire.proofs.Reading.{tests}
-use Rattle.element.specs.Owners.{owners, thresholdFits}
-use Rattle.element.proofs.Reading.{if-fits, if-unfit}
+use Rattle.owners.specs.Owners.{owners, thresholdFits}
+use Rattle.owners.proofs.Reading.{if-fits, if-unfit}
 use Rattle.element.specs.Outputs as Outputs
 use Rattle.element.specs.Outputs.{transferBody, output, transferableOutput}
 use Rattle.writer_rules.specs.declared.Verdict.{Verdict}

@@ -5,7 +5,7 @@ use mathlib.Core.List.{List, [], _∷_, _++_}
 use lib.ListN.{length, take, drop}
 use lib.Dec.{eqb}
 use Rattle.wire.specs.Bytes.{digits}
-use Rattle.element.specs.Owners.{addressWidth}
+use Rattle.owners.specs.Owners.{addressWidth}
 use Rattle.element.specs.Outputs.{secpTransfer, TransferableOutput, transferableOutput}
 use Rattle.element.specs.Inputs.{Input, input}
 

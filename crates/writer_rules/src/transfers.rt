@@ -67,7 +67,7 @@ fn addresses_rise(addresses: &[u8]) -> bool
     ensures { λ r. ⌜ r ≡ eachAbove (blob 20) [] (addressesOf (length (now (addresses .entry)) / 20) (now (addresses .entry))) ⌝ }
 {
     let count = addresses.len() / 20;
-    match element::owners::addresses_from(addresses, 0, count as u64) {
+    match owners::addresses_from(addresses, 0, count as u64) {
         End::At(_) => true,
         End::Refused(_) => false,
     }
@@ -127,7 +127,7 @@ pub fn output_rules(
     if amount == 0 {
         return crate::refuse_step(Rule::ZeroAmount);
     }
-    if !element::owners::threshold_fits(threshold as u64, (addresses.len() / 20) as u64) {
+    if !owners::threshold_fits(threshold as u64, (addresses.len() / 20) as u64) {
         return crate::refuse_step(Rule::BadThreshold);
     }
     if !addresses_rise(addresses) {

@@ -15,7 +15,7 @@ use Rattle.wire.specs.Fields.{integer, blob, constant}
 use Rattle.wire.specs.Sequence.{andThen, guard, guardAt, named, tag, items}
 use Rattle.wire.specs.Series.{left, above, notBelow, countPrefixed}
 use Rattle.wire.specs.Parsers.{Chain}
-use Rattle.element.specs.Owners.{Owners, owners}
+use Rattle.owners.specs.Owners.{Owners, owners}
 use Rattle.element.specs.Outputs.{amount, Output, secpMint, secpTransfer, nftMint, nftTransfer}
 use Rattle.element.specs.Outputs.{transferBody, output, TransferableOutput, transferableOutput}
 use Rattle.string.specs.Strings.{denomination}

@@ -21,7 +21,7 @@ use Rattle.wire.specs.Parsers.{listed}
 use Rattle.wire.proofs.Refusing.{RefusesBy, NumberIn, one-of, refuses-more}
 use Rattle.string.specs.Strings.{memo, text, denomination}
 use Rattle.string.specs.Characters.{unprintable}
-use Rattle.element.specs.Owners.{thresholdFits}
+use Rattle.owners.specs.Owners.{thresholdFits}
 use Rattle.element.specs.Outputs.{transferableOutput}
 use Rattle.element.specs.Inputs.{input}
 use Rattle.element.specs.Operations as Operations

@@ -19,7 +19,7 @@ use Rattle.wire.specs.Orders.{OneOf}
 use Rattle.string.specs.Strings as Strings
 use Rattle.string.specs.Strings.{string, text, denomination}
 use Rattle.string.specs.Characters.{unprintable}
-use Rattle.element.specs.Owners.{owners}
+use Rattle.owners.specs.Owners.{owners}
 use Rattle.element.specs.Outputs as Outputs
 use Rattle.element.specs.Outputs.{transferBody, transferableOutput}
 use Rattle.element.specs.Inputs.{key, spend, inputAfter}

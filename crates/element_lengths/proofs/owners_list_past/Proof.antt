@@ -3,7 +3,7 @@
 use borrow.Author.Needs.{needs}
 use Rattle.wire.specs.Series.{left as written, unordered}
 use Rattle.wire.proofs.Passing.{Onward, passes}
-use Rattle.element.specs.Owners.{owners}
+use Rattle.owners.specs.Owners.{owners}
 use Rattle.element_lengths.proofs.Passing.{looping}
 use Rattle.element_lengths.proofs.owners_list_past.Statement.{statement}
 use Rattle.element_lengths.proofs.owners_list_past.Tie as tie

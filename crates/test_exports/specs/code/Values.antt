@@ -3,7 +3,7 @@ use Prim.Native.Nat.{ℕ}
 use mathlib.Core.List.{List, [], _∷_, _++_}
 use lib.ListN.{length, take, drop, set}
 use Rattle.wire.specs.Numbers.{numberOf}
-use Rattle.element.specs.declared.OwnersFields.{OwnersFields}
+use Rattle.owners.specs.declared.OwnersFields.{OwnersFields}
 use Rattle.element.specs.declared.OutputFields.{OutputFields}
 use Rattle.element.specs.declared.OutputFields.the-variants as O
 use Rattle.element.specs.declared.InputFields.{InputFields}

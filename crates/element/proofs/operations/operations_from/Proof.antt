@@ -4,9 +4,9 @@ use borrow.Author.Needs.{needs}
 use mathlib.Core.Path.{_≡_, refl}
 use Rattle.wire.specs.Series.{unordered}
 use Rattle.wire.specs.code.Answer.{ended}
-use Rattle.wire.proofs.Reading.{list-on, list-end}
+use Rattle.wire.proofs.Reading.{list-on, list-end, unordered-again}
 use Rattle.element.specs.Operations.{operation}
-use Rattle.element.proofs.Reading.{on-operation, on-operation-refused, unordered-again}
+use Rattle.element.proofs.Reading.{on-operation, on-operation-refused}
 use Rattle.element.proofs.operations.operations_from.Statement.{statement}
 use Rattle.element.proofs.operations.operations_from.Tie as tie
 

@@ -1,12 +1,20 @@
-// Owners: locktime, threshold, addresses.
+// Owners: locktime, threshold, addresses. Outputs and operations have them.
 ghost use mathlib.Core.Path.{_≡_};
 ghost use Rattle.wire.specs.Fields.{blob};
 ghost use Rattle.wire.specs.Series.{increasing, unordered};
 ghost use Rattle.wire.specs.code.Answer.{ended};
-ghost use Rattle.element.specs.Owners.{owners, thresholdFits};
+ghost use Rattle.owners.specs.Owners.{owners, thresholdFits};
 use wire::End;
 use wire::Integer;
 use wire::Rule;
+
+// The fields of owners. The addresses are `addresses_count` times 20 bytes from `addresses_at` on.
+pub struct OwnersFields {
+    pub locktime: u64,
+    pub threshold: u64,
+    pub addresses_at: usize,
+    pub addresses_count: u64,
+}
 
 // `count` addresses from `start` on, each strictly above the one before. Each turn tests again that the address before is there: the compiler then
 // knows it of both addresses, and passes them without another test.
@@ -50,7 +58,7 @@ pub fn threshold_fits(threshold: u64, addresses: u64) -> bool
 }
 
 // Owners at `at`: locktime, threshold, addresses.
-pub(crate) fn owners_at(s: &[u8], at: usize) -> End
+pub fn owners_at(s: &[u8], at: usize) -> End
     ensures { λ r. ⌜ r ≡ ended owners (now (s .entry)) at ⌝ }
 {
     let Integer::Value(_, threshold_at) = wire::u64_at(s, at) else {
@@ -69,7 +77,7 @@ pub(crate) fn owners_at(s: &[u8], at: usize) -> End
 }
 
 // `count` owners from `start` on, in any order.
-pub(crate) fn owners_list_at(s: &[u8], start: usize, count: u64) -> End
+pub fn owners_list_at(s: &[u8], start: usize, count: u64) -> End
     ensures { λ r. ⌜ r ≡ ended (unordered owners count) (now (s .entry)) start ⌝ }
 {
     let mut left = count;

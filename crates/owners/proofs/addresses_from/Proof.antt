@@ -1,4 +1,4 @@
--- `element::owners::addresses_from` meets its contract. The invariant: parsing the address before, and what is left after it, gives the answer of the list.
+-- `owners::addresses_from` meets its contract. The invariant: parsing the address before, and what is left after it, gives the answer of the list.
 -- Assumes nothing.
 use borrow.Author.Needs.{needs}
 use native.Mathlib.Omega.{arith}
@@ -6,10 +6,10 @@ use mathlib.Core.Path.{_≡_}
 use Rattle.wire.specs.Fields.{blob}
 use Rattle.wire.specs.Series.{increasing}
 use Rattle.wire.specs.code.Answer.{ended}
-use Rattle.element.proofs.Reading.{addressThen, AddressTurn, address-turn}
-use Rattle.element.proofs.Reading.{no-address, address-first, address-gone, address-cut, address-last}
-use Rattle.element.proofs.owners.addresses_from.Statement.{statement}
-use Rattle.element.proofs.owners.addresses_from.Tie as tie
+use Rattle.owners.proofs.Reading.{addressThen, AddressTurn, address-turn}
+use Rattle.owners.proofs.Reading.{no-address, address-first, address-gone, address-cut, address-last}
+use Rattle.owners.proofs.addresses_from.Statement.{statement}
+use Rattle.owners.proofs.addresses_from.Tie as tie
 
 abbrev Inv-loop : tie.InvT-loop
 Inv-loop s start count left₀ prev₀ left prev =

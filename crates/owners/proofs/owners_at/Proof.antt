@@ -1,10 +1,11 @@
--- `element::owners::owners_at` meets its contract.
+-- `owners::owners_at` meets its contract.
 -- Assumes nothing.
 use borrow.Author.Needs.{needs}
-use Rattle.element.proofs.Reading.{reading, if-fits, if-unfit}
-use Rattle.element.specs.Owners.{owners}
-use Rattle.element.proofs.owners.owners_at.Statement.{statement}
-use Rattle.element.proofs.owners.owners_at.Tie as tie
+use Rattle.wire.proofs.Reading.{reading}
+use Rattle.owners.proofs.Reading.{if-fits, if-unfit}
+use Rattle.owners.specs.Owners.{owners}
+use Rattle.owners.proofs.owners_at.Statement.{statement}
+use Rattle.owners.proofs.owners_at.Tie as tie
 
 pub owners-at-spec : {M : Type 1} → statement M
 unfolding owners

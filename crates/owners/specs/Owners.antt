@@ -12,7 +12,7 @@ use Rattle.wire.specs.Fields.{integer, blob}
 use Rattle.wire.specs.Sequence.{andThen, guard, named}
 use Rattle.wire.specs.Series.{above, left, increasing}
 use Rattle.wire.specs.laws.Sizes.{items-sized}
-use Rattle.element.specs.declared.OwnersFields.{OwnersFields}
+use Rattle.owners.specs.declared.OwnersFields.{OwnersFields}
 
 pub record Owners : Type 0 where
   pub locktime : ℕ

@@ -1,14 +1,14 @@
--- `element::owners::owners_list_at` meets its contract. The invariant: parsing what is left gives the answer of the list.
+-- `owners::owners_list_at` meets its contract. The invariant: parsing what is left gives the answer of the list.
 -- Assumes nothing.
 use borrow.Author.Needs.{needs}
 use mathlib.Core.Path.{_≡_, refl}
 use Rattle.wire.specs.Series.{unordered}
 use Rattle.wire.specs.code.Answer.{ended}
-use Rattle.wire.proofs.Reading.{list-on, list-end}
-use Rattle.element.specs.Owners.{owners}
-use Rattle.element.proofs.Reading.{on-owners, on-owners-refused, unordered-again}
-use Rattle.element.proofs.owners.owners_list_at.Statement.{statement}
-use Rattle.element.proofs.owners.owners_list_at.Tie as tie
+use Rattle.wire.proofs.Reading.{list-on, list-end, unordered-again}
+use Rattle.owners.specs.Owners.{owners}
+use Rattle.owners.proofs.Reading.{on-owners, on-owners-refused}
+use Rattle.owners.proofs.owners_list_at.Statement.{statement}
+use Rattle.owners.proofs.owners_list_at.Tie as tie
 
 abbrev Inv-loop : tie.InvT-loop
 Inv-loop s start count left₀ at₀ left at =

@@ -1,13 +1,13 @@
--- `element::owners::threshold_fits` meets its contract. Assumes nothing.
+-- `owners::threshold_fits` meets its contract. Assumes nothing.
 use mathlib.Core.Path.{_≡_}
 use Prim.Native.Nat.{ℕ, _≤_, _<_}
 use native.Mathlib.Omega.{arith}
 use mathlib.Core.Bool.{true, false}
 use lib.Dec.{eqb}
 use borrow.Author.Tests.{eq-eqb, ne-eqb, le-leb, lt-leb}
-use Rattle.element.specs.Owners.{thresholdFits}
-use Rattle.element.proofs.owners.threshold_fits.Statement.{statement}
-use Rattle.element.proofs.owners.threshold_fits.Tie as tie
+use Rattle.owners.specs.Owners.{thresholdFits}
+use Rattle.owners.proofs.threshold_fits.Statement.{statement}
+use Rattle.owners.proofs.threshold_fits.Tie as tie
 
 module _ (threshold addresses : ℕ) where
   above : addresses < threshold → false ≡ thresholdFits threshold addresses

@@ -1,0 +1,2 @@
+-- Owners as a format
+pub mod Owners
