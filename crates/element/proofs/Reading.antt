@@ -7,7 +7,7 @@
 --                    `on-..-refused`)
 --   rulesets         a chain that ends in a refusal or in an answer that is returned
 -- Assumes nothing.
-use Prim.Native.Nat.{ℕ, zero, suc, _-_, _^_, _≤_, _<_}
+use Prim.Native.Nat.{ℕ, zero, suc, _^_, _≤_, _<_}
 use mathlib.Core.Path.{_≡_, refl, sym, ap, _∙_}
 use mathlib.Core.Bool.{Bool, true, false, not}
 use mathlib.Core.List.{List, [], _∷_, _++_}
@@ -15,7 +15,7 @@ use native.Mathlib.Omega.{arith}
 use lib.ListN.{length, take, length-append}
 use lib.Seq.{take-at}
 use lib.Dec.{ltb, eqb}
-use borrow.Author.Tests.{ltb-true, ltb-false, eq-eqb, ne-eqb, not-true, not-false}
+use borrow.Author.Tests.{ltb-true, ltb-false, eq-eqb, ne-eqb}
 use Rattle.wire.specs.declared.Refusal.{Refusal}
 use Rattle.wire.specs.declared.End.{End}
 use Rattle.wire.specs.declared.End.the-variants as P
@@ -29,7 +29,7 @@ use Rattle.wire.specs.Numbers.{by, cutAt, unknownType, outOfOrder}
 use Rattle.wire.specs.Fields.{blob, integer}
 use Rattle.wire.specs.laws.Sizes.{length-integer}
 use Rattle.wire.specs.Sequence.{guard, tag, items}
-use Rattle.wire.specs.Series.{left, above, notBelow, increasing, seriesFrom, series}
+use Rattle.wire.specs.Series.{left, notBelow, series}
 use Rattle.wire.specs.Parsers.{listParse}
 use Rattle.wire.specs.code.Order.{keyBelow}
 use Rattle.wire.specs.code.Answer.{ended, valued, wholeAt}
