@@ -80,7 +80,7 @@ fn beside(s: &[u8], type_id: u32, from: Wanting, count: u64, start: usize) -> En
             at: asks_at,
             left: elements,
         };
-        let Wanted::Credential(credential, signatures, next) = asking::next_wanted(
+        let Wanted::Credential(credential, signatures, next) = asking::next_wanted_fast(
             s,
             type_id,
             cursor,

@@ -16,7 +16,7 @@ pub beside-spec : {M : Type 1} → statement M
 beside-spec =
     tie.close (tie.spec Inv-loop μ-loop
     (λ c. search onward)  -- loop-holds
-    (λ c κs. search needs) (λ c. search needs) (λ c. search needs) (λ c. search onward)  -- next-wanted-requires, enum-known-credential, enum-told, returns
+    (λ c κs. search needs) (λ c. search needs) (λ c. search needs) (λ c. search onward)  -- next-wanted-fast-requires, enum-known-credential, enum-told, returns
     (λ c κs. search needs) (λ c. search needs) (λ c. search onward)  -- credential-at-requires, enum-known-refusal, returns-2
     (λ c. search needs) (λ c. search needs) (λ c. search needs) (λ c. search onward)  -- enum-known-end, sub-left, loop-less, loop-again
     (λ c. search onward))  -- returns-3
