@@ -1,5 +1,4 @@
 // What a transaction's plan has at each phase: for the checker the next segment, for the writer the next step.
-pub mod questions;
 pub mod rows;
 
 use transaction::FieldName;

@@ -35,8 +35,9 @@ use Rattle.writer_rules.specs.code.Judged.{onAllowed}
 use Rattle.writer_rules.specs.code.Elements.{outputFront, outputHead, inputHead, integersBytes}
 use Rattle.writer_rules.specs.code.Texts.{typeRules, listRules, memoRules, textRules, denominationRules}
 use Rattle.writer_rules.proofs.Verdicts.{pick-fine, judged-read, judged-on}
-use Rattle.writer_rules.proofs.Outputs.{built-written, output-bytes}
-use Rattle.writer_rules.proofs.Inputs.{written-input, input-bytes, length-integers}
+use Rattle.writer_transfers.proofs.Outputs.{built-written, output-bytes}
+use Rattle.writer_rules.proofs.Integers.{length-integers}
+use Rattle.writer_transfers.proofs.Inputs.{written-input, input-bytes}
 use Rattle.writer_rules.proofs.FieldLaws.{string-write, text-write, string-judged, text-judged}
 use Rattle.writer_rules.proofs.FieldLaws.{denomination-write, denomination-judged, id-judged, head-judged, front-is}
 use Rattle.plan.specs.declared.Due.{Due}

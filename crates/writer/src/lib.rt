@@ -8,7 +8,6 @@ ghost use Rattle.writer.specs.Steps.{fresh, start, close, finish, after}
 mod steps;
 
 use plan::Due;
-use plan::questions;
 use plan::rows;
 use transaction::FieldName;
 use transaction::ListName;
@@ -16,8 +15,9 @@ use wire::End;
 use wire::Refusal;
 use writer_rules::Verdict;
 use writer_rules::elements;
-use writer_rules::transfers;
 use writer_rules::values;
+use writer_transfers::input_rules;
+use writer_transfers::output_rules;
 
 // How far a transaction is written: its type, how many segments are begun, and the bytes written so far; and for the open list the offset of its
 // count, how many elements it has, and the offset of the last one.
@@ -111,7 +111,7 @@ impl Writer {
     pub fn memo(self, buf: &mut [u8], bytes: &[u8]) -> Step
         ensures { λ r. ⌜ after r (now (buf .exit)) ≡ putMemo memoMost self (now (buf .entry)) (now (bytes .entry)) ⌝ }
     {
-        if !questions::field_at(self.type_id, self.phase, FieldName::Memo) {
+        if !writer_due::field_at(self.type_id, self.phase, FieldName::Memo) {
             return steps::not_due(self);
         }
         if buf.len() < self.at {
@@ -129,7 +129,7 @@ impl Writer {
     pub fn name(self, buf: &mut [u8], bytes: &[u8]) -> Step
         ensures { λ r. ⌜ after r (now (buf .exit)) ≡ putName memoMost self (now (buf .entry)) (now (bytes .entry)) ⌝ }
     {
-        if !questions::field_at(self.type_id, self.phase, FieldName::Name) {
+        if !writer_due::field_at(self.type_id, self.phase, FieldName::Name) {
             return steps::not_due(self);
         }
         if buf.len() < self.at {
@@ -147,7 +147,7 @@ impl Writer {
     pub fn symbol(self, buf: &mut [u8], bytes: &[u8]) -> Step
         ensures { λ r. ⌜ after r (now (buf .exit)) ≡ putSymbol memoMost self (now (buf .entry)) (now (bytes .entry)) ⌝ }
     {
-        if !questions::field_at(self.type_id, self.phase, FieldName::Symbol) {
+        if !writer_due::field_at(self.type_id, self.phase, FieldName::Symbol) {
             return steps::not_due(self);
         }
         if buf.len() < self.at {
@@ -165,7 +165,7 @@ impl Writer {
     pub fn denomination(self, buf: &mut [u8], value: u8) -> Step
         ensures { λ r. ⌜ after r (now (buf .exit)) ≡ putDenomination memoMost self (now (buf .entry)) value ⌝ }
     {
-        if !questions::field_at(self.type_id, self.phase, FieldName::Denomination) {
+        if !writer_due::field_at(self.type_id, self.phase, FieldName::Denomination) {
             return steps::not_due(self);
         }
         if buf.len() < self.at {
@@ -184,7 +184,7 @@ impl Writer {
     pub fn chain(self, buf: &mut [u8], id: [u8; 32]) -> Step
         ensures { λ r. ⌜ after r (now (buf .exit)) ≡ putChain memoMost self (now (buf .entry)) id ⌝ }
     {
-        if !questions::field_at(self.type_id, self.phase, FieldName::Chain) {
+        if !writer_due::field_at(self.type_id, self.phase, FieldName::Chain) {
             return steps::not_due(self);
         }
         if buf.len() < self.at {
@@ -214,7 +214,7 @@ impl Writer {
         }
         let last = steps::last_of(self, &buf[..]);
         let mut head = [0u8; 60];
-        let rules = transfers::output_rules(
+        let rules = output_rules(
             last,
             asset,
             amount,
@@ -250,7 +250,7 @@ impl Writer {
         }
         let last = steps::last_of(self, &buf[..]);
         let mut head = [0u8; 84];
-        let rules = transfers::input_rules(last, txid, index, asset, amount, indices, &mut head);
+        let rules = input_rules(last, txid, index, asset, amount, indices, &mut head);
         if let Verdict::Refuse(refusal) = rules {
             return steps::refused(self, refusal);
         }
@@ -297,7 +297,7 @@ impl Writer {
     pub fn finish(self, buf: &mut [u8]) -> Step
         ensures { λ r. ⌜ after r (now (buf .exit)) ≡ finish (avm memoMost) self (now (buf .entry)) ⌝ }
     {
-        if !questions::end_at(self.type_id, self.phase) {
+        if !writer_due::end_at(self.type_id, self.phase) {
             return steps::not_due(self);
         }
         let phase = self.phase + 1;

@@ -12,7 +12,6 @@ ghost use Rattle.writer.specs.code.Answer.{refusedStep, notDueStep, noRo
 use crate::Step;
 use crate::Writer;
 use crate::Written;
-use plan::questions;
 use transaction::ListName;
 use wire::End;
 use wire::Refusal;
@@ -81,7 +80,7 @@ pub fn last_of(writer: Writer, buf: &[u8]) -> &[u8]
 pub fn is_element_due(writer: Writer, list: ListName) -> bool
     ensures { λ r. ⌜ r ≡ isOpen list (dueAt writer) && sane writer ⌝ }
 {
-    if questions::open_at(writer.type_id, writer.phase, list) {
+    if writer_due::open_at(writer.type_id, writer.phase, list) {
         return is_sane(writer);
     }
     false
@@ -129,7 +128,7 @@ pub(crate) fn put_segment(writer: Writer, buf: &mut [u8], first: &[u8], second: 
     ensures { λ r. ⌜ after r (now (buf .exit)) ≡ segmentStep writer (now (buf .entry)) (now (first .entry) ++ now (second .entry)) (opensNext writer) ⌝ }
 {
     let phase = writer.phase + 1;
-    let opens = questions::list_at(writer.type_id, phase);
+    let opens = writer_due::list_at(writer.type_id, phase);
     let from = Writer {
         type_id: writer.type_id,
         phase,

@@ -13,7 +13,7 @@ use Rattle.writer_rules.specs.declared.Verdict.{Verdict}
 use Rattle.wire.specs.Numbers.{noRoom}
 use Rattle.writer_rules.specs.Judged.{refusedBy}
 use Rattle.writer_rules.specs.code.Elements.{integersBytes}
-use Rattle.writer_rules.proofs.Inputs.{Words, length-integers}
+use Rattle.writer_rules.proofs.Integers.{Words, length-integers}
 use Rattle.writer_buffer.specs.Stores.{roomIn, overwrite}
 use Rattle.writer_buffer.specs.code.Stores.{withInteger}
 use Rattle.writer_buffer.proofs.Stores.{length-overwrite, too-many, same-room, overwrite-more, overwrite-none, integer-put}

@@ -1,11 +1,10 @@
-// Why a step of the writer is refused, judged by the fields or bytes it is given.
+// Why a step of the writer is refused, judged by the value or the bytes it is given.
 ghost use mathlib.Core.Path.{_≡_};
 ghost use Rattle.writer_rules.specs.Judged.{refusedBy};
 use wire::Refusal;
 use wire::Rule;
 
 pub mod elements;
-pub mod transfers;
 pub mod values;
 
 // Whether a step is allowed, or why it is refused.

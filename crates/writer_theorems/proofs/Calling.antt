@@ -40,8 +40,9 @@ use Rattle.transaction.proofs.Signed.{parts-took}
 use Rattle.writer_rules.specs.Given.{Given, given, addressesOf, outputGiven, inputGiven}
 use Rattle.writer_rules.specs.code.Elements.{outputFront, outputHead, inputHead, integersBytes}
 use Rattle.writer_rules.proofs.FieldLaws.{string-write, text-write, denomination-write}
-use Rattle.writer_rules.proofs.Outputs.{built-written}
-use Rattle.writer_rules.proofs.Inputs.{written-input, length-integers}
+use Rattle.writer_transfers.proofs.Outputs.{built-written}
+use Rattle.writer_rules.proofs.Integers.{length-integers}
+use Rattle.writer_transfers.proofs.Inputs.{written-input}
 use Rattle.plan.specs.Due.{listCode}
 use Rattle.writer.specs.declared.Writer.{Writer}
 use Rattle.writer.specs.declared.Written.the-variants as W

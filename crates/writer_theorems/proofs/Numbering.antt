@@ -42,8 +42,9 @@ use Rattle.writer_rules.specs.declared.Verdict.{Verdict}
 use Rattle.writer_rules.specs.declared.Verdict.the-variants as J
 use Rattle.writer_rules.proofs.FieldLaws.{string-write, text-write, string-judged, text-judged}
 use Rattle.writer_rules.proofs.FieldLaws.{denomination-write, denomination-judged, id-judged, head-judged}
-use Rattle.writer_rules.proofs.Outputs as Outputs
-use Rattle.writer_rules.proofs.Inputs as Inputs
+use Rattle.writer_rules.proofs.Integers as Integers
+use Rattle.writer_transfers.proofs.Outputs as Outputs
+use Rattle.writer_transfers.proofs.Inputs as Inputs
 use Rattle.writer.specs.declared.Writer.{Writer}
 use Rattle.writer.specs.Steps.{Turn, answered, guarded, prev, writtenNumber, writtenPlace, dueFor, putField, putElement, close, finish}
 use Rattle.writer_theorems.specs.Calls as C
@@ -65,7 +66,7 @@ module _ (P : Rule → Type 0) (room : P noRoom) (most : ℕ) (w : Writer) (s : 
 
 -- ---- elements and heads given as fields, by the tests on them
 
-words-fit : (l : List ℕ) → Words l → Inputs.Words l
+words-fit : (l : List ℕ) → Words l → Integers.Words l
 words-fit [] h j = record { fits = omega arith }
 words-fit (n ∷ l) (h, hs) zero = record { fits = omega (arith, h) }
 words-fit (n ∷ l) (h, hs) (suc j) = words-fit l hs j
