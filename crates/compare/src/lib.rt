@@ -2,6 +2,8 @@
 //
 // All of it rests on `order_words`, which compares whole words of 8 bytes where they fit and then the bytes left over. Where strings can be long, blocks
 // of 64 equal bytes are skipped first.
+#![tactic(auto)]
+
 ghost use Rattle.std.specs.Prelude.{◌≡◌, ◌-◌, ◌≤◌, min, length, take, drop};
 ghost use Rattle.wire.specs.Bytes.{between, value, below};
 ghost use Rattle.compare.specs.Same.{same};

@@ -1,4 +1,6 @@
 // The credentials of a transaction: what asks for them, one after another, and their reading.
+#![tactic(auto)]
+
 pub mod asking;
 pub mod reading;
 

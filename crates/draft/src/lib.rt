@@ -1,4 +1,6 @@
 // Drafts: filling one slot, and merging two drafts of the same unsigned transaction.
+#![tactic(auto)]
+
 ghost use Rattle.std.specs.Prelude.{◌≡◌, true, ◌++◌, length, take, drop, leb};
 ghost use Rattle.draft_slots.specs.Joining.{clashes, first_clash};
 ghost use Rattle.draft_slots.specs.code.Scan.{scan_from, joined_at, joined_with};

@@ -1,4 +1,6 @@
 // The signature slots of a transaction, listed in a lent table.
+#![tactic(auto)]
+
 ghost use Rattle.std.specs.Prelude.{◌≡◌, ◌+◌, ◌*◌, ◌≤◌, length};
 ghost use Rattle.transaction.specs.Answer.{memo_most};
 ghost use Rattle.entry_table.specs.Table.{filled};

@@ -1,4 +1,6 @@
 // The slots of a draft: where they are, whether one is empty, and how two are compared and joined.
+#![tactic(auto)]
+
 pub mod compare;
 pub mod join;
 pub mod ranges;

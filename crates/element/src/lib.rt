@@ -1,5 +1,7 @@
 // The elements of a transaction: outputs, inputs, operations and initial states. A reader takes the fields from left to right and returns the
 // offset just past the element.
+#![tactic(auto)]
+
 pub mod inputs;
 pub mod operations;
 pub mod outputs;

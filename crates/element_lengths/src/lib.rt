@@ -1,4 +1,6 @@
 // Skips elements that were read, by their lengths: no rule is checked again. On bytes that were not read the answer means nothing.
+#![tactic(auto)]
+
 ghost use Rattle.std.specs.Prelude.{List, ℕ, ◌≤◌, length};
 ghost use Rattle.wire.specs.Fields.{blob};
 ghost use Rattle.wire.specs.Sequence.{and_then};

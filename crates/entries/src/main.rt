@@ -1,4 +1,6 @@
 // Prints the entries of the transaction in a file, one row per line: kind, start, length. A refusal is one line: number, place.
+#![tactic(auto)]
+
 use entry_table::Tabled;
 use libc::STDOUT_FILENO;
 use wire::Refusal;

@@ -1,4 +1,6 @@
 // Entry `n` of an accepted transaction as typed fields: its row is found step by step, and its fields by their offsets.
+#![tactic(auto)]
+
 ghost use Rattle.std.specs.Prelude.{◌≡◌};
 ghost use Rattle.transaction.specs.Answer.{memo_most};
 ghost use Rattle.entry.specs.Entry.{refused_entry, missing_entry, entry_of};

@@ -1,4 +1,6 @@
 // The typed fields of an element of an accepted transaction, found by their offsets alone: the check has already applied every rule.
+#![tactic(auto)]
+
 ghost use Rattle.std.specs.Prelude.{◌≡◌};
 ghost use Rattle.entry_fields.specs.code.Found.{terms_found, recipients_found, action_found, operation_found, owners_found, mint_found, transfer_found};
 ghost use Rattle.entry_fields.specs.code.Found.{nft_mint_found, nft_transfer_found, output_found, input_found};

@@ -1,4 +1,6 @@
 // The table of an accepted transaction's entries, in byte order: its rows are counted, written, and found by index.
+#![tactic(auto)]
+
 pub mod rows;
 
 use entry_walk::Row;

@@ -1,5 +1,7 @@
 // Steps from one entry of an accepted transaction to the next, in byte order. The bytes have been checked, so elements are skipped by their lengths
 // and no rule is checked again.
+#![tactic(auto)]
+
 pub mod steps;
 
 // The kinds of entries that are not elements of a list: an initial state's output, and a credential.

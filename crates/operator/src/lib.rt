@@ -1,4 +1,6 @@
 // The functions that the operator's command calls in addition to those of the phone program.
+#![tactic(auto)]
+
 ghost use Rattle.std.specs.Prelude.{◌≡◌};
 ghost use Rattle.transaction.specs.Answer.{memo_most};
 ghost use Rattle.entry_table.specs.Table.{tabled};

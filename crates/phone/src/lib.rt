@@ -1,4 +1,6 @@
 // The functions that a C program calls. Each returns number × 2^32 + place.
+#![tactic(auto)]
+
 ghost use Rattle.std.specs.Prelude.{◌≡◌, ◌≤◌};
 ghost use Rattle.wire.specs.Numbers.{number_of};
 ghost use Rattle.wire.specs.Format.{verdict};

@@ -1,4 +1,6 @@
 // What a transaction's plan has at each phase: for the checker the next segment, for the writer the next step.
+#![tactic(auto)]
+
 pub mod rows;
 
 use transaction::{FieldName, ListName};

@@ -1,4 +1,6 @@
 // Strings: a length, then that many bytes.
+#![tactic(auto)]
+
 ghost use Rattle.std.specs.Prelude.{◌≡◌, ℕ};
 ghost use Rattle.wire.specs.code.Answer.{ended, Passes};
 ghost use Rattle.string.specs.Strings.{string, memo, text, denomination};

@@ -1,5 +1,7 @@
 // Functions for tests in C or Rust: the check with a lent table, entry n as integers at fixed indices of a lent array, filling a slot, and the
 // writer's steps.
+#![tactic(auto)]
+
 ghost use Rattle.std.specs.Prelude.{◌≡◌, set};
 ghost use Rattle.entry_table.specs.Table.{tabled};
 ghost use Rattle.entry.specs.Entry.{entry_of};

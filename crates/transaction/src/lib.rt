@@ -1,4 +1,6 @@
 // A signed AVM transaction: its types, the answers of its check and its readers, and the typed fields of each entry.
+#![tactic(auto)]
+
 use element::{InputFields, OperationFields, OutputFields};
 use wire::Refusal;
 

@@ -2,6 +2,8 @@
 //
 // The check reads one slice, so a piece is judged where it is to be stored, and what it covers there is put aside on the stack: a piece takes 66,176
 // bytes of stack, the end 576 (bench/stack.c).
+#![tactic(auto)]
+
 ghost use Rattle.std.specs.Prelude.{◌≡◌, ◌+◌, ◌≤◌, length};
 ghost use Rattle.wire.specs.Numbers.{refusal};
 ghost use Rattle.transaction.specs.Answer.{memo_most};

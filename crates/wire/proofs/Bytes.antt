@@ -35,6 +35,10 @@ found p q = sym p ∙ q
 
 -- ---- an integer read byte by byte
 
+-- the integer that all bytes of a string encode
+pub value-all : (k : ℕ) (w : List ℕ) (r : ℕ) → length w ≡ k → r ≡ value (take k (drop 0 w)) → r ≡ value w
+value-all k w r l e = e ∙ ap value (take_all k w (omega arith))
+
 value-snoc : (xs : List ℕ) (x : ℕ) → value (xs ++ (x ∷ [])) ≡ value xs * 256 + x
 unfolding value
 value-snoc [] x = omega arith
@@ -277,18 +281,11 @@ part-over a e s h =
 
 -- ---- copies of s into z
 
--- y is z after a copy from s, which fits
-pub copy-all : (s z y : List ℕ) → length s ≤ length z → y ≡ take (length s) s ++ drop (length s) z → y ≡ take (length z) s ++ drop (length s) z
-copy-all s z y h e = e ∙ rw (take-length, take_all (length z) s)
-
--- y is z after a copy of as much of s as fits
-pub copy_some : (s z y : List ℕ) → length z < length s
-    → y ≡ take (length (take (length z) s)) (take (length z) s) ++ drop (length (take (length z) s)) z
-    → y ≡ take (length z) s ++ drop (length s) z
+-- y is z after a copy of as much of s as fits, where not all of it does
+pub copy_some : (s z y : List ℕ) → length z < length s → y ≡ take (length z) s → y ≡ take (length z) s ++ drop (length s) z
 copy_some s z y h e =
-    let n : length (take (length z) s) ≡ length z = length-take-le (length z) s (omega arith) in
     let o : length z ≤ length s = omega arith in
-    e ∙ rw (take-length (take (length z) s), n, drop_of_length-le z {i = length z} (le_refl (length z)), drop_of_length-le z {i = length s} o)
+    e ∙ rw (drop_of_length-le z {i = length s} o, append-nil)
 
 -- y is z after a copy of the bytes from `at` on, which are all there
 pub copy-part : (s z y : List ℕ) (at : ℕ) (t : Bool) → y ≡ take (length z) (between at (at + length z) s) ++ drop (length (between at (at + length z) s)) z

@@ -1,5 +1,7 @@
 // Fields at an offset of a byte string: a fixed number of bytes, a big-endian integer, an identifier or an address returned by value. Also the order
 // of byte strings, and storing integers and bytes into a buffer.
+#![tactic(auto)]
+
 ghost use Rattle.std.specs.Prelude.{◌≡◌, ◌-◌, ◌%◌, ◌^◌, ◌≤◌, ◌<◌, min, ◌++◌, length, take, drop, leb};
 ghost use Rattle.wire.specs.Bytes.{between, value, digits, below};
 ghost use Rattle.wire.specs.Numbers.{rule_number, refusal, cut_at};
@@ -223,10 +225,10 @@ pub fn put_bytes(room: &mut [u8], from: &[u8])
     ensures { room.new ≡ take (length room.old) from.now ++ drop (length from.now) room.old }
 {
     if from.len() <= room.len() {
-        bytes::copy(from, room);
+        room[..from.len()].copy_from_slice(from);
         return;
     }
-    bytes::copy(&from[..room.len()], room);
+    room.copy_from_slice(&from[..room.len()]);
 }
 
 // Fills `room`, which is not empty, with the bytes from `at` on; leaves it unchanged if they are not all there. It copies `room.len()` bytes, so

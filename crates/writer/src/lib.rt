@@ -1,4 +1,6 @@
 // A writer of transactions over a lent buffer. Each step takes the writer's state and returns the next one.
+#![tactic(auto)]
+
 ghost use Rattle.std.specs.Prelude.{◌≡◌};
 ghost use Rattle.writer.specs.Fields.{add_output, add_input, add_operation, add_initial_state, put_memo, put_name, put_symbol, put_denomination, put_chain};
 ghost use Rattle.transaction.specs.Avm.{avm};

@@ -1,4 +1,6 @@
 // The lent buffer: whether there is room in it, stores that are made whole or not at all, and the blank credentials at its end.
+#![tactic(auto)]
+
 ghost use Rattle.std.specs.Prelude.{◌≡◌, ◌+◌, ◌*◌, ◌≤◌, ◌++◌, length};
 ghost use Rattle.writer_rules.specs.code.Elements.{integers_bytes};
 ghost use Rattle.writer_buffer.specs.Stores.{room_in, room_for, overwrite};

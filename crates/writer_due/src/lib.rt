@@ -1,4 +1,6 @@
 // What the writer asks of a plan: whether a field, a list or the finish is due.
+#![tactic(auto)]
+
 ghost use Rattle.std.specs.Prelude.{◌≡◌};
 ghost use Rattle.transaction.specs.Plan.{plan_of};
 ghost use Rattle.plan.specs.Due.{field_code, list_code, due, due_of, is_list, is_field, is_open, is_finish};

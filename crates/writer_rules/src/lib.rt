@@ -1,4 +1,6 @@
 // Why a step of the writer is refused, judged by the value or the bytes it is given.
+#![tactic(auto)]
+
 ghost use Rattle.std.specs.Prelude.{◌≡◌};
 ghost use Rattle.writer_rules.specs.Judged.{refused_by};
 

@@ -1,1 +1,3 @@
 // Runs of the writer's steps: definitions and proofs only.
+
+#![tactic(auto)]

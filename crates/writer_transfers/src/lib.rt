@@ -1,6 +1,8 @@
 // The rules for an output or input given as fields, in the order in which the reader judges its bytes.
 //
 // The head is the bytes before the addresses or indices. It is built once: to be compared, and to be stored by the step.
+#![tactic(auto)]
+
 ghost use Rattle.std.specs.Prelude.{◌≡◌, ◌+◌, ◌/◌, ◌%◌, ◌^◌, ◌≤◌, [], ◌++◌, length, take};
 ghost use Rattle.wire.specs.Bytes.{digits, below};
 ghost use Rattle.wire.specs.Fields.{blob};

@@ -19,12 +19,12 @@ module _ {A S : Type 0} (P : S → Format A) (step : S → A → S) where
   pub list_same : {R : Type 0} (n : ℕ) (st : S) (s : List ℕ) (at : ℕ) (stop : Refusal → R) (go : List A → ℕ → R)
       → list_parse P step n st s at stop go ≡ on_result (list_parse P step n st s at refused took) stop go
   unfolding list_parse
-  list_same zero st s at stop go = refl
-  list_same (suc n) st s at stop go =
+  list_same {R = R} zero st s at stop go = refl
+  list_same {R = R} (suc n) st s at stop go =
       parse-same (P st) s at _ _ stop go λ a m.
-      list_same n (step st a) s m stop _
+      list_same {R = R} n (step st a) s m stop _
       ∙ result-same (list_parse P step n (step st a) s m refused took) (λ l k. took (a ∷ l) k) _ stop go (λ l k. refl)
-      ∙ ap (λ o. on_result o stop go) (sym (list_same n (step st a) s m refused _))
+      ∙ ap (λ o. on_result o stop go) (sym (list_same {R = Result (List A)} n (step st a) s m refused _))
 
   pub list-inv : {B : Type 0} (n : ℕ) (st : S) (s : List ℕ) (at : ℕ) (k : List A → ℕ → Result B) (b : B) (next : ℕ)
       → list_parse P step n st s at refused k ≡ took b next

@@ -4,10 +4,8 @@ use mathlib.Core.Path.{◌≡◌, refl, sym}
 use mathlib.Core.Bool.{Bool, true, false}
 use native.Mathlib.Omega.{arith}
 use lib.Dec.{leb, eqb}
-use borrow.Author.Rules.{rules}
 use borrow.Author.Tests.{le-leb, lt-leb, eqb-true, eqb-false}
-use Rattle.wire.proofs.are_there.Statement.{statement}
-use Rattle.wire.proofs.are_there.Tie as tie
+use Rattle.wire.proofs.are_there.Goals as goal
 
 fewer : (k n at : ℕ) → n < k → false ≡ leb k (n - at)
 fewer k n at h = sym (lt-leb k (n - at) (omega arith))
@@ -23,9 +21,11 @@ none-past k n at h l = cases (eqb k 0) refl
     cases true e = sym (le-leb k (n - at) (omega (arith, eqb-true k 0 e)))
     cases false e = sym (lt-leb k (n - at) (omega (arith, eqb-false k 0 e)))
 
-pub are-there-spec : {M : Type 1} → statement M
-are-there-spec =
-    tie.close (tie.spec
-    (λ c. search fewer)  -- returns
-    (λ c. search rules) (λ c. search none-past)  -- sub-if2, returns-2
-    (λ c. search enough))  -- returns-3
+pub returns-then-s-width : goal.returns-then-s-width
+returns-then-s-width c = search fewer
+
+pub returns-then-s-width-2 : goal.returns-then-s-width-2
+returns-then-s-width-2 c = search none-past
+
+pub returns : goal.returns
+returns c = search enough

@@ -1,0 +1,13 @@
+-- `wire::field_at` meets its contract. Assumes nothing.
+use Rattle.std.proofs.Common.{rules}
+use Rattle.wire.proofs.Reading.{leaf, room_fits}
+use Rattle.wire.proofs.field_at.Goals as goal
+
+pub overflow_add-result : goal.overflow_add-result
+overflow_add-result c = search (rules, room_fits)
+
+pub returns-then-are_there : goal.returns-then-are_there
+returns-then-are_there c = search leaf
+
+pub returns : goal.returns
+returns c = search leaf
