@@ -38,7 +38,7 @@ fn eight_at(s: &[u8], at: usize) -> [u8; 8]
     ensures { result ≡ take 8 (drop at s.now) }
 {
     let mut word = [0u8; WORD];
-    bytes::copy(&s[at..at + WORD], &mut word);
+    word.copy_from_slice(&s[at..at + WORD]);
     word
 }
 
@@ -48,7 +48,7 @@ fn four_at(s: &[u8], at: usize) -> [u8; 4]
     ensures { result ≡ take 4 (drop at s.now) }
 {
     let mut half = [0u8; HALF];
-    bytes::copy(&s[at..at + HALF], &mut half);
+    half.copy_from_slice(&s[at..at + HALF]);
     half
 }
 

@@ -1,0 +1,27 @@
+use Prim.Native.Nat.{◌-◌}
+use mathlib.Core.Path.{◌≡◌}
+use lib.ListN.{length, drop}
+use Rattle.compare.specs.code.Order.{order}
+use Rattle.compare.proofs.Ordering.{order_from, order_from_lem, comparing}
+use Rattle.compare.proofs.order_bytes.Goals as goal
+
+pub loop-i-init : goal.loop-i-init
+loop-i-init c = order_from_lem _ _ _
+
+pub returns-then-b-i : goal.returns-then-b-i
+returns-then-b-i c = search comparing
+
+pub returns-then-a-i : goal.returns-then-a-i
+returns-then-a-i c = search comparing
+
+pub returns-then-b-i-2 : goal.returns-then-b-i-2
+returns-then-b-i-2 c = search comparing
+
+pub loop-i-preserved : goal.loop-i-preserved
+loop-i-preserved c = search comparing
+
+pub returns-then-i-b : goal.returns-then-i-b
+returns-then-i-b c = search comparing
+
+pub returns : goal.returns
+returns c = search comparing

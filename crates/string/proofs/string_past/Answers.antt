@@ -1,0 +1,15 @@
+-- `string::string_past` meets its contract.
+-- Assumes nothing.
+use Rattle.std.proofs.Common.{rules}
+use Rattle.wire.specs.Sequence.{and_then}
+use Rattle.string.proofs.Reading.{reading}
+use Rattle.string.proofs.Passing.{string-passed}
+use Rattle.string.proofs.string_past.Goals as goal
+
+pub returns-in_default : goal.returns-in_default
+unfolding and_then
+returns-in_default c = string-passed _ _ (search rules) _ (search reading depth 12)
+
+pub returns : goal.returns
+unfolding and_then
+returns c = string-passed _ _ (search rules) _ (search reading depth 12)

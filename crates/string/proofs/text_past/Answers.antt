@@ -1,0 +1,15 @@
+-- `string::text_past` meets its contract.
+-- Assumes nothing.
+use Rattle.std.proofs.Common.{rules}
+use Rattle.wire.specs.Sequence.{and_then}
+use Rattle.string.proofs.Reading.{reading}
+use Rattle.string.proofs.Passing.{text-passed}
+use Rattle.string.proofs.text_past.Goals as goal
+
+pub returns-in_default : goal.returns-in_default
+unfolding and_then
+returns-in_default c = text-passed _ _ (search rules) _ (search reading depth 12)
+
+pub returns : goal.returns
+unfolding and_then
+returns c = text-passed _ _ (search rules) _ (search reading depth 12)
