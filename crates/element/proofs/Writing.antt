@@ -77,7 +77,7 @@ indices-bytes l = list-write (above (integer 4)) u32 (λ prev n. refl) l
 
 pub input-bytes : (prev : List ℕ) (i : Input) → (input prev).write i ≡ input_bytes i
 unfolding input_after guard key spend input_bytes blob integer
-input-bytes prev i = simp (indices-bytes i.indices, append_assoc) (append_assoc i.txid (u32 i.index) _)
+input-bytes prev i = simp (indices-bytes i.indices, append_assoc)
 
 -- ---- operations
 
