@@ -7,7 +7,7 @@ pub mod check;
 use wire::Refusal;
 
 // A segment that was read: the number of credentials that it wants, and the offset just past it. `Nothing` means that no segment is left.
-#[derive(Drop)]
+#[derive(Clone, Copy)]
 pub(crate) enum Passed {
     Nothing,
     Past(u64, usize),

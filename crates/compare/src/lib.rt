@@ -10,7 +10,7 @@ ghost use Rattle.compare.specs.Same.{same};
 ghost use Rattle.compare.specs.code.Order.{order, below_or, is_equal, Agree, apart, key_below};
 
 // How one byte string compares with another.
-#[derive(Drop)]
+#[derive(Clone, Copy)]
 pub enum Order {
     Below,
     Equal,

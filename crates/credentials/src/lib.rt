@@ -6,7 +6,7 @@ pub mod reading;
 
 // The cursor to the next credential wanted: the phase of the next segment, the offset, and for the current list the number of elements left and the
 // type of the credential that each asks for.
-#[derive(Drop)]
+#[derive(Clone, Copy)]
 pub struct Wanting {
     pub phase: u32,
     pub asks: u64,
@@ -16,7 +16,7 @@ pub struct Wanting {
 
 // The next segment. `Into`: the credential type that each element of a list asks for, their number, and the offset of the first; 0 elements if the
 // segment asks for none. `Asks`: the credential type that a field asks for, its number of signatures, and the offset just past the field.
-#[derive(Drop)]
+#[derive(Clone, Copy)]
 pub(crate) enum Begun {
     Nothing,
     Into(u64, u64, usize),
@@ -24,7 +24,7 @@ pub(crate) enum Begun {
 }
 
 // The credential wanted next: its type, its number of signatures, and the cursor just past what asks for it.
-#[derive(Drop)]
+#[derive(Clone, Copy)]
 pub enum Wanted {
     Nothing,
     Credential(u64, u64, Wanting),

@@ -15,7 +15,7 @@ use transaction::Checked;
 use wire::{Refusal, Rule};
 
 // Done, with the draft's length; or the refusal.
-#[derive(Drop)]
+#[derive(Clone, Copy)]
 pub enum Answer {
     Done(usize),
     Refused(Refusal),

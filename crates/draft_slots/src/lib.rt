@@ -6,14 +6,14 @@ pub mod join;
 pub mod ranges;
 
 // The slots of one credential: the offset of the first, how many there are, and the offset just past them.
-#[derive(Drop)]
+#[derive(Clone, Copy)]
 pub enum SlotRange {
     Slots(usize, u64, usize),
     Nothing,
 }
 
 // A slot's number or its offset, if there is such a slot.
-#[derive(Drop)]
+#[derive(Clone, Copy)]
 pub enum Found {
     At(usize),
     Nothing,

@@ -26,7 +26,7 @@ pub const MINT_OPERATION: u64 = 12;
 pub(crate) const TRANSFER_OPERATION: u64 = 13;
 
 // An output's own fields, by its type (6, 7, 10 or 11).
-#[derive(Drop)]
+#[derive(Clone, Copy)]
 pub enum OutputFields {
     SecpMint(OwnersFields),
     SecpTransfer {
@@ -46,7 +46,7 @@ pub enum OutputFields {
 }
 
 // An input's fields other than its identifiers.
-#[derive(Drop)]
+#[derive(Clone, Copy)]
 pub struct InputFields {
     pub index: u64,
     pub amount: u64,
@@ -55,14 +55,14 @@ pub struct InputFields {
 }
 
 // Who receives the outputs of an operation: a list of owners for a mint (12), owners for a transfer (13).
-#[derive(Drop)]
+#[derive(Clone, Copy)]
 pub enum Recipients {
     Mint { owners_at: usize, owners_count: u64 },
     Transfer(OwnersFields),
 }
 
 // An operation's terms: the address indices of its signers, the group and the payload.
-#[derive(Drop)]
+#[derive(Clone, Copy)]
 pub struct TermsFields {
     pub indices_at: usize,
     pub indices_count: u64,
@@ -72,7 +72,7 @@ pub struct TermsFields {
 }
 
 // An operation's fields other than its asset id.
-#[derive(Drop)]
+#[derive(Clone, Copy)]
 pub struct OperationFields {
     pub outputs_at: usize,
     pub outputs_count: u64,

@@ -6,7 +6,7 @@ use libc::STDOUT_FILENO;
 use wire::Refusal;
 
 // The result of reading a file up to its end or the buffer's.
-#[derive(Drop)]
+#[derive(Clone, Copy)]
 enum Loaded {
     Bytes(usize),
     Failed,

@@ -14,21 +14,21 @@ use transaction::{Checked, CredentialFields, Entry};
 use wire::{End, Integer, Refusal, Rule};
 
 // An entry with its start, its end and the length of the whole transaction, or why there is none.
-#[derive(Drop)]
+#[derive(Clone, Copy)]
 pub enum EntryAnswer {
     Found(Entry, usize, usize, usize),
     Refused(Refusal),
 }
 
 // An entry and its identifiers; an identifier that the entry does not have is all zeros.
-#[derive(Drop)]
+#[derive(Clone, Copy)]
 pub struct EntryRead {
     pub answer: EntryAnswer,
     pub asset: [u8; 32],
     pub txid: [u8; 32],
 }
 
-#[derive(Drop)]
+#[derive(Clone, Copy)]
 enum Typed {
     Entry(Entry),
     Missing,

@@ -10,38 +10,38 @@ use owners::OwnersFields;
 use wire::{End, Integer};
 
 // The typed fields of an element, if they are all there.
-#[derive(Drop)]
+#[derive(Clone, Copy)]
 enum OwnersFound {
     Fields(OwnersFields),
     Missing,
 }
 
-#[derive(Drop)]
+#[derive(Clone, Copy)]
 pub enum OutputFound {
     Fields(OutputFields),
     Missing,
 }
 
-#[derive(Drop)]
+#[derive(Clone, Copy)]
 pub enum InputFound {
     Fields(InputFields),
     Missing,
 }
 
 // The fields of an operation's terms, and the offset just past the terms.
-#[derive(Drop)]
+#[derive(Clone, Copy)]
 enum TermsFound {
     Fields(TermsFields, usize),
     Missing,
 }
 
-#[derive(Drop)]
+#[derive(Clone, Copy)]
 enum RecipientsFound {
     Fields(Recipients),
     Missing,
 }
 
-#[derive(Drop)]
+#[derive(Clone, Copy)]
 pub enum OperationFound {
     Fields(OperationFields),
     Missing,

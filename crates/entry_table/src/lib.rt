@@ -10,20 +10,20 @@ use wire::Refusal;
 pub(crate) const ROW_NUMBERS: usize = 3;
 
 // The number of entries, or `TooMany` if there is no room for them.
-#[derive(Drop)]
+#[derive(Clone, Copy)]
 pub(crate) enum Count {
     Rows(usize),
     TooMany,
 }
 
-#[derive(Drop)]
+#[derive(Clone, Copy)]
 pub enum Nth {
     Entry(Row),
     Missing,
 }
 
 // The number of rows written and the length of the transaction in bytes, or why there is no table.
-#[derive(Drop)]
+#[derive(Clone, Copy)]
 pub enum Tabled {
     Listed(usize, usize),
     Refused(Refusal),

@@ -14,7 +14,7 @@ pub(crate) const HEAD_WIDTH: usize = 42;
 
 // The position of the next entry: the number of the plan's segments begun (the credentials count as the last), the offset, the number of elements
 // left in the segment begun last, and `inner`, the number of outputs left in the current initial state.
-#[derive(Drop)]
+#[derive(Clone, Copy)]
 pub struct Cursor {
     pub phase: u32,
     pub at: usize,
@@ -22,14 +22,14 @@ pub struct Cursor {
     pub inner: u64,
 }
 
-#[derive(Drop)]
+#[derive(Clone, Copy)]
 pub struct Row {
     pub kind: u32,
     pub start: usize,
     pub end: usize,
 }
 
-#[derive(Drop)]
+#[derive(Clone, Copy)]
 pub enum Advance {
     Found(Row, Cursor),
     Moved(Cursor),

@@ -10,7 +10,7 @@ ghost use Rattle.owners.specs.Owners.{owners, threshold_fits};
 use wire::{End, Integer, Rule};
 
 // The fields of owners. The addresses are `addresses_count` times 20 bytes from `addresses_at` on.
-#[derive(Drop)]
+#[derive(Clone, Copy)]
 pub struct OwnersFields {
     pub locktime: u64,
     pub threshold: u64,

@@ -9,7 +9,7 @@ use transaction::{FieldName, ListName};
 pub const LAST_PHASE: u32 = 32;
 
 // What is due: nothing, the finish, a field, or a list with the least number of its elements (its next element or its close).
-#[derive(Drop)]
+#[derive(Clone, Copy)]
 pub enum Due {
     Nothing,
     Finish,

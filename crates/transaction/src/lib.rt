@@ -19,7 +19,7 @@ pub const SECP_CREDENTIAL: u64 = 9;
 pub const NFT_CREDENTIAL: u64 = 14;
 
 // The types of a transaction, 0 to 4.
-#[derive(Drop)]
+#[derive(Clone, Copy)]
 pub enum TransactionType {
     Base,
     CreateAsset,
@@ -29,7 +29,7 @@ pub enum TransactionType {
 }
 
 // The names of the fields and lists between the chain id and the credentials.
-#[derive(Drop)]
+#[derive(Clone, Copy)]
 pub enum FieldName {
     Memo,
     Name,
@@ -38,7 +38,7 @@ pub enum FieldName {
     Chain,
 }
 
-#[derive(Drop)]
+#[derive(Clone, Copy)]
 pub enum ListName {
     Output,
     Input,
@@ -48,7 +48,7 @@ pub enum ListName {
     Exported,
 }
 
-#[derive(Drop)]
+#[derive(Clone, Copy)]
 pub struct CredentialFields {
     pub type_id: u64,
     pub signatures_at: usize,
@@ -56,7 +56,7 @@ pub struct CredentialFields {
 }
 
 // The typed fields of an entry, by its kind (1 to 7).
-#[derive(Drop)]
+#[derive(Clone, Copy)]
 pub enum Entry {
     Output(OutputFields),
     Input(InputFields),
@@ -68,7 +68,7 @@ pub enum Entry {
 }
 
 // The layout of a transaction: its type's number, the offset of the inputs' count, the number of credentials wanted, and the offset of their count.
-#[derive(Drop)]
+#[derive(Clone, Copy)]
 pub struct Layout {
     pub type_id: u32,
     pub inputs_at: usize,
@@ -77,14 +77,14 @@ pub struct Layout {
 }
 
 // The layout of an unsigned part that is wholly there, or why it is refused.
-#[derive(Drop)]
+#[derive(Clone, Copy)]
 pub enum UnsignedRead {
     Whole(Layout),
     Refused(Refusal),
 }
 
 // The layout of an accepted transaction and its length in bytes, or why it is refused.
-#[derive(Drop)]
+#[derive(Clone, Copy)]
 pub enum Checked {
     Accepted(Layout, usize),
     Refused(Refusal),

@@ -14,14 +14,14 @@ use transaction::Checked;
 use wire::{Refusal, Rule};
 
 // What a piece is answered, and what stands from then on: nothing, so that more pieces are needed; or a refusal, which stays.
-#[derive(Drop)]
+#[derive(Clone, Copy)]
 pub enum Standing {
     NeedMore,
     Refused(Refusal),
 }
 
 // How many bytes are stored, at the front of the store, and what stands.
-#[derive(Drop)]
+#[derive(Clone, Copy)]
 pub struct Upload {
     pub stored: usize,
     pub standing: Standing,

@@ -10,7 +10,7 @@ ghost use Rattle.wire.specs.code.Order.{order, key_below};
 ghost use Rattle.wire.specs.code.Answer.{ended, valued, whole_at};
 
 // The rules by which the desk refuses, in the order of its table.
-#[derive(Drop)]
+#[derive(Clone, Copy)]
 pub enum Rule {
     TooLong,
     CutShort,
@@ -37,28 +37,28 @@ pub enum Rule {
 
 // Why a parse or a request ends: the rule that is broken, and the place. `place` comes first to line up with the offset of `End::At`: in the other
 // order the compiler moves the answer byte by byte.
-#[derive(Drop)]
+#[derive(Clone, Copy)]
 pub struct Refusal {
     pub place: usize,
     pub rule: Rule,
 }
 
 // The offset just past a field that is wholly there, or why the field is refused.
-#[derive(Drop)]
+#[derive(Clone, Copy)]
 pub enum End {
     At(usize),
     Refused(Refusal),
 }
 
 // An integer that is wholly there and the offset just past it, or why it is refused.
-#[derive(Drop)]
+#[derive(Clone, Copy)]
 pub enum Integer {
     Value(u64, usize),
     Refused(Refusal),
 }
 
 // How one byte string compares with another.
-#[derive(Drop)]
+#[derive(Clone, Copy)]
 pub enum Order {
     Below,
     Equal,

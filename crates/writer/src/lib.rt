@@ -17,7 +17,7 @@ use writer_transfers::{input_rules, output_rules};
 
 // How far a transaction is written: its type, how many segments are begun, and the bytes written so far; and for the open list the offset of its
 // count, how many elements it has, and the offset of the last one.
-#[derive(Drop)]
+#[derive(Clone, Copy)]
 pub struct Writer {
     pub type_id: u32,
     pub phase: u32,
@@ -28,14 +28,14 @@ pub struct Writer {
 }
 
 // How many bytes are written so far, or why the step is refused.
-#[derive(Drop)]
+#[derive(Clone, Copy)]
 pub enum Written {
     Done(usize),
     Refused(Refusal),
 }
 
 // The state after a step, and its answer.
-#[derive(Drop)]
+#[derive(Clone, Copy)]
 pub struct Step {
     pub next: Writer,
     pub answer: Written,

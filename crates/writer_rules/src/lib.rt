@@ -10,7 +10,7 @@ pub mod elements;
 pub mod values;
 
 // Whether a step is allowed, or why it is refused.
-#[derive(Drop)]
+#[derive(Clone, Copy)]
 pub enum Verdict {
     Allowed,
     Refuse(Refusal),
