@@ -1,0 +1,13 @@
+-- `element_lengths::owners_after` meets its contract.
+-- Assumes nothing.
+use Rattle.wire.specs.Sequence.{and_then}
+use Rattle.element_lengths.proofs.Passing.{passing, after-passed}
+use Rattle.element_lengths.proofs.owners_after.Goals as goal
+
+pub returns-in_default : goal.returns-in_default
+unfolding and_then
+returns-in_default c = after-passed _ _ _ _ (search passing depth 8)
+
+pub returns : goal.returns
+unfolding and_then
+returns c = after-passed _ _ _ _ (search passing depth 8)
