@@ -4,12 +4,8 @@ use mathlib.Core.Path.{sym}
 use lib.Seq.{length-take-le}
 use Rattle.upload.proofs.judge_short.Goals as goal
 
--- the piece is no longer than the array
-pub slice_bounds-aside-end : goal.slice_bounds-aside-end
-slice_bounds-aside-end c = search rules
-
 pub slice_bounds-judge-end : goal.slice_bounds-judge-end
-slice_bounds-judge-end c = sym (length-take-le _ _ (inside c))
+slice_bounds-judge-end c = sym (length-take-le _ _ (search rules))
 
 pub judge-requires : goal.judge-requires
-judge-requires c = (c.pre.0, length-take-le _ _ (inside c))
+judge-requires c = record { piece_in_bounds = c.requires.piece_in_bounds; aside_len = length-take-le _ _ (search rules) }

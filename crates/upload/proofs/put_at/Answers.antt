@@ -9,4 +9,4 @@ pub returns : goal.returns
 returns c = let a = c.args in
     lent-piece a.store.now _ a.from.now a.at
     (a.at + length a.from.now) c.put_bytes.ensures (omega arith)
-    (omega (arith, c.pre))
+    (omega (arith, c.requires))

@@ -3,7 +3,7 @@ use Rattle.entry_walk.proofs.Advancing.{counted-short, counted-into, counted-ent
 use Rattle.entry_walk.proofs.steps.advance_counted.Goals as goal
 
 pub returns-in_default : goal.returns-in_default
-returns-in_default c = (search counted-short, tt)
+returns-in_default c = record { counted_advance = search counted-short; entered = tt }
 
 pub returns : goal.returns
-returns c = (search counted-into, search counted-entered)
+returns c = record { counted_advance = search counted-into; entered = search counted-entered }

@@ -4,7 +4,7 @@ use native.Mathlib.Omega.{arith}
 use Rattle.entry_walk.proofs.steps.advance_credential.Goals as goal
 
 pub returns-in-Refused : goal.returns-in-Refused
-returns-in-Refused c = (search crediting, tt)
+returns-in-Refused c = record { credential_advance = search crediting; shorter = tt }
 
 pub returns-in-At : goal.returns-in-At
-returns-in-At c = (search crediting, omega arith)
+returns-in-At c = record { credential_advance = search crediting; shorter = omega arith }
