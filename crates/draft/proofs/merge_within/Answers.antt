@@ -1,4 +1,6 @@
 -- `draft::merge_within` meets its contract. Assumes nothing.
+use mathlib.Core.Bool.{not}
+use mathlib.Core.Path.{ap}
 use Rattle.draft.proofs.Calling.{merge-17, merge-18, merge-19, merge-alike}
 use Rattle.draft.proofs.Known.{start_fits}
 use Rattle.draft.proofs.merge_within.Goals as goal
@@ -21,4 +23,4 @@ returns c =
     merge-alike _ _ _ _ _ c.check_within.ensures _ _ c.in-Accepted.is c.type_inv.first
     _ c.check_within-2.ensures _ _ c.in-Accepted-check_within.is c.type_inv.second
     _ _ c.between.ensures c.between-2.ensures _ c.same_bytes.ensures
-    c.if-not-same_bytes.false _ c.merge_alike.ensures
+    (ap not c.if-not-same_bytes.false) _ c.merge_alike.ensures
