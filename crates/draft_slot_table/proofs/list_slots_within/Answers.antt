@@ -10,7 +10,7 @@ pub returns-then-table-slots : goal.returns-then-table-slots
 returns-then-table-slots c = search listing
 
 pub put_slots-requires : goal.put_slots-requires
-put_slots-requires c = (search short, search room)
+put_slots-requires c = record { s_len_bound = search short; at_in_bounds = search room }
 
 pub returns-in-Refused : goal.returns-in-Refused
 returns-in-Refused c = search listing
