@@ -11,7 +11,7 @@ put_at-requires-2 c = search second_fits
 
 pub overflow_add-at-3 : goal.overflow_add-at-3
 overflow_add-at-3 c = let a = c.args in
-    omega (arith, sum_fits a.first.now a.second.now a.numbers.now a.buf.now a.at c.pre)
+    omega (arith, sum_fits a.first.now a.second.now a.numbers.now a.buf.now a.at c.requires)
 
 pub put_integers-requires : goal.put_integers-requires
 put_integers-requires c = search integers-fit

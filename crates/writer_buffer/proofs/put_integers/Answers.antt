@@ -20,12 +20,12 @@ put_u32-requires c = omega (
       c.loop-i.invariant.0,
       c.loop-i.invariant.1,
       c.loop-i-test.true,
-      c.pre,
+      c.requires,
     )
 
 pub loop-i-preserved : goal.loop-i-preserved
 loop-i-preserved c = let l = c.loop-i in let inv = l.invariant in let fits : l.at + 4 ≤ length l.buf = omega
-    (arith, inv.0, inv.1, c.loop-i-test.taken, c.pre) in (
+    (arith, inv.0, inv.1, c.loop-i-test.true, c.requires) in (
       omega (
         arith,
         inv.0,
@@ -37,7 +37,7 @@ loop-i-preserved c = let l = c.loop-i in let inv = l.invariant in let fits : l.a
       omega arith,
       integers-on c.args.numbers.now l.i l.at
           l.buf _ inv.3 c.type_inv.numbers
-          c.loop-i-test.taken fits _ c.put_u32.ensures,
+          c.loop-i-test.true fits _ c.put_u32.ensures,
     )
 
 pub returns : goal.returns

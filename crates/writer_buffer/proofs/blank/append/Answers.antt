@@ -25,12 +25,12 @@ pub returns-then-layout-at : goal.returns-then-layout-at
 returns-then-layout-at c = let a = c.args in
     made a.buf.now _ _ c.refuse-then-layout-at.ensures _
     (close-after a.most a.buf.now a.at (omega arith) _ c.unsigned_at.ensures _
-    c.in-Whole.is c.type_inv.buf c.if-layout-at.true)
+    c.in-Whole.is c.slice_known-1.given c.if-layout-at.true)
 
 pub close_layout-requires : goal.close_layout-requires
 close_layout-requires c = let a = c.args in
     close-ahead a.most a.buf.now a.at (omega arith) _ c.unsigned_at.ensures _
-    c.in-Whole.is c.type_inv.buf
+    c.in-Whole.is c.slice_known-1.given
 
 pub returns-in-Refused : goal.returns-in-Refused
 returns-in-Refused c = let a = c.args in
@@ -40,4 +40,4 @@ returns-in-Refused c = let a = c.args in
 pub returns-else-layout-at : goal.returns-else-layout-at
 returns-else-layout-at c = let a = c.args in
     close-whole a.most a.buf.now a.at (omega arith) _ c.unsigned_at.ensures _
-    c.in-Whole.is c.type_inv.buf (omega arith) _ _ c.close_layout.ensures
+    c.in-Whole.is c.slice_known-1.given (omega arith) _ _ c.close_layout.ensures

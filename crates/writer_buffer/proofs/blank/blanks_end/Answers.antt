@@ -26,5 +26,5 @@ loop-left-preserved c = (
 pub returns : goal.returns
 returns c = let l = c.loop-left in
     let a = c.args in
-    l.invariant.0 _ (end_none a.type-id a.s.now (cursor l.phase l.asks l.cursor-at l.elements) l.false l.at a.limit
+    l.invariant.0 _ (end_none a.type_id a.s.now (cursor l.phase l.asks l.cursor_at l.elements) l.left l.at a.limit
     (omega arith) (omega arith))

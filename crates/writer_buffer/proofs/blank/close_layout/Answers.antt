@@ -10,7 +10,7 @@ slice_bounds-closing_end-end-2 c = simp length-take (omega arith)
 pub put_closing-requires : goal.put_closing-requires
 put_closing-requires c = let a = c.args in
     close-room a.layout a.buf.now a.at _ c.most_in-limit.ensures _ c.closing_end.ensures
-    c.pre.1 _ c.in-At.is
+    c.requires.1 _ c.in-At.is
 
 pub returns-in-Refused : goal.returns-in-Refused
 returns-in-Refused c = let a = c.args in

@@ -23,7 +23,7 @@ put_blank-at-requires c = let l = c.loop-owed in
 pub loop-owed-preserved : goal.loop-owed-preserved
 loop-owed-preserved c = let l = c.loop-owed in
     writing-on l.invariant _ c.next_wanted.ensures _ _ _ c.in-Credential.is _ _
-    c.put_blank-at.ensures.1 c.put_blank-at.ensures.0
+    c.put_blank-at.ensures.buf_after c.put_blank-at.ensures.value
 
 pub returns : goal.returns
 returns c = writing-none c.loop-owed.invariant (omega arith)

@@ -8,5 +8,5 @@ put_blanks-requires c = let a = c.args in
 
 pub returns : goal.returns
 returns c = let a = c.args in
-    closing-written a.layout a.buf.now a.at c.pre _ c.put_u32.ensures _ c.first_wanting-from.ensures _
+    closing-written a.layout a.buf.now a.at c.requires _ c.put_u32.ensures _ c.first_wanting-from.ensures _
     c.put_blanks.ensures
