@@ -8,8 +8,8 @@ pub returns-then-x-y : goal.returns-then-x-y
 returns-then-x-y c = search wording
 
 pub returns : goal.returns
-returns c = let start = b in agree-end _ _ _ _ c.order_bytes.ensures (⊎_elim
-    (λ w. agree_at _ _ _ _ w.4 (word-agree _ _ _ start.requires.1.1 c.type_inv.a c.type_inv.b _
-    start.requires.0 4 w.0.taken _ _ w.1.ensures w.2.ensures w.3.false))
-    (λ w. agree_at _ _ _ _ w.1 start.requires.1.1)
+returns c = agree-end _ _ _ _ c.order_bytes.ensures (⊎_elim
+    (λ w. agree_at _ _ _ _ w.4 (word-agree _ _ _ c.requires.1.1 c.type_inv.a c.type_inv.b _
+    c.requires.0 4 w.0.true _ _ w.1.ensures w.2.ensures w.3.left))
+    (λ w. agree_at _ _ _ _ w.1 c.requires.1.1)
     c.if-most-from-ge-HALF.branch)
