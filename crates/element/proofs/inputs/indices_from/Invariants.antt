@@ -1,16 +1,12 @@
 -- `element::inputs::indices_from` meets its contract. The invariant: parsing what is left, given the bytes of the index before, gives the answer of the list.
 -- Assumes nothing.
-use Rattle.std.proofs.Common.{rules}
 use Prim.Native.Nat.{◌^◌, ◌<◌}
-use mathlib.Core.Path.{◌≡◌, refl}
+use mathlib.Core.Path.{◌≡◌}
 use mathlib.Core.List.{[]}
 use Rattle.wire.specs.Bytes.{digits, pick}
 use Rattle.wire.specs.Fields.{integer}
-use Rattle.wire.specs.Sequence.{guard}
 use Rattle.wire.specs.Series.{above, series_from, increasing}
 use Rattle.wire.specs.code.Answer.{ended}
-use Rattle.wire.proofs.Reading.{turn, list-end, value-small}
-use Rattle.element.proofs.Reading.{if-integer-follows, if-integer-not}
 use Rattle.element.proofs.inputs.indices_from.Given as goal
 
 abbrev pub invariant-loop-left : goal.invariant-loop-left

@@ -1,18 +1,15 @@
 -- `element::inputs::inputs_from` meets its contract. The invariant: parsing what is left, given the key of the input before, gives the answer of the list.
 -- Assumes nothing.
-use Rattle.std.proofs.Common.{rules}
 use Prim.Native.Nat.{◌^◌, ◌<◌}
-use mathlib.Core.Path.{◌≡◌, refl}
+use mathlib.Core.Path.{◌≡◌}
 use mathlib.Core.List.{[], ◌++◌}
 use lib.ListN.{length}
 use Rattle.wire.specs.Bytes.{pick}
 use Rattle.wire.specs.Fields.{integer}
-use Rattle.wire.specs.Sequence.{guard}
 use Rattle.wire.specs.Series.{series}
 use Rattle.wire.specs.code.Answer.{ended}
-use Rattle.wire.proofs.Reading.{list-end, value-small}
-use Rattle.element.specs.Inputs.{key, input_after, input}
-use Rattle.element.proofs.Reading.{key-cut, key_above, key-not-above, key-again, id-length, inputs_after, inputs_are, on-spend, on-spend-refused}
+use Rattle.element.specs.Inputs.{input}
+use Rattle.element.proofs.Reading.{inputs_after}
 use Rattle.element.proofs.inputs.inputs_from.Given as goal
 
 abbrev pub invariant-loop-left : goal.invariant-loop-left

@@ -1,18 +1,14 @@
 -- `element::operations::pairs_from` meets its contract. The invariant: parsing what is left, given the bytes of the pair before, gives the answer of the list.
 -- Assumes nothing.
-use Rattle.std.proofs.Common.{rules}
 use Prim.Native.Nat.{◌^◌, ◌<◌}
-use mathlib.Core.Path.{◌≡◌, refl}
+use mathlib.Core.Path.{◌≡◌}
 use mathlib.Core.List.{[], ◌++◌}
 use lib.ListN.{length}
 use Rattle.wire.specs.Bytes.{pick}
 use Rattle.wire.specs.Fields.{integer}
-use Rattle.wire.specs.Sequence.{guard}
 use Rattle.wire.specs.Series.{above, series_from, increasing}
 use Rattle.wire.specs.code.Answer.{ended}
-use Rattle.wire.proofs.Reading.{list-end}
 use Rattle.element.specs.Inputs.{key}
-use Rattle.element.proofs.Reading.{key-cut, key_above, key-not-above, key-again}
 use Rattle.element.proofs.operations.pairs_from.Given as goal
 
 abbrev pub invariant-loop-left : goal.invariant-loop-left
