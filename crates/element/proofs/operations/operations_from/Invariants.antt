@@ -7,7 +7,7 @@ use Rattle.element.specs.Operations.{operation}
 use Rattle.element.proofs.operations.operations_from.Given as goal
 
 abbrev pub invariant-loop-left : goal.invariant-loop-left
-invariant-loop-left l =    ended (unordered operation l.left) l.s l.at ≡ ended (unordered operation l.count) l.s l.start
+invariant-loop-left l = ended (unordered operation l.left) l.s l.at ≡ ended (unordered operation l.count) l.s l.start
 
 abbrev pub decreases-loop-left : goal.decreases-loop-left
 decreases-loop-left l = l.left
