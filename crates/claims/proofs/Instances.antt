@@ -57,7 +57,8 @@ record Computed : Type 0 where
 
 computed : Computed
 unfolding Any.check unsigned head wants credentials signature_width owners transfer_body transferable_output key spend input_after string integer blob_parse
-    items list_parse list_write value digits below form wanted asked at_least blank slot_at put_slot put_all layout places same body slot_count slot merge_of result
+    items list_parse list_write value digits below form wanted asked at_least blank slot_at put_slot put_all layout places same body slot_count slot
+    merge_of result
 computed =
     record {
       accepted = (refl, refl, refl);

@@ -48,7 +48,8 @@ module _ {A : Type 0} (E : List ℕ → Format A) (entry : ℕ → ℕ → A →
       let more = length-append w (list_write E (left E) w l) in
       inside-append (at + length (w ++ list_write E (left E) w l)) (entry at (at + length w) a) (entries_from E entry w (at + length w) l)
       (inside-more (at + length w) (at + length (w ++ list_write E (left E) w l)) (entry at (at + length w) a) (omega arith) (one prev at a))
-      (inside-more (at + length w + length (list_write E (left E) w l)) (at + length (w ++ list_write E (left E) w l)) (entries_from E entry w (at + length w) l)
+      (inside-more (at + length w + length (list_write E (left E) w l)) (at + length (w ++ list_write E (left E) w l))
+      (entries_from E entry w (at + length w) l)
       (omega arith) (list_inside w (at + length w) l))
 
   counted-inside : (least at : ℕ) (l : List A) → Inside (at + length ((at_least least E).write l)) (entries_from E entry [] (at + 4) l)

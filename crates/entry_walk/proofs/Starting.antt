@@ -48,7 +48,8 @@ counted-inv : {A : Type 0} (least : ℕ) (E : List ℕ → Format A) (s : List �
     → (c f : ℕ) × (read (integer 4) s at ≡ took c f) × (read (series_from E [] c) s f ≡ took v m)
 unfolding at_least
 counted-inv least E s at v m e =
-    let (c, f, ec, e₁) = parse-inv (integer 4) s at (λ c f. pick (leb least c) ((series_from E [] c).parse s f refused took) (refused (by empty_list at))) v m e in
+    let (c, f, ec, e₁) = parse-inv (integer 4) s at
+        (λ c f. pick (leb least c) ((series_from E [] c).parse s f refused took) (refused (by empty_list at))) v m e in
     let (_, e₂) = pick_inv (leb least c) (by empty_list at) ((series_from E [] c).parse s f refused took) v m e₁ in
     (c, f, ec, e₂)
 

@@ -168,7 +168,13 @@ module _ (a b : List ℕ) (i : ℕ) (y : Bool) (w : below_from a b i ≡ y) (m :
   below_on h e =
       let p : i < length a = omega arith in
       let q : i < length b = omega arith in
-      found (rw (add-one, drop-cons a i 0, drop-cons b i 0, le-ltb (get_or a i 0) (get_or b i 0) (omega arith), le-ltb (get_or b i 0) (get_or a i 0) (omega arith))) w
+      found (rw (
+        add-one,
+        drop-cons a i 0,
+        drop-cons b i 0,
+        le-ltb (get_or a i 0) (get_or b i 0) (omega arith),
+        le-ltb (get_or b i 0) (get_or a i 0) (omega arith),
+      )) w
 
   pub below-ended : m ≤ i → ltb i (length b) ≡ y
   unfolding below below_from

@@ -261,7 +261,8 @@ module _ (most : ℕ) where
   unfolding input_after guard
   input-does l e p v g w s = same_step (avm most) L.Input l e w s (given ((input p).write v))
 
-  state-does : (p : List ℕ) (v : InitialState) → (initial_state p).Good v → Does most (C.state_call v) (puts_element L.State (given ((initial_state p).write v)))
+  state-does : (p : List ℕ) (v : InitialState) → (initial_state p).Good v
+      → Does most (C.state_call v) (puts_element L.State (given ((initial_state p).write v)))
   unfolding initial_state_after guard
   state-does p v g w s = refl
 

@@ -8,7 +8,8 @@ use Rattle.writer_buffer.specs.Stores.{overwrite}
 use Rattle.writer_buffer.proofs.put_integers.Given as goal
 
 abbrev pub invariant-loop-i : goal.invariant-loop-i
-invariant-loop-i l = (length l.buf ≡ length l.initial.buf) × (l.at ≡ l.start + 4 * l.i) × (l.i ≤ length l.numbers) × (overwrite l.buf l.at (integers_bytes (drop l.i l.numbers)) ≡ overwrite l.initial.buf l.start
+invariant-loop-i l = (length l.buf ≡ length l.initial.buf) × (l.at ≡ l.start + 4 * l.i) × (l.i ≤ length l.numbers)
+    × (overwrite l.buf l.at (integers_bytes (drop l.i l.numbers)) ≡ overwrite l.initial.buf l.start
     (integers_bytes l.numbers))
 
 abbrev pub decreases-loop-i : goal.decreases-loop-i

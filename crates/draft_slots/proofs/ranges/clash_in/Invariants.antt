@@ -7,7 +7,8 @@ use Rattle.draft_slots.proofs.Scanning.{clash_from}
 use Rattle.draft_slots.proofs.ranges.clash_in.Given as goal
 
 abbrev pub invariant-loop-left : goal.invariant-loop-left
-invariant-loop-left l = (clash_from l.first l.second l.slot (slot_range l.left l.slot_at) ≡ clash_from l.first l.second l.slots_before (slot_range l.count l.at))
+invariant-loop-left l = (clash_from l.first l.second l.slot (slot_range l.left l.slot_at)
+    ≡ clash_from l.first l.second l.slots_before (slot_range l.count l.at))
     × (l.slot_at + 65 * l.left ≤ length l.first) × (l.slot ≤ l.slot_at)
 
 abbrev pub decreases-loop-left : goal.decreases-loop-left

@@ -6,7 +6,8 @@ use Rattle.draft_slots.proofs.Scanning.{clash_from}
 use Rattle.draft_slots.proofs.ranges.first_clash.Given as goal
 
 abbrev pub invariant-loop-left : goal.invariant-loop-left
-invariant-loop-left l = (clash_from l.first l.second l.slots_before (scan_from l.left l.first l.credential_at) ≡ clash_from l.first l.second 0 (scan_from l.credentials l.first l.at))
+invariant-loop-left l = (clash_from l.first l.second l.slots_before (scan_from l.left l.first l.credential_at)
+    ≡ clash_from l.first l.second 0 (scan_from l.credentials l.first l.at))
     × (l.slots_before ≤ l.credential_at)
 
 abbrev pub decreases-loop-left : goal.decreases-loop-left
