@@ -1,8 +1,4 @@
-use Prim.Native.Nat.{◌-◌}
-use mathlib.Core.Path.{◌≡◌}
-use lib.ListN.{length, drop}
-use Rattle.compare.specs.code.Order.{order}
-use Rattle.compare.proofs.Ordering.{order_from, order_from_lem, comparing}
+use Rattle.compare.proofs.Ordering.{order_from_lem, comparing}
 use Rattle.compare.proofs.order_bytes.Goals as goal
 
 pub loop-i-init : goal.loop-i-init

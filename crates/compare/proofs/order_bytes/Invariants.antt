@@ -3,7 +3,7 @@ use Prim.Native.Nat.{◌-◌}
 use mathlib.Core.Path.{◌≡◌}
 use lib.ListN.{length, drop}
 use Rattle.compare.specs.code.Order.{order}
-use Rattle.compare.proofs.Ordering.{order_from, order_from_lem, comparing}
+use Rattle.compare.proofs.Ordering.{order_from}
 use Rattle.compare.proofs.order_bytes.Given as goal
 
 abbrev pub invariant-loop-i : goal.invariant-loop-i

@@ -1,6 +1,4 @@
-use Prim.Native.Nat.{◌-◌, ◌≤◌}
 use native.Mathlib.Omega.{arith}
-use Rattle.compare.specs.code.Order.{Agree}
 use Rattle.compare.proofs.Ordering.{agree-none}
 use Rattle.compare.proofs.Words.{word-apart, word-agree}
 use Rattle.compare.proofs.order_words.Goals as goal
@@ -13,7 +11,7 @@ returns-then-x-y c = search word-apart
 
 pub loop-i-preserved : goal.loop-i-preserved
 loop-i-preserved c = (
-      omega arith,
-      word-agree _ _ _ c.loop-i.invariant.1 c.type_inv.a c.type_inv.b _
-          c.shorter-most.ensures 8 c.loop-i-test.true _ _ c.word_at-x.ensures c.word_at-y.ensures c.if-x-y.false,
-    )
+  omega arith,
+  word-agree _ _ _ c.loop-i.invariant.1 c.type_inv.a c.type_inv.b _
+      c.shorter-most.ensures 8 c.loop-i-test.true _ _ c.word_at-x.ensures c.word_at-y.ensures c.if-x-y.false,
+)

@@ -1,9 +1,6 @@
 -- `compare::order_words` meets its contract. The invariant: both agree in their first i bytes. Assumes nothing.
 use Prim.Native.Nat.{◌-◌, ◌≤◌}
-use native.Mathlib.Omega.{arith}
 use Rattle.compare.specs.code.Order.{Agree}
-use Rattle.compare.proofs.Ordering.{agree-none}
-use Rattle.compare.proofs.Words.{word-apart, word-agree}
 use Rattle.compare.proofs.order_words.Given as goal
 
 abbrev pub invariant-loop-i : goal.invariant-loop-i

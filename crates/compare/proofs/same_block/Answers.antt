@@ -1,9 +1,4 @@
-use Prim.Native.Nat.{◌-◌}
-use mathlib.Core.Path.{◌≡◌}
-use mathlib.Core.Bool.{◌&&◌}
-use lib.ListN.{length}
-use Rattle.compare.specs.Same.{same}
-use Rattle.compare.proofs.Same.{same_from, same-all, same-on, same_end}
+use Rattle.compare.proofs.Same.{same-all, same-on, same_end}
 use Rattle.compare.proofs.same_block.Goals as goal
 
 pub loop-i-init : goal.loop-i-init

@@ -4,7 +4,7 @@ use mathlib.Core.Path.{◌≡◌}
 use mathlib.Core.Bool.{◌&&◌}
 use lib.ListN.{length}
 use Rattle.compare.specs.Same.{same}
-use Rattle.compare.proofs.Same.{same_from, same-all, same-on, same_end}
+use Rattle.compare.proofs.Same.{same_from}
 use Rattle.compare.proofs.same_block.Given as goal
 
 abbrev pub invariant-loop-i : goal.invariant-loop-i

@@ -1,7 +1,5 @@
-use Prim.Native.Nat.{◌-◌, ◌≤◌}
 use native.Mathlib.Omega.{arith}
 use lib.ListN.{length-take, length-drop}
-use Rattle.compare.specs.code.Order.{Agree}
 use Rattle.compare.proofs.Ordering.{agree-none, block-agree}
 use Rattle.compare.proofs.same_blocks.Goals as goal
 

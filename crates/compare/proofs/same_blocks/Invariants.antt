@@ -1,9 +1,6 @@
 -- `compare::same_blocks` meets its contract. The invariant: both agree in their first i bytes. Assumes nothing.
 use Prim.Native.Nat.{◌-◌, ◌≤◌}
-use native.Mathlib.Omega.{arith}
-use lib.ListN.{length-take, length-drop}
 use Rattle.compare.specs.code.Order.{Agree}
-use Rattle.compare.proofs.Ordering.{agree-none, block-agree}
 use Rattle.compare.proofs.same_blocks.Given as goal
 
 abbrev pub invariant-loop-i : goal.invariant-loop-i
