@@ -35,10 +35,6 @@ found p q = sym p ∙ q
 
 -- ---- an integer read byte by byte
 
--- the integer that all bytes of a string encode
-pub value-all : (k : ℕ) (w : List ℕ) (r : ℕ) → length w ≡ k → r ≡ value (take k (drop 0 w)) → r ≡ value w
-value-all k w r l e = e ∙ ap value (take_all k w (omega arith))
-
 value-snoc : (xs : List ℕ) (x : ℕ) → value (xs ++ (x ∷ [])) ≡ value xs * 256 + x
 unfolding value
 value-snoc [] x = omega arith
