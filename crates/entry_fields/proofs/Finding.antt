@@ -52,11 +52,15 @@ action_fields place count at end (k, (v, o)) =
 
 operation-placed : (at f c t end : ℕ) (asset : List ℕ) (l : List (List ℕ × ℕ)) (w : Action) → f ≡ at + 36 → c ≡ length l → t ≡ f + key_width * length l
     → action_fields f c t end w ≡ operation_fields at end record { asset = asset; outputs = l; terms = w.1.0; owners = (w.0, w.1.1) }
-operation-placed at f c t end asset l w e h i = rw (i, h, e)
+operation-placed at f c t end asset l w e h i =
+    ap (λ (z : ℕ). action_fields z c t end w) e ∙ ap (λ (z : ℕ). action_fields (at + 36) z t end w) h
+    ∙ ap (λ (z : ℕ). action_fields (at + 36) (length l) z end w) (i ∙ ap (λ (z : ℕ). z + key_width * length l) e)
 
 action-placed : (place count at i o end : ℕ) (k : OperationType) (v : Terms) (w : OperationOwners k) → i ≡ at + 4 → o ≡ at + 4 + length (terms.write v)
     → operation_of place count (terms_fields i o v) (recipients (o + 4) end (k, w)) ≡ action_fields place count at end (k, (v, w))
-action-placed place count at i o end k v w e f = rw (f, e)
+action-placed place count at i o end k v w e f =
+    ap (λ (z : ℕ). operation_of place count (terms_fields z o v) (recipients (o + 4) end (k, w))) e
+    ∙ ap (λ (z : ℕ). operation_of place count (terms_fields (at + 4) z v) (recipients (z + 4) end (k, w))) f
 
 module _ (s : List ℕ) (b : Slice s) where
   -- an integer of k bytes ends k bytes after its start

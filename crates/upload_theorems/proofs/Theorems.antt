@@ -47,8 +47,8 @@ module _ (most : ℕ) where
       go S.NeedMore q = ended-more s ps q
       go (S.Refused e) q = end_refused s ps e q ∙ sym (own-refusal s ps e f q)
 
-  too_long : (s : List ℕ) (ps : List (List ℕ)) → most_bytes < length (whole ps) → (e : Refusal) × (ended most s ps ≡ C.Refused e)
-  too_long s ps h = go (answer most s ps) refl
+  refused_long : (s : List ℕ) (ps : List (List ℕ)) → most_bytes < length (whole ps) → (e : Refusal) × (ended most s ps ≡ C.Refused e)
+  refused_long s ps h = go (answer most s ps) refl
     where
       go : (x : Standing) → answer most s ps ≡ x → (e : Refusal) × (ended most s ps ≡ C.Refused e)
       go S.NeedMore q = (refusal too_long 0, ended-more s ps q ∙ checked-long most (whole ps) h)
@@ -85,5 +85,5 @@ module _ (most : ℕ) where
         stays = λ s ps qs e q. run-append most (fresh, s) ps qs ∙ run-stood most (after most s ps) e q qs;
         end_refused = end_refused;
         own-refusal = own-refusal;
-        too_long = too_long;
+        too_long = refused_long;
       }

@@ -1,0 +1,15 @@
+-- `entry_fields::recipients_at` meets its contract. Assumes nothing.
+use Rattle.entry_fields.proofs.Passing.{finding}
+use Rattle.entry_fields.proofs.recipients_at.Goals as goal
+
+pub returns-in_default : goal.returns-in_default
+returns-in_default c = search finding depth 12
+
+pub returns-then-type_id-eq12 : goal.returns-then-type_id-eq12
+returns-then-type_id-eq12 c = search finding depth 12
+
+pub returns-in-Missing : goal.returns-in-Missing
+returns-in-Missing c = search finding depth 12
+
+pub returns-in-Fields : goal.returns-in-Fields
+returns-in-Fields c = search finding depth 12

@@ -1,0 +1,27 @@
+-- `writer::Writer::finish` meets its contract. Assumes nothing.
+use native.Mathlib.Omega.{arith}
+use Rattle.transaction.specs.Answer.{memo_most}
+use Rattle.writer.proofs.Methods.{finish-not, finish-small, finish-refused, finish-done}
+use Rattle.writer.proofs.Writer.finish.Goals as goal
+
+pub returns-then-not-end_at : goal.returns-then-not-end_at
+returns-then-not-end_at c = let a = c.args in
+    finish-not a.self a.buf.now _ c.end_at.ensures memo_most c.if-not-end_at.true _
+    c.not_due.ensures
+
+pub overflow_add-phase : goal.overflow_add-phase
+overflow_add-phase c = let a = c.args in
+    omega (arith, finish-small a.self a.buf.now _ c.end_at.ensures c.if-not-end_at.false)
+
+pub returns-in-Refused : goal.returns-in-Refused
+returns-in-Refused c = let a = c.args in
+    finish-refused a.self a.buf.now _ c.end_at.ensures
+    c.if-not-end_at.false memo_most _ _
+    c.append.ensures _ c.in-Refused.is _
+    c.refused.ensures
+
+pub returns-in-At : goal.returns-in-At
+returns-in-At c = let a = c.args in
+    finish-done a.self a.buf.now _ c.end_at.ensures
+    c.if-not-end_at.false memo_most _ _
+    c.append.ensures _ c.in-At.is _ c.stored.ensures

@@ -1,0 +1,15 @@
+-- `writer_due::list_at` meets its contract. Assumes nothing.
+use Rattle.plan.proofs.RowLaws.{by-due}
+use Rattle.writer_due.proofs.list_at.Goals as goal
+
+pub returns-in-Nothing : goal.returns-in-Nothing
+returns-in-Nothing c = search by-due
+
+pub returns-in-Finish : goal.returns-in-Finish
+returns-in-Finish c = search by-due
+
+pub returns-in-Field : goal.returns-in-Field
+returns-in-Field c = search by-due
+
+pub returns-in-List : goal.returns-in-List
+returns-in-List c = search by-due
