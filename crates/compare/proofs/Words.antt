@@ -107,12 +107,6 @@ apart_above p q l = rw (le-ltb p q l)
 
 pub ruleset differing = (apart_below, apart_above)
 
--- k bytes of s copied into an array z of as many, which is y then
-pub copied : (k : ℕ) (s z y : List ℕ) (at : ℕ) → k ≤ length s - at → length z ≡ k
-    → y ≡ take (length (take (at + k - at) (drop at s))) (take (at + k - at) (drop at s)) ++ drop (length (take (at + k - at) (drop at s))) z
-    → y ≡ take k (drop at s)
-copied k s z y at h lz e =
-    let q : at + k - at ≡ k = omega arith in
-    let l : length (take k (drop at s)) ≡ k = length-take-le k (drop at s) (rw length-drop h) in
-    let d : length z ≤ length (take k (drop at s)) = omega arith in
-    e ∙ rw (q, take-length (take k (drop at s)), drop_of_length-le z d) (append-nil (take k (drop at s)))
+-- k bytes of s copied into an array, which is y then
+pub copied : (k : ℕ) (s y : List ℕ) (at : ℕ) → y ≡ take (at + k - at) (drop at s) → y ≡ take k (drop at s)
+copied k s y at e = let q : at + k - at ≡ k = omega arith in e ∙ rw q

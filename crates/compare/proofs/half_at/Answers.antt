@@ -4,4 +4,4 @@ use Rattle.wire.specs.Bytes.{value}
 use Rattle.compare.proofs.half_at.Goals as goal
 
 pub returns : goal.returns
-returns c = c.half_of_lem.ensures ∙ ap value c.four_at.ensures
+returns c = c.half_of.ensures ∙ ap value c.four_at.ensures

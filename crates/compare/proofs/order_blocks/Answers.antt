@@ -1,5 +1,4 @@
 -- `compare::order_blocks` meets its contract. Assumes nothing.
-use borrow.Author.Tests.{ltb-true}
 use Rattle.compare.proofs.Ordering.{agree-rest, ranges-alike, last-order}
 use Rattle.compare.proofs.order_blocks.Goals as goal
 
@@ -7,9 +6,8 @@ pub same_block-requires : goal.same_block-requires
 same_block-requires c = search ranges-alike
 
 pub returns-then-same_block : goal.returns-then-same_block
-returns-then-same_block c = let near = block in let start = near in
-    last-order _ _ _ 64 start.same_blocks.ensures.1 _ c.if-same_block.true _ near.if1.true start.same_blocks.ensures.0
-    (ltb-true _ _ near.if2.true) c.same_block.ensures _ c.order_bytes.ensures
+returns-then-same_block c = last-order _ _ _ 64 c.same_blocks-start.ensures.1 _ c.if-same_block.true _ c.if-start-ge-BLOCK.true c.same_blocks-start.ensures.0
+    c.if-most-start-lt-BLOCK.true c.same_block.ensures _ c.order_bytes.ensures
 
 pub returns : goal.returns
 returns c = search agree-rest

@@ -12,8 +12,8 @@ pub returns-then-x-y : goal.returns-then-x-y
 returns-then-x-y c = search word-apart
 
 pub loop-i-preserved : goal.loop-i-preserved
-loop-i-preserved c = let test = y in let l = test in let m = l in (
+loop-i-preserved c = (
       omega arith,
-      word-agree _ _ _ l.loop.invariant.1 m.shared-slice-known.given m.shared-slice-known2.given _
-          m.shorter.ensures 8 test.loop-test.true _ _ c.word_at-x.ensures c.word_at-y.ensures c.if-x-y.false,
+      word-agree _ _ _ c.loop-i.invariant.1 c.type_inv.a c.type_inv.b _
+          c.shorter-most.ensures 8 c.loop-i-test.true _ _ c.word_at-x.ensures c.word_at-y.ensures c.if-x-y.false,
     )

@@ -1,9 +1,5 @@
 use native.Mathlib.Omega.{arith}
-use mathlib.Core.Path.{◌≡◌}
-use Rattle.wire.specs.Fields.{blob}
-use Rattle.wire.specs.Series.{increasing}
-use Rattle.wire.specs.code.Answer.{ended}
-use Rattle.owners.proofs.Reading.{address_then, AddressTurn, address-turn}
+use Rattle.owners.proofs.Reading.{address-turn}
 use Rattle.owners.proofs.Reading.{no_address, address-first, address-gone, address-cut, address-last}
 use Rattle.owners.proofs.addresses_from.Goals as goal
 
@@ -22,15 +18,15 @@ returns-in_default-field_at c = search address-cut
 pub loop-left-preserved : goal.loop-left-preserved
 loop-left-preserved c =
     let turn = address-turn _ c.type_inv.s _ c.loop-left.prev _ c.loop-left.invariant _ _ c.field_at.ensures c.in-At.is (omega arith)
-        _ _ _ c.address_below.ensures c.address_at.ensures c.address_at-in-loop-left.ensures _ c.field_at-in-loop-left.ensures
-        _ c.in-At-field_at.is in
+    _ _ _ c.address_below.ensures c.address_at.ensures c.address_at-in-loop-left.ensures _ c.field_at-in-loop-left.ensures
+    _ c.in-At-field_at.is in
     turn.again c.if-address_below.true
 
 pub returns-else-address_below : goal.returns-else-address_below
 returns-else-address_below c =
     let turn = address-turn _ c.type_inv.s _ c.loop-left.prev _ c.loop-left.invariant _ _ c.field_at.ensures c.in-At.is (omega arith)
-        _ _ _ c.address_below.ensures c.address_at.ensures c.address_at-in-loop-left.ensures _ c.field_at-in-loop-left.ensures
-        _ c.in-At-field_at.is in
+    _ _ _ c.address_below.ensures c.address_at.ensures c.address_at-in-loop-left.ensures _ c.field_at-in-loop-left.ensures
+    _ c.in-At-field_at.is in
     turn.not_above c.if-address_below.false _ c.refuse.ensures
 
 pub returns : goal.returns

@@ -1,6 +1,4 @@
-use mathlib.Core.Path.{◌≡◌, refl}
-use Rattle.wire.specs.Series.{unordered}
-use Rattle.wire.specs.code.Answer.{ended}
+use mathlib.Core.Path.{refl}
 use Rattle.wire.proofs.Reading.{list_on, list-end, unordered-again}
 use Rattle.owners.specs.Owners.{owners}
 use Rattle.owners.proofs.Reading.{on-owners, on-owners-refused}

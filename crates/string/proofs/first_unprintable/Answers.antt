@@ -1,8 +1,4 @@
-use Prim.Native.Nat.{◌-◌}
-use mathlib.Core.Path.{◌≡◌}
-use lib.ListN.{length}
-use Rattle.string.specs.Characters.{unprintable}
-use Rattle.string.proofs.Reading.{unprintable_from, unprintable-all, characters}
+use Rattle.string.proofs.Reading.{unprintable-all, characters}
 use Rattle.string.proofs.first_unprintable.Goals as goal
 
 pub loop-i-init : goal.loop-i-init

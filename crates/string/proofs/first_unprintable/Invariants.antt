@@ -4,11 +4,11 @@ use Prim.Native.Nat.{◌-◌}
 use mathlib.Core.Path.{◌≡◌}
 use lib.ListN.{length}
 use Rattle.string.specs.Characters.{unprintable}
-use Rattle.string.proofs.Reading.{unprintable_from, unprintable-all, characters}
+use Rattle.string.proofs.Reading.{unprintable_from}
 use Rattle.string.proofs.first_unprintable.Given as goal
 
 abbrev pub invariant-loop-i : goal.invariant-loop-i
-invariant-loop-i l =    unprintable_from l.s l.i ≡ unprintable l.s
+invariant-loop-i l = unprintable_from l.s l.i ≡ unprintable l.s
 
 abbrev pub decreases-loop-i : goal.decreases-loop-i
 decreases-loop-i l = length l.s - l.i

@@ -1,7 +1,4 @@
-use Prim.Native.Nat.{◌-◌}
-use mathlib.Core.Path.{◌≡◌}
-use Rattle.wire.specs.Bytes.{below}
-use Rattle.wire.proofs.Bytes.{below_from, below_all, separating}
+use Rattle.wire.proofs.Bytes.{below_all, separating}
 use Rattle.wire.proofs.is_below.Goals as goal
 
 pub loop-i-init : goal.loop-i-init

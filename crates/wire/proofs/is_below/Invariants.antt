@@ -2,7 +2,7 @@
 use Prim.Native.Nat.{◌-◌}
 use mathlib.Core.Path.{◌≡◌}
 use Rattle.wire.specs.Bytes.{below}
-use Rattle.wire.proofs.Bytes.{below_from, below_all, separating}
+use Rattle.wire.proofs.Bytes.{below_from}
 use Rattle.wire.proofs.is_below.Given as goal
 
 abbrev pub invariant-loop-i : goal.invariant-loop-i

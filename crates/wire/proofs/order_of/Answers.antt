@@ -1,8 +1,4 @@
-use Prim.Native.Nat.{◌-◌}
-use mathlib.Core.Path.{◌≡◌}
-use lib.ListN.{length}
-use Rattle.wire.specs.code.Order.{order}
-use Rattle.wire.proofs.Bytes.{order_from, order-all, comparing}
+use Rattle.wire.proofs.Bytes.{order-all, comparing}
 use Rattle.wire.proofs.order_of.Goals as goal
 
 pub loop-i-init : goal.loop-i-init

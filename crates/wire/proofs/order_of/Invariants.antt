@@ -3,7 +3,7 @@ use Prim.Native.Nat.{◌-◌}
 use mathlib.Core.Path.{◌≡◌}
 use lib.ListN.{length}
 use Rattle.wire.specs.code.Order.{order}
-use Rattle.wire.proofs.Bytes.{order_from, order-all, comparing}
+use Rattle.wire.proofs.Bytes.{order_from}
 use Rattle.wire.proofs.order_of.Given as goal
 
 abbrev pub invariant-loop-i : goal.invariant-loop-i

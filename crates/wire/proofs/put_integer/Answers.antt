@@ -1,10 +1,7 @@
-use Prim.Native.Nat.{◌-◌, ◌/◌, ◌%◌, ◌^◌, ◌≤◌}
 use mathlib.Core.Path.{◌≡◌, refl}
-use mathlib.Core.List.{◌++◌}
 use native.Mathlib.Nat.{sub-zero}
 use native.Mathlib.Omega.{arith}
-use lib.ListN.{length, take, length-set}
-use Rattle.wire.specs.Bytes.{digits}
+use lib.ListN.{length, length-set}
 use Rattle.wire.proofs.Bytes.{integer-none, integer-left, integer-more}
 use Rattle.wire.proofs.put_integer.Goals as goal
 

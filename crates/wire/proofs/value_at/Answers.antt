@@ -1,8 +1,7 @@
 use Rattle.std.proofs.Common.{rules}
-use Prim.Native.Nat.{◌+◌, ◌-◌, ◌≤◌}
+use Prim.Native.Nat.{◌+◌}
 use mathlib.Core.Path.{◌≡◌, refl}
 use native.Mathlib.Omega.{arith}
-use lib.ListN.{take, drop}
 use Rattle.wire.specs.Bytes.{value}
 use Rattle.wire.proofs.Bytes.{value-more, value_room}
 use Rattle.wire.proofs.value_at.Goals as goal
@@ -23,11 +22,11 @@ overflow_mul-total c = let a = c.args in omega
 pub overflow_add-total : goal.overflow_add-total
 unfolding value
 overflow_add-total c = let a = c.args in omega (
-      arith,
-      c.type_inv.s (a.at + c.loop-i.i),
-      value_room a.s.now a.at c.type_inv.s c.loop-i.i (omega arith)
-          (omega arith),
-    )
+  arith,
+  c.type_inv.s (a.at + c.loop-i.i),
+  value_room a.s.now a.at c.type_inv.s c.loop-i.i (omega arith)
+      (omega arith),
+)
 
 pub loop-i-preserved : goal.loop-i-preserved
 unfolding value

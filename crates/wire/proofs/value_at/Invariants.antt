@@ -1,11 +1,8 @@
 -- `wire::value_at` meets its contract. The invariant: i bytes are read, and total is the integer that they encode. Assumes nothing.
-use Rattle.std.proofs.Common.{rules}
-use Prim.Native.Nat.{◌+◌, ◌-◌, ◌≤◌}
-use mathlib.Core.Path.{◌≡◌, refl}
-use native.Mathlib.Omega.{arith}
+use Prim.Native.Nat.{◌-◌, ◌≤◌}
+use mathlib.Core.Path.{◌≡◌}
 use lib.ListN.{take, drop}
 use Rattle.wire.specs.Bytes.{value}
-use Rattle.wire.proofs.Bytes.{value-more, value_room}
 use Rattle.wire.proofs.value_at.Given as goal
 
 abbrev pub invariant-loop-i : goal.invariant-loop-i

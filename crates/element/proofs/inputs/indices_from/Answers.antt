@@ -1,12 +1,7 @@
 use Rattle.std.proofs.Common.{rules}
-use Prim.Native.Nat.{◌^◌, ◌<◌}
-use mathlib.Core.Path.{◌≡◌, refl}
-use mathlib.Core.List.{[]}
-use Rattle.wire.specs.Bytes.{digits, pick}
+use mathlib.Core.Path.{refl}
 use Rattle.wire.specs.Fields.{integer}
 use Rattle.wire.specs.Sequence.{guard}
-use Rattle.wire.specs.Series.{above, series_from, increasing}
-use Rattle.wire.specs.code.Answer.{ended}
 use Rattle.wire.proofs.Reading.{turn, list-end, value-small}
 use Rattle.element.proofs.Reading.{if-integer-follows, if-integer-not}
 use Rattle.element.proofs.inputs.indices_from.Goals as goal

@@ -1,16 +1,9 @@
 use Rattle.std.proofs.Common.{rules}
-use Prim.Native.Nat.{◌^◌, ◌<◌}
-use mathlib.Core.Path.{◌≡◌, refl}
-use mathlib.Core.List.{[], ◌++◌}
-use lib.ListN.{length}
-use Rattle.wire.specs.Bytes.{pick}
-use Rattle.wire.specs.Fields.{integer}
+use mathlib.Core.Path.{refl}
 use Rattle.wire.specs.Sequence.{guard}
-use Rattle.wire.specs.Series.{series}
-use Rattle.wire.specs.code.Answer.{ended}
 use Rattle.wire.proofs.Reading.{list-end, value-small}
-use Rattle.element.specs.Inputs.{key, input_after, input}
-use Rattle.element.proofs.Reading.{key-cut, key_above, key-not-above, key-again, id-length, inputs_after, inputs_are, on-spend, on-spend-refused}
+use Rattle.element.specs.Inputs.{key, input_after}
+use Rattle.element.proofs.Reading.{key-cut, key_above, key-not-above, key-again, id-length, inputs_are, on-spend, on-spend-refused}
 use Rattle.element.proofs.inputs.inputs_from.Goals as goal
 
 pub loop-left-init : goal.loop-left-init

@@ -1,22 +1,19 @@
 -- `element::inputs::inputs_from` meets its contract. The invariant: parsing what is left, given the key of the input before, gives the answer of the list.
 -- Assumes nothing.
-use Rattle.std.proofs.Common.{rules}
 use Prim.Native.Nat.{◌^◌, ◌<◌}
-use mathlib.Core.Path.{◌≡◌, refl}
+use mathlib.Core.Path.{◌≡◌}
 use mathlib.Core.List.{[], ◌++◌}
 use lib.ListN.{length}
 use Rattle.wire.specs.Bytes.{pick}
 use Rattle.wire.specs.Fields.{integer}
-use Rattle.wire.specs.Sequence.{guard}
 use Rattle.wire.specs.Series.{series}
 use Rattle.wire.specs.code.Answer.{ended}
-use Rattle.wire.proofs.Reading.{list-end, value-small}
-use Rattle.element.specs.Inputs.{key, input_after, input}
-use Rattle.element.proofs.Reading.{key-cut, key_above, key-not-above, key-again, id-length, inputs_after, inputs_are, on-spend, on-spend-refused}
+use Rattle.element.specs.Inputs.{input}
+use Rattle.element.proofs.Reading.{inputs_after}
 use Rattle.element.proofs.inputs.inputs_from.Given as goal
 
 abbrev pub invariant-loop-left : goal.invariant-loop-left
-invariant-loop-left l =    (length l.prev ≡ 32) × (l.last < 256 ^ 4) × (ended (inputs_after (pick l.any (l.prev ++ (integer 4).write l.last) []) l.left) l.s l.at ≡ ended (series input l.count) l.s l.start)
+invariant-loop-left l = (length l.prev ≡ 32) × (l.last < 256 ^ 4) × (ended (inputs_after (pick l.any (l.prev ++ (integer 4).write l.last) []) l.left) l.s l.at ≡ ended (series input l.count) l.s l.start)
 
 abbrev pub decreases-loop-left : goal.decreases-loop-left
 decreases-loop-left l = l.left

@@ -1,6 +1,4 @@
-use mathlib.Core.Path.{◌≡◌, refl}
-use Rattle.wire.specs.Series.{unordered}
-use Rattle.wire.specs.code.Answer.{ended}
+use mathlib.Core.Path.{refl}
 use Rattle.wire.proofs.Reading.{list_on, list-end, unordered-again}
 use Rattle.element.specs.Operations.{operation}
 use Rattle.element.proofs.Reading.{on-operation, on-operation-refused}

@@ -1,13 +1,6 @@
 use Rattle.std.proofs.Common.{rules}
-use Prim.Native.Nat.{◌^◌, ◌<◌}
-use mathlib.Core.Path.{◌≡◌, refl}
-use mathlib.Core.List.{[], ◌++◌}
-use lib.ListN.{length}
-use Rattle.wire.specs.Bytes.{pick}
-use Rattle.wire.specs.Fields.{integer}
+use mathlib.Core.Path.{refl}
 use Rattle.wire.specs.Sequence.{guard}
-use Rattle.wire.specs.Series.{above, series_from, increasing}
-use Rattle.wire.specs.code.Answer.{ended}
 use Rattle.wire.proofs.Reading.{list-end}
 use Rattle.element.specs.Inputs.{key}
 use Rattle.element.proofs.Reading.{key-cut, key_above, key-not-above, key-again}

@@ -1,15 +1,8 @@
 use Rattle.std.proofs.Common.{rules}
-use Prim.Native.Nat.{◌≤◌}
-use mathlib.Core.Path.{◌≡◌}
-use mathlib.Core.List.{[]}
-use Rattle.wire.specs.Bytes.{pick}
-use Rattle.wire.specs.Fields.{integer}
 use Rattle.wire.specs.Sequence.{guard}
-use Rattle.wire.specs.Series.{series}
-use Rattle.wire.specs.code.Answer.{ended}
 use Rattle.wire.proofs.Reading.{list_on, list-end}
-use Rattle.element.specs.Operations.{initial_state_after, initial_state}
-use Rattle.element.proofs.Reading.{on-fx, on-fx-unknown, on-fx-short, if-fx-follows, if-fx-not, fx-again, states_after, states-are}
+use Rattle.element.specs.Operations.{initial_state_after}
+use Rattle.element.proofs.Reading.{on-fx, on-fx-unknown, on-fx-short, if-fx-follows, if-fx-not, fx-again, states-are}
 use Rattle.element.proofs.Reading.{on-state-outputs, on-state-outputs-refused}
 use Rattle.element.proofs.operations.states_from.Goals as goal
 

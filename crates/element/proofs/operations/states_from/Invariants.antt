@@ -1,22 +1,18 @@
 -- `element::operations::states_from` meets its contract. The invariant: parsing what is left, given the FxID of the state before, gives the answer of the list.
 -- Assumes nothing.
-use Rattle.std.proofs.Common.{rules}
 use Prim.Native.Nat.{◌≤◌}
 use mathlib.Core.Path.{◌≡◌}
 use mathlib.Core.List.{[]}
 use Rattle.wire.specs.Bytes.{pick}
 use Rattle.wire.specs.Fields.{integer}
-use Rattle.wire.specs.Sequence.{guard}
 use Rattle.wire.specs.Series.{series}
 use Rattle.wire.specs.code.Answer.{ended}
-use Rattle.wire.proofs.Reading.{list_on, list-end}
-use Rattle.element.specs.Operations.{initial_state_after, initial_state}
-use Rattle.element.proofs.Reading.{on-fx, on-fx-unknown, on-fx-short, if-fx-follows, if-fx-not, fx-again, states_after, states-are}
-use Rattle.element.proofs.Reading.{on-state-outputs, on-state-outputs-refused}
+use Rattle.element.specs.Operations.{initial_state}
+use Rattle.element.proofs.Reading.{states_after}
 use Rattle.element.proofs.operations.states_from.Given as goal
 
 abbrev pub invariant-loop-left : goal.invariant-loop-left
-invariant-loop-left l =    (l.last ≤ 1) × (ended (states_after (pick l.any ((integer 4).write l.last) []) l.left) l.s l.at ≡ ended (series initial_state l.count) l.s l.start)
+invariant-loop-left l = (l.last ≤ 1) × (ended (states_after (pick l.any ((integer 4).write l.last) []) l.left) l.s l.at ≡ ended (series initial_state l.count) l.s l.start)
 
 abbrev pub decreases-loop-left : goal.decreases-loop-left
 decreases-loop-left l = l.left

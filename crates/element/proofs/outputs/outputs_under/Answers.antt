@@ -1,10 +1,4 @@
-use mathlib.Core.Path.{◌≡◌}
-use Rattle.wire.specs.Bytes.{between}
-use Rattle.wire.specs.Series.{not_below, series_from, nondecreasing}
-use Rattle.wire.specs.code.Answer.{ended}
 use Rattle.wire.proofs.Reading.{list-start, list-end}
-use Rattle.element.specs.Outputs.{output}
-use Rattle.element.specs.Operations.{fx_of, fx_outputs}
 use Rattle.element.proofs.Reading.{ordering}
 use Rattle.element.proofs.outputs.outputs_under.Goals as goal
 

@@ -4,14 +4,12 @@ use mathlib.Core.Path.{◌≡◌}
 use Rattle.wire.specs.Bytes.{between}
 use Rattle.wire.specs.Series.{not_below, series_from, nondecreasing}
 use Rattle.wire.specs.code.Answer.{ended}
-use Rattle.wire.proofs.Reading.{list-start, list-end}
 use Rattle.element.specs.Outputs.{output}
 use Rattle.element.specs.Operations.{fx_of, fx_outputs}
-use Rattle.element.proofs.Reading.{ordering}
 use Rattle.element.proofs.outputs.outputs_under.Given as goal
 
 abbrev pub invariant-loop-left : goal.invariant-loop-left
-invariant-loop-left l =    ended (series_from (not_below (output (fx_outputs (fx_of l.fx)))) (between l.prev l.at l.s) l.left) l.s l.at
+invariant-loop-left l = ended (series_from (not_below (output (fx_outputs (fx_of l.fx)))) (between l.prev l.at l.s) l.left) l.s l.at
     ≡ ended (nondecreasing (output (fx_outputs (fx_of l.fx))) l.count) l.s l.start
 
 abbrev pub decreases-loop-left : goal.decreases-loop-left
