@@ -1,95 +1,106 @@
 // Prints the entries of the transaction in a file, one row per line: kind, start, length. A refusal is one line: number, place.
 #![tactic(auto)]
 
+ghost use Rattle.std.specs.Prelude.{◌≡◌, take, IfOk, IfSome};
+
 use entry_table::Tabled;
-use libc::STDOUT_FILENO;
+use std::alloc::Global;
+use std::env::{Env, FillError};
+use std::fs::Files;
+use std::io::Read;
+use std::{fs, io};
 use wire::Refusal;
 
-// The result of reading a file up to its end or the buffer's.
-#[derive(Clone, Copy)]
-enum Loaded {
-    Bytes(usize),
-    Failed,
+// One byte more than a transaction may have, enough to see that a file is too long.
+const READ_MOST: u64 = 65537;
+
+// The numbers of a table for any transaction: one of 65,536 bytes has at most 3,272 entries.
+const TABLE_NUMBERS: usize = 9816;
+
+// The longest argument that is taken; the system opens no longer name.
+const NAME_MOST: usize = 4096;
+
+// The bytes up to the end of an open file, or the first `READ_MOST` of them.
+fn read_start<F: Read + Drop>(alloc: Global, file: F) -> io::Result<Vec<u8>>
+    ensures { IfOk result (λ bytes. IfSome (F.remaining file) (λ whole. bytes.items ≡ take READ_MOST whole)) }
+{
+    let mut bytes = Vec::new(alloc);
+    file.take(READ_MOST).read_to_end(&mut bytes)?;
+    Ok(bytes)
 }
 
-fn load(fd: i32, buf: &mut [u8]) -> Loaded {
-    let got = libc::read(fd, buf);
-    if got < 0 {
-        return Loaded::Failed;
+// The bytes of a file by its name.
+fn load<R: Files + AllocGlobal>(rt: &R, name: &str) -> io::Result<Vec<u8>> {
+    read_start(rt.alloc(), fs::open(rt, name)?)
+}
+
+fn print_row(rt: &impl Print, kind: u32, start: u32, length: u32) -> io::Result<()> {
+    println!(rt; "{kind} {start} {length}")
+}
+
+fn print_rows(rt: &impl Print, rows: &[u32], count: usize) -> io::Result<()> {
+    let (rows, _) = rows.as_chunks::<3>();
+    for [kind, start, length] in rows.iter().take(count) {
+        print_row(rt, *kind, *start, *length)?;
     }
-    let first = io::count(got, buf);
-    let rest = io::read_full(fd, &mut buf[first..]);
-    Loaded::Bytes(first + rest)
+    Ok(())
 }
 
-fn print_row(kind: u32, start: u32, length: u32) {
-    io::print_decimal(STDOUT_FILENO, kind as u64);
-    io::write_all(STDOUT_FILENO, b" ");
-    io::print_decimal(STDOUT_FILENO, start as u64);
-    io::write_all(STDOUT_FILENO, b" ");
-    io::print_decimal(STDOUT_FILENO, length as u64);
-    io::write_all(STDOUT_FILENO, b"\n");
+fn print_refusal(rt: &impl Print, refusal: Refusal) -> io::Result<()> {
+    let place = refusal.place;
+    let number = wire::number_of(refusal.rule);
+    println!(rt; "{number} {place}")
 }
 
-fn print_rows(rows: &[u32], count: usize) {
-    let mut i: usize = 0;
-    let mut at: usize = 0;
-    while i < count {
-        if rows.len() - at < 3 {
-            return;
+// Prints the entries of a transaction, or why it is refused. Nothing is printed before all bytes are checked.
+fn print_entries(rt: &impl Print, bytes: &[u8]) -> io::Result<()> {
+    let mut rows = [0u32; TABLE_NUMBERS];
+    match entry_table::rows::check_table(bytes, &mut rows) {
+        Tabled::Listed(count, _) => print_rows(rt, &rows, count),
+        Tabled::Refused(refusal) => print_refusal(rt, refusal),
+    }
+}
+
+// The system's words of an error's text, to which `Display` adds the error's number.
+fn words(text: &str) -> &str {
+    match text.split_once(" (os error ") {
+        Some((words, _)) => words,
+        None => text,
+    }
+}
+
+// Says on standard error what went wrong with the file, in the system's words.
+fn report<R: Eprint + AllocGlobal>(rt: &R, name: &str, error: io::Error) -> io::Result<()> {
+    let text = error.to_string(rt.alloc())?;
+    let words = words(text.as_str());
+    eprintln!(rt; "{name}: {words}")
+}
+
+// Prints the entries of the file, or on standard error why it cannot be read.
+fn show<R: Files + AllocGlobal + Print + Eprint>(rt: &R, name: &str) -> io::Result<()> {
+    match load(rt, name) {
+        Ok(bytes) => print_entries(rt, bytes.as_slice()),
+        Err(error) => report(rt, name, error),
+    }
+}
+
+fn main(rt: HostRuntime) -> io::Result<()> {
+    let mut argument = [0u8; NAME_MOST];
+    let name = match Env::arg(&rt, 1, &mut argument) {
+        Ok(length) => &argument[..length],
+        Err(FillError::NotPresent) => {
+            return eprintln!(rt; "entries: name a file: Invalid argument");
         }
-        print_row(rows[at], rows[at + 1], rows[at + 2]);
-        at += 3;
-        i += 1;
-    }
-}
-
-fn print_refusal(refusal: Refusal) {
-    let rule = refusal.rule;
-    io::print_decimal(STDOUT_FILENO, wire::number_of(rule) as u64);
-    io::write_all(STDOUT_FILENO, b" ");
-    io::print_decimal(STDOUT_FILENO, refusal.place as u64);
-    io::write_all(STDOUT_FILENO, b"\n");
-}
-
-// Prints the entries of the first `length` bytes. A transaction of 65,536 bytes has at most 3,272.
-fn print_entries(buf: &[u8], length: usize) {
-    if buf.len() < length {
-        return;
-    }
-    let mut rows = [0u32; 9816];
-    match entry_table::rows::check_table(&buf[..length], &mut rows) {
-        Tabled::Listed(count, _) => {
-            print_rows(&rows, count);
+        Err(FillError::TooLong) => {
+            return eprintln!(rt; "entries: name a file: File name too long");
         }
-        Tabled::Refused(refusal) => {
-            print_refusal(refusal);
-        }
-    }
-}
-
-// Prints the entries of an open file. Reads at most one byte more than a transaction may have, enough to see that it is too long.
-fn show(fd: i32, path: &[u8]) {
-    let mut buf = [0u8; 65537];
-    let Loaded::Bytes(length) = load(fd, &mut buf) else {
-        os::fail(path);
-        return;
     };
-    print_entries(&buf, length);
-}
-
-fn main() {
-    let mut path = io::buffer();
-    let length = os::arg(1, &mut path);
-    if os::errno() != 0 {
-        os::fail(b"entries: name a file");
-        return;
+    match str::from_utf8(name) {
+        Ok(name) => show(&rt, name),
+        // `std::fs` opens only a name that is UTF-8.
+        Err(_) => {
+            rt.stderr().write_all(name)?;
+            eprintln!(rt; ": Invalid or incomplete multibyte or wide character")
+        }
     }
-    let fd = os::open_read(&path[..length]);
-    if fd < 0 {
-        os::fail(&path[..length]);
-        return;
-    }
-    show(fd, &path[..length]);
-    libc::close(fd);
 }

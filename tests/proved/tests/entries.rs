@@ -20,13 +20,13 @@ const DAMAGED: usize = 200;
 /// The program, which is proved and built where it is missing.
 fn program() -> PathBuf {
     static BUILT: Once = Once::new();
-    let root = Path::new(env!("CARGO_MANIFEST_DIR")).join("../..");
-    let program = root.join("target/bin/entries");
+    let folder = Path::new(env!("CARGO_MANIFEST_DIR")).join("../../crates/entries");
+    let program = folder.join("out/entries");
     BUILT.call_once(|| {
         if !program.exists() {
-            let check =
-                Command::new("rt").args(["check", "entries"]).current_dir(&root).status();
-            assert!(check.expect("rt").success(), "`rt check entries` failed");
+            let run = ["run", "--", "data/case-a.tx"];
+            let run = Command::new("rt").args(run).current_dir(&folder).status();
+            assert!(run.expect("rt").success(), "`rt run` in crates/entries failed");
         }
     });
     program.canonicalize().expect("the program")

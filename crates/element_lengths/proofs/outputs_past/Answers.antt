@@ -2,7 +2,7 @@ use Rattle.wire.specs.Series.{nondecreasing}
 use Rattle.wire.proofs.Passing.{passes}
 use Rattle.element.specs.Outputs.{output}
 use Rattle.element.specs.Operations.{fx_outputs}
-use Rattle.element_lengths.proofs.Passing.{OutputsOnward, looping-outputs}
+use Rattle.element_lengths.proofs.Passing.{looping-outputs}
 use Rattle.element_lengths.proofs.outputs_past.Goals as goal
 
 pub loop-left-init : goal.loop-left-init

@@ -1,10 +1,6 @@
 -- `element_lengths::outputs_past` meets its contract. The invariant: what skips the outputs that are left skips the whole list.
 -- Assumes nothing.
-use Rattle.wire.specs.Series.{nondecreasing}
-use Rattle.wire.proofs.Passing.{passes}
-use Rattle.element.specs.Outputs.{output}
-use Rattle.element.specs.Operations.{fx_outputs}
-use Rattle.element_lengths.proofs.Passing.{OutputsOnward, looping-outputs}
+use Rattle.element_lengths.proofs.Passing.{OutputsOnward}
 use Rattle.element_lengths.proofs.outputs_past.Given as goal
 
 abbrev pub invariant-loop-left : goal.invariant-loop-left

@@ -1,5 +1,5 @@
-use Rattle.wire.specs.Series.{left as written, unordered}
-use Rattle.wire.proofs.Passing.{Onward, passes}
+use Rattle.wire.specs.Series.{unordered}
+use Rattle.wire.proofs.Passing.{passes}
 use Rattle.owners.specs.Owners.{owners}
 use Rattle.element_lengths.proofs.Passing.{looping}
 use Rattle.element_lengths.proofs.owners_list_past.Goals as goal

@@ -1,4 +1,4 @@
-use Rattle.plan.proofs.Passing.{ElementsOnward, elements-passing}
+use Rattle.plan.proofs.Passing.{elements-passing}
 use Rattle.plan.proofs.rows.elements_past.Goals as goal
 
 pub loop-left-init : goal.loop-left-init
