@@ -2,7 +2,7 @@
  * Checks a transaction, merges two copies of it that two keyholders have signed, and tries to merge
  * two copies that conflict. Build and run it at the root of the repository:
  *
- *     rt staticlib phone &&
+ *     tools/libraries phone &&
  *     gcc -Iinclude examples/phone.c target/staticlib/libphone.a -o target/phone &&
  *     target/phone
  */

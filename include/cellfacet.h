@@ -2,8 +2,8 @@
  * Cellfacet for C: checks signed AVM (X-Chain) transactions, merges drafts of one, and takes
  * drafts that are sent in pieces.
  *
- * Build the library with `rt staticlib phone` and link target/staticlib/libphone.a; it needs
- * only the C library. The two functions for uploads are in another one, `rt staticlib operator`
+ * Build the library with `tools/libraries phone` and link target/staticlib/libphone.a; it needs
+ * only the C library. The two functions for uploads are in another one, `tools/libraries operator`
  * and target/staticlib/liboperator.a; both may be linked. They keep no state, allocate nothing,
  * write to no memory but the output of a merge, and the state and the store of an upload, and may
  * be called from several threads at once.

@@ -1,4 +1,4 @@
-//! Links the static libraries of the proved code, which `rt staticlib NAME` writes. They are
+//! Links the static libraries of the proved code, which `tools/libraries NAME..` writes. They are
 //! looked for in `target/staticlib` of this repository, or in the folder that the environment's
 //! `CELLFACET_STATICLIB` names.
 
@@ -15,7 +15,7 @@ fn main() {
     for name in ["phone", "operator"] {
         let library = folder.join(format!("lib{name}.a"));
         println!("cargo:rerun-if-changed={}", library.display());
-        assert!(library.exists(), "no {}: run `rt staticlib {name}` first", library.display());
+        assert!(library.exists(), "no {}: run `tools/libraries {name}` first", library.display());
         println!("cargo:rustc-link-lib=static={name}");
     }
 }

@@ -1,4 +1,4 @@
-//! Links the static libraries of the proved code, which `rt staticlib NAME` writes.
+//! Links the static libraries of the proved code, which `tools/libraries NAME..` writes.
 
 use std::path::Path;
 
@@ -9,7 +9,7 @@ fn main() {
     for name in ["phone", "operator", "test_exports"] {
         let library = folder.join(format!("lib{name}.a"));
         println!("cargo:rerun-if-changed={}", library.display());
-        assert!(library.exists(), "no {}: run `rt staticlib {name}` first", library.display());
+        assert!(library.exists(), "no {}: run `tools/libraries {name}` first", library.display());
         println!("cargo:rustc-link-lib=static={name}");
     }
 }

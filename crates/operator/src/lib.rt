@@ -1,4 +1,4 @@
-// The functions that the operator's command calls in addition to those of the phone program.
+// The functions that the operator's command calls in addition to those of the phone program, by the exports of `operator_c`.
 #![tactic(auto)]
 
 ghost use Rattle.std.specs.Prelude.{◌≡◌};
@@ -7,7 +7,7 @@ ghost use Rattle.entry_table.specs.Table.{tabled};
 ghost use Rattle.draft_slot_table.specs.Table.{tabled_slots};
 ghost use Rattle.operator.specs.Listing.{packed, listing, listed};
 
-mod uploads;
+pub mod uploads;
 
 use entry_table::Tabled;
 
@@ -25,16 +25,14 @@ fn word(answer: Tabled) -> u64
 }
 
 // Checks a transaction and lists its entries in a lent table, a row each: kind, start, length.
-#[unsafe(no_mangle)]
-pub extern "C" fn cellfacet_rows(bytes: &[u8], table: &mut [u32]) -> u64
+pub fn cellfacet_rows(bytes: &[u8], table: &mut [u32]) -> u64
     ensures { listing result table.new ≡ listed (tabled memo_most bytes.now table.old) }
 {
     word(entry_table::rows::check_table(bytes, table))
 }
 
 // Checks a transaction and lists its slots in a lent table, a row each: credential, offset, filled.
-#[unsafe(no_mangle)]
-pub extern "C" fn cellfacet_slots(bytes: &[u8], table: &mut [u32]) -> u64
+pub fn cellfacet_slots(bytes: &[u8], table: &mut [u32]) -> u64
     ensures { listing result table.new ≡ listed (tabled_slots memo_most bytes.now table.old) }
 {
     word(draft_slot_table::list_slots(bytes, table))

@@ -102,12 +102,7 @@ fn piece_word(standing: Standing) -> u64
 }
 
 // Hands over a piece: stores it in `store` behind the bytes that are there, or refuses it and leaves `store` as it was.
-#[unsafe(no_mangle)]
-pub extern "C" fn cellfacet_upload_piece(
-    state: &mut [u64; 2],
-    store: &mut [u8],
-    piece: &[u8],
-) -> u64
+pub fn cellfacet_upload_piece(state: &mut [u64; 2], store: &mut [u8], piece: &[u8]) -> u64
     ensures { sent result state.new store.new
         ≡ sent_piece (piece_call memo_most (upload_of state.old) store.old piece.now) }
 {
@@ -120,8 +115,7 @@ pub extern "C" fn cellfacet_upload_piece(
 }
 
 // Ends an upload: the answer of the check of the bytes stored, or the refusal that stands.
-#[unsafe(no_mangle)]
-pub extern "C" fn cellfacet_upload_end(state: &[u64; 2], store: &[u8]) -> u64
+pub fn cellfacet_upload_end(state: &[u64; 2], store: &[u8]) -> u64
     ensures { result ≡ end_word (end_call memo_most (upload_of state.now) store.now) }
 {
     let upload = upload_of(state);

@@ -1,4 +1,4 @@
-// The functions that a C program calls. Each returns number × 2^32 + place.
+// The functions that a C program calls, by the exports of `phone_c`. Each returns number × 2^32 + place.
 #![tactic(auto)]
 
 ghost use Rattle.std.specs.Prelude.{◌≡◌, ◌≤◌};
@@ -25,8 +25,7 @@ fn word(refusal: Refusal) -> u64
 }
 
 // Checks a transaction. Returns 0 and its length if it is accepted, else the number and place of the first broken rule.
-#[unsafe(no_mangle)]
-pub extern "C" fn cellfacet_check(bytes: &[u8]) -> u64
+pub fn cellfacet_check(bytes: &[u8]) -> u64
     ensures { result ≡ packed (verdict (check (avm memo_most) bytes.now)) }
 {
     match checker::check::check(bytes) {
@@ -36,8 +35,7 @@ pub extern "C" fn cellfacet_check(bytes: &[u8]) -> u64
 }
 
 // Merges two drafts into the front of `out`. Returns 0 and the length of the merge; a refusal leaves `out` as it was.
-#[unsafe(no_mangle)]
-pub extern "C" fn cellfacet_merge(first: &[u8], second: &[u8], out: &mut [u8]) -> u64
+pub fn cellfacet_merge(first: &[u8], second: &[u8], out: &mut [u8]) -> u64
     ensures { (result, out.new) ≡ packed_call (merge_call (reader (avm memo_most)) first.now second.now out.old) }
 {
     match draft::merge(first, second, out) {

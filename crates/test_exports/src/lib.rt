@@ -1,5 +1,5 @@
 // Functions for tests in C or Rust: the check with a lent table, entry n as integers at fixed indices of a lent array, filling a slot, and the
-// writer's steps.
+// writer's steps. `test_exports_c` exports them.
 #![tactic(auto)]
 
 ghost use Rattle.std.specs.Prelude.{◌≡◌, set};
@@ -20,11 +20,10 @@ use entry_table::Tabled;
 use owners::OwnersFields;
 use transaction::{CredentialFields, Entry};
 
-mod steps;
+pub mod steps;
 
 // Checks a transaction and lists its entries in a lent table. Returns number × 2^40 + rows × 2^20 + place.
-#[unsafe(no_mangle)]
-pub extern "C" fn cellfacet_test_table(bytes: &[u8], table: &mut [u32]) -> u64
+pub fn cellfacet_test_table(bytes: &[u8], table: &mut [u32]) -> u64
     ensures { exported_table result table.new ≡ encoded_table (tabled memo_most bytes.now table.old) }
 {
     match entry_table::rows::check_table(bytes, table) {
@@ -192,8 +191,7 @@ fn put_answer(numbers: &mut [u64], answer: EntryAnswer)
 }
 
 // Stores entry `n`: its integers, each at its index if `numbers` has it, and its identifiers.
-#[unsafe(no_mangle)]
-pub extern "C" fn cellfacet_test_entry(
+pub fn cellfacet_test_entry(
     bytes: &[u8],
     n: u64,
     numbers: &mut [u64],
@@ -211,13 +209,7 @@ pub extern "C" fn cellfacet_test_entry(
 }
 
 // Fills a slot of a draft, and stores the answer's number and place.
-#[unsafe(no_mangle)]
-pub extern "C" fn cellfacet_test_fill(
-    draft: &mut [u8],
-    slot: u64,
-    signature: &[u8],
-    answer: &mut [u64; 2],
-)
+pub fn cellfacet_test_fill(draft: &mut [u8], slot: u64, signature: &[u8], answer: &mut [u64; 2])
     ensures { (answer.new, draft.new) ≡ encoded_fill
         (fill_call (reader (avm memo_most)) draft.old slot signature.now) }
 {

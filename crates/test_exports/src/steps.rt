@@ -50,15 +50,13 @@ fn step_numbers(step: Step) -> [u64; 8]
     }
 }
 
-#[unsafe(no_mangle)]
-pub extern "C" fn cellfacet_test_fresh(numbers: &mut [u64; 8])
+pub fn cellfacet_test_fresh(numbers: &mut [u64; 8])
     ensures { numbers.new ≡ numbers_of fresh 0 0 }
 {
     *numbers = numbers_of(Writer::fresh(), 0, 0);
 }
 
-#[unsafe(no_mangle)]
-pub extern "C" fn cellfacet_test_start(
+pub fn cellfacet_test_start(
     numbers: &mut [u64; 8],
     buf: &mut [u8],
     type_id: u32,
@@ -72,8 +70,7 @@ pub extern "C" fn cellfacet_test_start(
     *numbers = step_numbers(step);
 }
 
-#[unsafe(no_mangle)]
-pub extern "C" fn cellfacet_test_output(
+pub fn cellfacet_test_output(
     numbers: &mut [u64; 8],
     buf: &mut [u8],
     asset: &[u8; 32],
@@ -90,8 +87,7 @@ pub extern "C" fn cellfacet_test_output(
     *numbers = step_numbers(step);
 }
 
-#[unsafe(no_mangle)]
-pub extern "C" fn cellfacet_test_input(
+pub fn cellfacet_test_input(
     numbers: &mut [u64; 8],
     buf: &mut [u8],
     txid: &[u8; 32],
@@ -108,8 +104,7 @@ pub extern "C" fn cellfacet_test_input(
     *numbers = step_numbers(step);
 }
 
-#[unsafe(no_mangle)]
-pub extern "C" fn cellfacet_test_operation(numbers: &mut [u64; 8], buf: &mut [u8], bytes: &[u8])
+pub fn cellfacet_test_operation(numbers: &mut [u64; 8], buf: &mut [u8], bytes: &[u8])
     ensures { exported_turn numbers.new buf.new
         ≡ encoded_turn (add_operation memo_most (writer_of numbers.old) buf.old bytes.now) }
 {
@@ -117,8 +112,7 @@ pub extern "C" fn cellfacet_test_operation(numbers: &mut [u64; 8], buf: &mut [u8
     *numbers = step_numbers(step);
 }
 
-#[unsafe(no_mangle)]
-pub extern "C" fn cellfacet_test_state(numbers: &mut [u64; 8], buf: &mut [u8], bytes: &[u8])
+pub fn cellfacet_test_state(numbers: &mut [u64; 8], buf: &mut [u8], bytes: &[u8])
     ensures { exported_turn numbers.new buf.new
         ≡ encoded_turn (add_initial_state memo_most (writer_of numbers.old) buf.old bytes.now) }
 {
@@ -126,8 +120,7 @@ pub extern "C" fn cellfacet_test_state(numbers: &mut [u64; 8], buf: &mut [u8], b
     *numbers = step_numbers(step);
 }
 
-#[unsafe(no_mangle)]
-pub extern "C" fn cellfacet_test_close(numbers: &mut [u64; 8], buf: &mut [u8])
+pub fn cellfacet_test_close(numbers: &mut [u64; 8], buf: &mut [u8])
     ensures { exported_turn numbers.new buf.new ≡ encoded_turn
         (close (avm memo_most) (writer_of numbers.old) buf.old) }
 {
@@ -135,8 +128,7 @@ pub extern "C" fn cellfacet_test_close(numbers: &mut [u64; 8], buf: &mut [u8])
     *numbers = step_numbers(step);
 }
 
-#[unsafe(no_mangle)]
-pub extern "C" fn cellfacet_test_memo(numbers: &mut [u64; 8], buf: &mut [u8], bytes: &[u8])
+pub fn cellfacet_test_memo(numbers: &mut [u64; 8], buf: &mut [u8], bytes: &[u8])
     ensures { exported_turn numbers.new buf.new
         ≡ encoded_turn (put_memo memo_most (writer_of numbers.old) buf.old bytes.now) }
 {
@@ -144,8 +136,7 @@ pub extern "C" fn cellfacet_test_memo(numbers: &mut [u64; 8], buf: &mut [u8], by
     *numbers = step_numbers(step);
 }
 
-#[unsafe(no_mangle)]
-pub extern "C" fn cellfacet_test_name(numbers: &mut [u64; 8], buf: &mut [u8], bytes: &[u8])
+pub fn cellfacet_test_name(numbers: &mut [u64; 8], buf: &mut [u8], bytes: &[u8])
     ensures { exported_turn numbers.new buf.new
         ≡ encoded_turn (put_name memo_most (writer_of numbers.old) buf.old bytes.now) }
 {
@@ -153,8 +144,7 @@ pub extern "C" fn cellfacet_test_name(numbers: &mut [u64; 8], buf: &mut [u8], by
     *numbers = step_numbers(step);
 }
 
-#[unsafe(no_mangle)]
-pub extern "C" fn cellfacet_test_symbol(numbers: &mut [u64; 8], buf: &mut [u8], bytes: &[u8])
+pub fn cellfacet_test_symbol(numbers: &mut [u64; 8], buf: &mut [u8], bytes: &[u8])
     ensures { exported_turn numbers.new buf.new
         ≡ encoded_turn (put_symbol memo_most (writer_of numbers.old) buf.old bytes.now) }
 {
@@ -162,8 +152,7 @@ pub extern "C" fn cellfacet_test_symbol(numbers: &mut [u64; 8], buf: &mut [u8], 
     *numbers = step_numbers(step);
 }
 
-#[unsafe(no_mangle)]
-pub extern "C" fn cellfacet_test_denomination(numbers: &mut [u64; 8], buf: &mut [u8], value: u8)
+pub fn cellfacet_test_denomination(numbers: &mut [u64; 8], buf: &mut [u8], value: u8)
     ensures { exported_turn numbers.new buf.new
         ≡ encoded_turn (put_denomination memo_most (writer_of numbers.old) buf.old value) }
 {
@@ -171,8 +160,7 @@ pub extern "C" fn cellfacet_test_denomination(numbers: &mut [u64; 8], buf: &mut 
     *numbers = step_numbers(step);
 }
 
-#[unsafe(no_mangle)]
-pub extern "C" fn cellfacet_test_chain(numbers: &mut [u64; 8], buf: &mut [u8], id: &[u8; 32])
+pub fn cellfacet_test_chain(numbers: &mut [u64; 8], buf: &mut [u8], id: &[u8; 32])
     ensures { exported_turn numbers.new buf.new
         ≡ encoded_turn (put_chain memo_most (writer_of numbers.old) buf.old id.now) }
 {
@@ -180,8 +168,7 @@ pub extern "C" fn cellfacet_test_chain(numbers: &mut [u64; 8], buf: &mut [u8], i
     *numbers = step_numbers(step);
 }
 
-#[unsafe(no_mangle)]
-pub extern "C" fn cellfacet_test_finish(numbers: &mut [u64; 8], buf: &mut [u8])
+pub fn cellfacet_test_finish(numbers: &mut [u64; 8], buf: &mut [u8])
     ensures { exported_turn numbers.new buf.new ≡ encoded_turn
         (finish (avm memo_most) (writer_of numbers.old) buf.old) }
 {

@@ -3,7 +3,7 @@
 use crate::definitions::{self, Declaration, File};
 use crate::edits::uses_by_file;
 use crate::rattle;
-use crate::scope::{means, spellings, Import, Use};
+use crate::scope::{in_crate, spellings, Import, Use, PLACE};
 use crate::tree::Tree;
 use crate::Finding;
 use std::collections::{BTreeMap, BTreeSet};
@@ -79,12 +79,13 @@ impl<'a> Graph<'a> {
         found.extend(self.places().filter(|place| {
             let declaration = self.at_place(place);
             let shown = declaration.names().any(|name| spans.contains(name.as_str()));
-            shown || is_entry(place.0, &declaration.name)
+            shown || self.is_entry(place)
         }));
-        for (_, text) in tree.with("rt") {
+        for (file, text) in tree.with("rt") {
             let code = rattle::read(text);
             let uses = code.contracts.iter();
             found.extend(uses.flat_map(|used| self.imported(&code.ghosts, used)));
+            found.extend(code.laws.iter().flat_map(|law| self.given(file, law)));
         }
         for (name, uses) in uses_by_file(tree) {
             let Some((&name, file)) = self.files.get_key_value(name.as_str()) else { continue };
@@ -103,48 +104,63 @@ impl<'a> Graph<'a> {
     fn declared(&self, file: &'a str, name: &str) -> Vec<Place<'a>> {
         let named = &self.named[file];
         let exact = named.get(name).into_iter().flatten();
-        let section = named.get(name.trim_matches('_')).into_iter().flatten();
+        let section = named.get(name.trim_matches(PLACE)).into_iter().flatten();
         exact.chain(section).map(|&number| (file, number)).collect()
     }
 
     fn imported(&self, imports: &[Import], used: &Use) -> Vec<Place<'a>> {
-        let mut found = Vec::new();
-        for import in imports {
-            if import.module && import.local == used.head {
-                found.extend(self.at(import.path.iter().chain(&used.rest)));
-            } else if !import.module && means(&used.head, &import.local) {
-                found.extend(self.at(import.path.iter()));
-            }
-        }
-        found.extend(self.at(std::iter::once(&used.head).chain(&used.rest)));
-        found
+        let paths = imports.iter().filter_map(|import| import.named(used));
+        paths.chain([used.path()]).flat_map(|path| self.at(&path)).collect()
     }
 
-    // The declarations at a path such as `Rattle·wire.specs.Bytes.value`; what stands behind the
+    // The declarations at a path such as `Rattle.wire.specs.Bytes.value`; what stands behind the
     // item, such as a constructor behind its type, is left. A file such as `specs/laws.antt` that
     // declares no such item is passed by: the item may be in a file of the folder `specs/laws`.
-    fn at<'b>(&self, path: impl Iterator<Item = &'b String>) -> Vec<Place<'a>> {
-        let path: Vec<&str> = path.map(String::as_str).collect();
-        let Some(name) = path[0].strip_prefix("Rattle·") else { return Vec::new() };
-        let mut file = format!("crates/{}", name.split('·').next().unwrap_or(name));
-        for (at, part) in path.iter().enumerate().skip(1) {
-            file = format!("{file}/{part}");
-            let found = self.named.get_key_value(format!("{file}.antt").as_str());
-            if let (Some((&file, _)), Some(item)) = (found, path.get(at + 1)) {
-                let declared = self.declared(file, item);
-                if !declared.is_empty() {
+    fn at(&self, path: &[&str]) -> Vec<Place<'a>> {
+        let Some((name, below)) = in_crate(path) else { return Vec::new() };
+        let mut module = format!("crates/{name}");
+        for two in below.windows(2) {
+            module = format!("{module}/{}", two[0]);
+            for file in [format!("{module}.antt"), format!("{module}/Lib.antt")] {
+                let found = self.named.get_key_value(file.as_str());
+                let declared = found.map(|(&file, _)| self.declared(file, two[1]));
+                if let Some(declared) = declared.filter(|declared| !declared.is_empty()) {
                     return declared;
                 }
             }
         }
         Vec::new()
     }
-}
 
-// The proof of a function: the checker takes it by this name.
-fn is_entry(file: &str, name: &str) -> bool {
-    let folder = file.strip_suffix("/Proof.antt").and_then(|folder| folder.rsplit('/').next());
-    folder.is_some_and(|function| name == format!("{}-spec", function.replace('_', "-")))
+    // What an attribute of a file of code gives to the tactics.
+    fn given(&self, file: &str, law: &[String]) -> Vec<Place<'a>> {
+        let own = file.split('/').nth(1).unwrap_or_default();
+        let name = if law[0] == "crate" { own } else { &law[0] };
+        let path = ["Rattle", name].into_iter().chain(law[1..].iter().map(String::as_str));
+        self.at(&path.collect::<Vec<_>>())
+    }
+
+    // Is it what the checker looks for by its name? The proof of a function in `proofs/F/Proof.antt` is
+    // `F_spec`; in `Answers.antt` and `Invariants.antt` each answer has the name of its goal.
+    fn is_entry(&self, place: &Place) -> bool {
+        let Some((folder, file)) = place.0.rsplit_once('/') else { return false };
+        let declaration = self.at_place(place);
+        let name = declaration.name.as_str();
+        let goals = match file {
+            "Proof.antt" => return folder.rsplit('/').next() == name.strip_suffix("_spec"),
+            "Answers.antt" => "Goals",
+            "Invariants.antt" => "Given",
+            _ => return false,
+        };
+        let module = folder.strip_prefix("crates/").unwrap_or(folder).split('/');
+        let goal: Vec<&str> =
+            ["Rattle"].into_iter().chain(module).chain([goals, name]).collect();
+        let imports = &self.files[place.0].imports;
+        let is_goal = |used: &Use| {
+            imports.iter().filter_map(|import| import.named(used)).any(|path| path == goal)
+        };
+        declaration.public && declaration.uses.iter().any(is_goal)
+    }
 }
 
 /// The texts between backquotes.

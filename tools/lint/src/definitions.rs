@@ -51,7 +51,7 @@ struct Block {
     parameters: Vec<Use>,
 }
 
-const MODIFIERS: [&str; 4] = ["unfoldable", "abbrev", "pub", "axiom"];
+const MODIFIERS: [&str; 5] = ["pattern", "unfoldable", "abbrev", "pub", "axiom"];
 
 /// Reads a file.
 pub fn read(text: &str) -> File {
@@ -122,14 +122,21 @@ fn declared(tokens: &[Token], at: usize, end: usize, word: &str) -> Option<Decla
     if !(keyword && at + 1 < end) && !is_signature(tokens, at) {
         return None;
     }
-    let inner = if keyword { inner_names(tokens, at + 1..end, word) } else { Vec::new() };
+    let inner = match word {
+        "data" | "record" => inner_names(tokens, at + 1..end),
+        "open" => opened_names(tokens, at + 1..end),
+        _ => Vec::new(),
+    };
     let named = &tokens[at + usize::from(keyword)];
     let name = match word {
         "open" => inner.first()?.clone(),
         _ => named.text.clone(),
     };
-    let (fields, others) =
+    let (fields, mut others) =
         if word == "record" { (inner, Vec::new()) } else { (Vec::new(), inner) };
+    if word == "data" || word == "record" {
+        others.extend(derived_names(tokens, at + 1..end));
+    }
     Some(Declaration { name, others, fields, line: named.line, ..Declaration::default() })
 }
 
@@ -142,16 +149,32 @@ fn is_signature(tokens: &[Token], at: usize) -> bool {
     tokens[at].is_name() && tokens.get(i).is_some_and(|t| t.is(":"))
 }
 
-// Constructors or fields: what stands before the colon on each line inside. Of an `open` line, the
-// names in its last parentheses.
-fn inner_names(tokens: &[Token], range: Range<usize>, word: &str) -> Vec<String> {
-    if word == "open" {
-        let from = range.clone().rev().find(|&i| tokens[i].is("(")).unwrap_or(range.end);
-        return (from..range.end)
-            .filter(|&i| tokens[i].is_name())
-            .map(|i| tokens[i].text.clone())
-            .collect();
+// The names that `open t use {x, y as z, f.{a}}` makes: x, z and a.
+fn opened_names(tokens: &[Token], range: Range<usize>) -> Vec<String> {
+    let is = |i: usize, text: &str| i < range.end && tokens[i].is(text);
+    let Some(from) = range.clone().find(|&i| is(i, "use")) else { return Vec::new() };
+    let mut found = Vec::new();
+    let mut i = from + 1;
+    while i < range.end {
+        let renamed = is(i + 1, "as") && i + 2 < range.end;
+        let outer = is(i + 1, ".") && is(i + 2, "{");
+        if tokens[i].is_name() && !tokens[i].is("*") && !outer {
+            found.push(tokens[i + 2 * usize::from(renamed)].text.clone());
+        }
+        i += if renamed { 3 } else { 1 };
     }
+    found
+}
+
+// The names that `deriving P as name` makes at the end of a block.
+fn derived_names(tokens: &[Token], range: Range<usize>) -> Vec<String> {
+    let from = range.clone().find(|&i| tokens[i].is("deriving")).unwrap_or(range.end);
+    let names = (from..range.end).filter(|&i| tokens[i - 1].is("as"));
+    names.map(|i| tokens[i].text.clone()).collect()
+}
+
+// Constructors or fields: what stands before the colon on each line inside.
+fn inner_names(tokens: &[Token], range: Range<usize>) -> Vec<String> {
     let Some(inside) = range.clone().find(|&i| tokens[i].is("where")) else {
         return Vec::new();
     };
@@ -161,7 +184,13 @@ fn inner_names(tokens: &[Token], range: Range<usize>, word: &str) -> Vec<String>
     lines.flat_map(|i| names_before_colon(&tokens[i..range.end])).collect()
 }
 
+// Of a line such as `open p use *`, none.
 fn names_before_colon(tokens: &[Token]) -> Vec<String> {
     let names = tokens.iter().take_while(|t| t.is_name() && !t.is(":"));
-    names.filter(|t| !t.is("pub")).map(|t| t.text.clone()).collect()
+    let names: Vec<&Token> = names.filter(|t| !t.is("pub")).collect();
+    let others = ["open", "infix", "infixl", "infixr", "deriving"];
+    if names.first().is_some_and(|first| others.iter().any(|word| first.is(word))) {
+        return Vec::new();
+    }
+    names.into_iter().map(|t| t.text.clone()).collect()
 }

@@ -1,8 +1,9 @@
 //! What no proof refuses, found in the sources and pages of the repository.
 //!
 //! - `imports`: a name or module that a `use` or `ghost use` line brings, and nothing below it names.
-//! - `dead`: a definition of a `.antt` file that no root reaches. Roots are what the contracts in
-//!   `.rt` name, the proof `FN-spec` of each `proofs/FN/Proof.antt`, the `new:` lines of the
+//! - `dead`: a definition of a `.antt` file that no root reaches. Roots are what the contracts, the ghost
+//!   items and the `#[tactic(..)]` lines in `.rt` name, the answers to goals in each `proofs/FN/Answers.antt`
+//!   and `Invariants.antt`, the proof `FN_spec` of each `proofs/FN/Proof.antt`, the `new:` lines of the
 //!   `must-fail` edits, and what a page names in a code span, as link or not. A law that only dead
 //!   laws cite is reached by no root either.
 //! - `width`: a line of more than 160 characters.
@@ -12,7 +13,8 @@
 //!   definitions or proofs of another crate name.
 //! - `closed`: a `pub` definition of a `.antt` file that no root, no other file and no other `pub`
 //!   definition of its file names.
-//! - `layers`: an import of a file of `specs/code` in a file of `specs` that is not below it.
+//! - `layers`: an import of a file of `specs/code` in a file of `specs` that is not below it, or a name
+//!   there that is written by its whole path.
 //! - `links`: a relative link of a page that leads to no file, and a link to a `.antt` file named as
 //!   code that is not defined there.
 //!

@@ -6,12 +6,14 @@ use crate::tokens::tokens;
 /// A file of code.
 #[derive(Default)]
 pub struct Code {
-    /// Words and signs of the code; comments, texts, contracts and ghost imports are left out.
+    /// Words and signs of the code; comments, texts, contracts, ghost items and ghost imports are left out.
     pub words: Vec<Word>,
-    /// What the contracts use.
+    /// What the contracts and the ghost items use.
     pub contracts: Vec<Use>,
     /// The ghost imports.
     pub ghosts: Vec<Import>,
+    /// What the attributes give to the tactics, as `crate::proofs::Runs::law`.
+    pub laws: Vec<Vec<String>>,
 }
 
 /// A word or a sign of code; `::` is one sign.
@@ -29,27 +31,75 @@ pub fn read(text: &str) -> Code {
     let all = words(&plain);
     let mut code = Code::default();
     let mut i = 0;
+    // What stands behind the word at `open` and before the one at `end`.
+    let inside = |open: usize, end: usize| {
+        let (from, word) = &all[open];
+        let to = all.get(end).map_or(plain.len(), |(at, _)| *at);
+        tokens(&plain[from + word.text.len()..to], word.line)
+    };
     while i < all.len() {
-        let (from, word) = &all[i];
-        let contract = (word.text == "ensures" || word.text == "requires")
-            && all.get(i + 1).is_some_and(|(_, next)| next.text == "{");
-        let ghost =
-            word.text == "ghost" && all.get(i + 1).is_some_and(|(_, next)| next.text == "use");
-        if !contract && !ghost {
-            code.words.push(word.clone());
-            i += 1;
+        let word = &all[i].1;
+        if word.text == "ghost" && is(&all, i + 1, "use") {
+            let end = semicolon(&all, i);
+            code.ghosts.extend(import(&inside(i, end), 0).0);
+            i = end + 1;
             continue;
         }
-        let end = if contract { closing(&all, i + 1) } else { semicolon(&all, i) };
-        let to = all.get(end).map_or(plain.len(), |(at, _)| *at);
-        let inside = tokens(&plain[from + word.text.len()..to], word.line);
-        match ghost {
-            true => code.ghosts.extend(import(&inside, 0).0),
-            false => code.contracts.extend(uses(&inside, 0..inside.len())),
+        let groups = groups(&all, i);
+        for &(open, end) in &groups {
+            let inside = inside(open, end);
+            code.contracts.extend(uses(&inside, 0..inside.len()));
         }
-        i = end + 1;
+        if let Some((_, end)) = groups.last() {
+            i = end + 1;
+            continue;
+        }
+        if word.text == "tactic" && i > 0 && is(&all, i - 1, "[") {
+            code.laws.extend(cited(&all[i..]));
+        }
+        code.words.push(word.clone());
+        i += 1;
     }
     code
+}
+
+fn is(words: &[(usize, Word)], at: usize, text: &str) -> bool {
+    words.get(at).is_some_and(|(_, word)| word.text == text)
+}
+
+// The braces of a clause, `ensures name { .. }` or `requires* { .. }`, or those of a ghost item,
+// `ghost name: { .. } = { .. } by { .. }`, that begins at `at`.
+fn groups(words: &[(usize, Word)], at: usize) -> Vec<(usize, usize)> {
+    let mut found = Vec::new();
+    match words[at].1.text.as_str() {
+        "ensures" | "requires" => {
+            let starred = at + 1 + usize::from(is(words, at + 1, "*"));
+            let open = starred + usize::from(!is(words, starred, "{"));
+            if is(words, open, "{") {
+                found.push((open, closing(words, open)));
+            }
+        }
+        "ghost" => {
+            let mut next = at + 2;
+            while [":", "=", "by"].iter().any(|sign| is(words, next, sign))
+                && is(words, next + 1, "{")
+            {
+                let end = closing(words, next + 1);
+                found.push((next + 1, end));
+                next = end + 1;
+            }
+        }
+        _ => {}
+    }
+    found
+}
+
+// The definitions and lemmas that an attribute, whose words these are, names by their paths.
+fn cited(words: &[(usize, Word)]) -> Vec<Vec<String>> {
+    let own = words.iter().take_while(|(_, word)| word.text != "]");
+    let own: Vec<Word> = own.map(|(_, word)| word.clone()).collect();
+    let antt = |path: &Vec<String>| path.get(1).is_some_and(|m| m == "proofs" || m == "specs");
+    paths(&own).into_iter().filter(antt).collect()
 }
 
 fn closing(words: &[(usize, Word)], open: usize) -> usize {

@@ -27,6 +27,40 @@ pub struct Use {
     pub rest: Vec<String>,
 }
 
+impl Use {
+    /// Its names.
+    pub fn path(&self) -> Vec<&str> {
+        std::iter::once(&self.head).chain(&self.rest).map(String::as_str).collect()
+    }
+}
+
+impl Import {
+    /// The path that a use through this import names.
+    pub fn named<'a>(&'a self, used: &'a Use) -> Option<Vec<&'a str>> {
+        let path = self.path.iter().map(String::as_str);
+        match self.module {
+            true if self.local == used.head => {
+                Some(path.chain(used.rest.iter().map(String::as_str)).collect())
+            }
+            false if means(&used.head, &self.local) => Some(path.collect()),
+            _ => None,
+        }
+    }
+}
+
+/// The crate and what stands behind it in a path such as `Rattle.wire.specs.Bytes.value`.
+pub fn in_crate<'a, 'b>(path: &'b [&'a str]) -> Option<(&'a str, &'b [&'a str])> {
+    match path {
+        ["Rattle", name, rest @ ..] => Some((name, rest)),
+        _ => None,
+    }
+}
+
+/// Does a path lead into `specs/code` of a crate?
+pub fn is_in_code(path: &[&str]) -> bool {
+    in_crate(path).is_some_and(|(_, rest)| rest.starts_with(&["specs", "code"]))
+}
+
 /// The names that a `use` statement at `at` brings, and the place behind it.
 pub fn import(tokens: &[Token], at: usize) -> (Vec<Import>, usize) {
     let passed_on = tokens[..at].last().is_some_and(|t| t.is("pub") && !tokens[at].first);
@@ -115,17 +149,20 @@ fn is_label(tokens: &[Token], at: usize) -> bool {
         && tokens.get(at + 1).is_some_and(|t| t.is("=") || t.is(":"))
 }
 
+/// What stands in an operator's name for each of its arguments, as in `◌+◌`.
+pub const PLACE: char = '◌';
+
 /// The spellings under which a name is used: its own and, of an operator, its first part.
 pub fn spellings(name: &str) -> Vec<String> {
-    let part = name.split('_').find(|part| !part.is_empty());
+    let part = name.split(PLACE).find(|part| !part.is_empty());
     match part {
         Some(part) if part != name => vec![name.to_string(), part.to_string()],
         _ => vec![name.to_string()],
     }
 }
 
-/// Does a use of `used` mean `name`? A section such as `_+` or `+_` means its operator.
+/// Does a use of `used` mean `name`? A section such as `◌+` or `+◌` means its operator.
 pub fn means(used: &str, name: &str) -> bool {
-    let trimmed = used.trim_matches('_');
+    let trimmed = used.trim_matches(PLACE);
     spellings(name).iter().any(|spelling| spelling == used || spelling == trimmed)
 }

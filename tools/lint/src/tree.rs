@@ -14,7 +14,8 @@ pub struct Tree {
 }
 
 const READ: [&str; 4] = ["rt", "antt", "md", "edit"];
-const SKIPPED: [&str; 2] = ["target", ".git"];
+// Behind `out` is what rt makes of the sources.
+const SKIPPED: [&str; 3] = ["target", ".git", "out"];
 
 impl Tree {
     /// Reads what is under `root`, which is to hold sources.

@@ -3,6 +3,7 @@
 use crate::dead::code_spans;
 use crate::definitions;
 use crate::rattle::{self, CodeImport, Word};
+use crate::scope::in_crate;
 use crate::tree::Tree;
 use crate::Finding;
 use std::collections::BTreeSet;
@@ -92,21 +93,20 @@ fn used_paths(source: &Source, crates: &BTreeSet<&str>) -> Vec<String> {
     paths.iter().filter(outside).flat_map(prefixes).collect()
 }
 
-// Types that definitions and proofs of other crates name, as `Rattle·wire.specs.declared.Part`.
+// Types that definitions and proofs of other crates name, as `Rattle.wire.specs.declared.Part`, or of a
+// module as `Rattle.wire.specs.declared.parts.Part`.
 fn used_types(tree: &Tree) -> BTreeSet<String> {
     let mut found = BTreeSet::new();
     let antt = tree.with("antt").map(|(file, text)| (file, definitions::read(text).imports));
     let ghosts = tree.with("rt").map(|(file, text)| (file, rattle::read(text).ghosts));
     for (file, imports) in antt.chain(ghosts) {
         for import in imports {
-            let krate =
-                import.path[0].strip_prefix("Rattle·").and_then(|name| name.split('·').next());
-            let declared = import.path.iter().position(|part| part == "declared");
-            if let (Some(krate), Some(at)) = (krate, declared) {
-                if !file.starts_with(&format!("crates/{krate}/")) && at + 1 < import.path.len()
-                {
-                    found.insert(join(krate, &[&import.path[at + 1]]));
-                }
+            let path: Vec<&str> = import.path.iter().map(String::as_str).collect();
+            let Some((krate, ["specs", "declared", names @ ..])) = in_crate(&path) else {
+                continue;
+            };
+            if !file.starts_with(&format!("crates/{krate}/")) {
+                found.extend((1..=names.len()).map(|n| join(krate, &names[..n])));
             }
         }
     }

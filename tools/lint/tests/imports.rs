@@ -36,12 +36,19 @@ fn lists_of_several_lines() {
 
 #[test]
 fn operators() {
-    only(definitions("use M.{_++_, _∷_}\n\nc : T\nc (x ∷ xs) = xs\n"), 1, "_++_");
-    assert!(definitions("use M.{_++_, _∷_}\n\nc : T\nc (x ∷ xs) = xs ++ xs\n").is_empty());
-    assert!(definitions("use M.{_++_}\n\nc : T\nc = _++_ x y\n").is_empty());
-    assert!(definitions("use M.{_+_}\n\nc : T\nc = map (_+ 1) xs\n").is_empty());
-    assert!(definitions("use M.{if_then_else_}\n\nc : T\nc = if a then b else d\n").is_empty());
-    only(definitions("use M.{_+_}\n\nc : T\nc = a ++ b\n"), 1, "_+_");
+    only(definitions("use M.{◌++◌, ◌∷◌}\n\nc : T\nc (x ∷ xs) = xs\n"), 1, "◌++◌");
+    assert!(definitions("use M.{◌++◌, ◌∷◌}\n\nc : T\nc (x ∷ xs) = xs ++ xs\n").is_empty());
+    assert!(definitions("use M.{◌++◌}\n\nc : T\nc = ◌++◌ x y\n").is_empty());
+    assert!(definitions("use M.{◌+◌}\n\nc : T\nc = map (◌+ 1) xs\n").is_empty());
+    assert!(definitions("use M.{if◌then◌else◌}\n\nc : T\nc = if a then b else d\n").is_empty());
+    only(definitions("use M.{◌+◌}\n\nc : T\nc = a ++ b\n"), 1, "◌+◌");
+}
+
+#[test]
+fn a_line_below_is_a_letter() {
+    only(definitions("use M.{order_from}\n\nc : T\nc = order\n"), 1, "order_from");
+    only(definitions("use M.{order}\n\nc : T\nc = order_from\n"), 1, "order");
+    assert!(definitions("use M.{order_from}\n\nc : T\nc = order_from\n").is_empty());
 }
 
 #[test]
@@ -78,9 +85,18 @@ fn parameters_and_unfolding_lines_are_uses() {
 
 #[test]
 fn ghost_imports() {
-    let uses = "fn f(s: u8) -> u8\n    ensures { λ r. ⌜ r ≡ a s ⌝ }\n{\n    b(s)\n}\n";
-    only(code(&format!("ghost use M.{{_≡_, a, b}};\n{uses}")), 1, "b");
-    assert!(code(&format!("ghost use M.{{_≡_, a}};\n{uses}")).is_empty());
+    let uses = "fn f(s: u8) -> u8\n    ensures { result ≡ a s }\n{\n    b(s)\n}\n";
+    only(code(&format!("ghost use M.{{◌≡◌, a, b}};\n{uses}")), 1, "b");
+    assert!(code(&format!("ghost use M.{{◌≡◌, a}};\n{uses}")).is_empty());
+}
+
+#[test]
+fn named_and_starred_clauses_and_ghost_items() {
+    let clauses = "fn f(s: u8) -> u8\n    requires b { a s }\n    ensures* b { sem (c s) }\n{\n    s\n}\n";
+    only(code(&format!("ghost use M.{{a, sem, c, b}};\n{clauses}")), 1, "b");
+    let items = "struct S {\n    n: u8,\n    pub ghost b: { a n } by { c n },\n}\nimpl T for S {\n    ghost b: { d } = { e };\n}\n";
+    only(code(&format!("ghost use M.{{a, b, c, d, e}};\n{items}")), 1, "b");
+    assert!(code(&format!("ghost use M.{{a, c, d, e}};\n{items}")).is_empty());
 }
 
 #[test]
@@ -95,6 +111,21 @@ fn imports_of_code() {
 fn what_only_an_edit_names_is_used() {
     let source = ("crates/c/specs/A.antt", "use M.{a, b}\n\nc : T\nc = a\n");
     let edit = "# another\nfile: specs/A.antt\nold: c = a\nnew: c = b\n";
+    assert_eq!(findings(&Tree::of(&[source])).len(), 1);
+    assert!(findings(&Tree::of(&[source, ("crates/c/must-fail/x.edit", edit)])).is_empty());
+    let several = "file: specs/A.antt\nold: c : T\nnew: c : S\nold: c = a\nnew: c = b\n";
+    assert!(findings(&Tree::of(&[source, ("crates/c/must-fail/x.edit", several)])).is_empty());
+    let elsewhere = "file: specs/B.antt\nold: c = a\nnew: c = b\n";
+    assert_eq!(
+        findings(&Tree::of(&[source, ("crates/c/must-fail/x.edit", elsewhere)])).len(),
+        1
+    );
+}
+
+#[test]
+fn what_only_an_edit_of_code_names_is_used() {
+    let source = ("crates/c/src/lib.rt", "use m::{a, b};\nfn c() -> u8 {\n    a()\n}\n");
+    let edit = "file: src/lib.rt\nold: a()\nnew: b::new()\n";
     assert_eq!(findings(&Tree::of(&[source])).len(), 1);
     assert!(findings(&Tree::of(&[source, ("crates/c/must-fail/x.edit", edit)])).is_empty());
 }

@@ -54,13 +54,24 @@ fn types_by_interfaces_and_definitions() {
     let own = ("crates/a/src/lib.rt", types);
     let other = ("crates/b/src/lib.rt", "use a::E;\nfn g() -> E {\n    h()\n}\n");
     assert_eq!(idle(&[own, other]), ["7: pub struct Alone is used by no other crate"]);
-    let specs = ("crates/b/specs/A.antt", "use Rattle·a.specs.declared.Alone.{Alone}\n");
+    let specs = ("crates/b/specs/A.antt", "use Rattle.a.specs.declared.Alone.{Alone}\n");
     assert!(idle(&[own, other, specs]).is_empty());
+    let within = ("crates/a/specs/A.antt", "use Rattle.a.specs.declared.Alone.{Alone}\n");
+    assert_eq!(idle(&[own, other, within]).len(), 1);
+}
+
+#[test]
+fn types_of_a_module_by_definitions() {
+    let root = ("crates/a/src/lib.rt", "pub mod m;\n");
+    let own = ("crates/a/src/m.rt", "pub struct S {\n    pub n: u8,\n}\n");
+    let specs = ("crates/b/specs/A.antt", "use Rattle.a.specs.declared.m.S.TheVariants as S\n");
+    assert_eq!(idle(&[root, own]).len(), 2);
+    assert!(idle(&[root, own, specs]).is_empty());
 }
 
 #[test]
 fn exports_methods_and_offered_calls() {
-    let code = "#[no_mangle]\npub extern \"C\" fn e() {\n}\nimpl W {\n    pub fn m() {\n    }\n}\npub fn call() {\n}\n";
+    let code = "#[unsafe(no_mangle)]\npub extern \"C\" fn e() {\n}\nimpl W {\n    pub fn m() {\n    }\n}\npub fn call() {\n}\n";
     let own = ("crates/a/src/lib.rt", code);
     assert_eq!(idle(&[own]), ["8: pub fn call is used by no other crate"]);
     let page = "### What is a public call\n`call` (`a`)\n\n### Other\n`x`\n";
@@ -71,7 +82,7 @@ fn exports_methods_and_offered_calls() {
 
 #[test]
 fn definitions_that_only_their_file_uses() {
-    let proof = "use Rattle·c.specs.S.{g}\n\npub f-spec : T\nf-spec = g\n";
+    let proof = "use Rattle.c.specs.S.{g}\n\npub f_spec : T\nf_spec = g\n";
     let idle = |text: &str| {
         let files = [("crates/c/specs/S.antt", text), ("crates/d/proofs/f/Proof.antt", proof)];
         whats(closed::findings(&Tree::of(&files)))
@@ -88,17 +99,20 @@ fn definitions_that_only_their_file_uses() {
 #[test]
 fn definitions_that_name_what_mirrors_code() {
     let over = |file: &str, text: &str| whats(layers::findings(&Tree::of(&[(file, text)])));
-    let text = "use Rattle·a.specs.code.S.{f}\n\ng : T\ng = f\n";
+    let text = "use Rattle.a.specs.code.S.{f}\n\ng : T\ng = f\n";
     for file in ["crates/c/specs/S.antt", "crates/c/specs/laws/S.antt"] {
         assert_eq!(over(file, text), ["1: import f is of specs/code"]);
     }
-    let own = "use Rattle·c·specs.specs.code.S as S\n\ng : T\ng = S.f\n";
+    let own = "use Rattle.c.specs.code.S as S\n\ng : T\ng = S.f\n";
     assert_eq!(over("crates/c/specs/S.antt", own), ["1: import S is of specs/code"]);
+    let whole = "g : T\ng = Rattle.a.specs.code.S.f\n";
+    let found = ["1: Rattle.a.specs.code.S.f is of specs/code"];
+    assert_eq!(over("crates/c/specs/S.antt", whole), found);
     for file in ["crates/c/specs/code/T.antt", "crates/c/proofs/L.antt"] {
         assert!(over(file, text).is_empty());
     }
     assert!(
-        over("crates/c/specs/S.antt", "use Rattle·a.specs.S.{f}\n\ng : T\ng = f\n").is_empty()
+        over("crates/c/specs/S.antt", "use Rattle.a.specs.S.{f}\n\ng : T\ng = f\n").is_empty()
     );
     assert!(
         over("crates/c/specs/S.antt", "use lib.specs.code.{f}\n\ng : T\ng = f\n").is_empty()

@@ -62,13 +62,34 @@ module _ {A : Type 0} (x : A)
     third = z
 
 pub ruleset rules = (same, third)
+
+abbrev pub word : ℕ
+word = 3
+
+open word use {left, right as far, middle.{near}}
 ";
     let file = definitions::read(text);
     let names: Vec<&str> = file.declarations.iter().map(|d| d.name.as_str()).collect();
-    assert_eq!(names, ["Kind", "Pair", "same", "third", "rules"]);
+    assert_eq!(names, ["Kind", "Pair", "same", "third", "rules", "word", "left"]);
     assert_eq!(file.declarations[0].others, ["one", "two"]);
     assert_eq!(file.declarations[1].fields, ["left", "right"]);
     assert_eq!(file.declarations[2].line, 14);
+    assert!(file.declarations[5].public);
+    assert_eq!(file.declarations[6].others, ["left", "far", "near"]);
+}
+
+#[test]
+fn blocks_derive_names_and_open_fields() {
+    let text = "\
+pub record Pair : Type 0 where
+  pub left : ℕ
+  open left use *
+  right : ℕ
+  deriving IsSet as Pair-set
+";
+    let file = definitions::read(text);
+    assert_eq!(file.declarations[0].fields, ["left", "right"]);
+    assert_eq!(file.declarations[0].others, ["Pair-set"]);
 }
 
 #[test]
@@ -77,8 +98,8 @@ fn contracts_are_apart_from_code() {
 // a comment with name
 ghost use M.{f};
 fn g(a: u64) -> u64
-    requires { ⌜ a < 2 ⌝ }
-    ensures { λ r. ⌜ r ≡ f {x = a} ⌝ }
+    requires { a < 2 }
+    ensures meets { result ≡ f {x = a} }
 {
     h(a, b\" text \\\" more\", '\"', k)
 }
@@ -88,6 +109,14 @@ fn g(a: u64) -> u64
     assert!(words.contains(&"h") && words.contains(&"k"));
     assert!(!words.contains(&"f") && !words.contains(&"text"));
     assert!(code.contracts.iter().any(|used| used.head == "f"));
-    assert!(!code.contracts.iter().any(|used| used.head == "h" || used.head == "x"));
+    let others = ["h", "x", "meets"];
+    assert!(!code.contracts.iter().any(|used| others.contains(&used.head.as_str())));
     assert_eq!(code.ghosts.len(), 1);
+}
+
+#[test]
+fn attributes_are_read() {
+    let text = "#![tactic(auto)]\n#[tactic(auto, using(crate::proofs::A::b), unfolding(c::specs::D::e))]\nfn g() {\n}\n";
+    let laws = rattle::read(text).laws;
+    assert_eq!(laws, [["crate", "proofs", "A", "b"], ["c", "specs", "D", "e"]]);
 }
