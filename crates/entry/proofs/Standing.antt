@@ -101,7 +101,7 @@ module _ (s : List ℕ) (b : Slice s) where
       → All (output_entry at m v)
   outputs-stand prev at v m h =
       let (f, a) = output-stands E.Output at v m
-          (guarded-inv transferable_output (λ a. not (below (transferable_output.write a) prev)) out_of_order at v m h) in
+      (guarded-inv transferable_output (λ a. not (below (transferable_output.write a) prev)) out_of_order at v m h) in
       (record { typed = f; asset = a; txid = refl }, tt)
 
   exported-stand : (prev : List ℕ) (at : ℕ) (v : TransferableOutput) (m : ℕ) → read (not_below transferable_output prev) s at ≡ took v m

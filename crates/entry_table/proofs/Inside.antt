@@ -19,7 +19,7 @@ use Rattle.transaction.specs.Entries.{EntryAt, state_output_entry, state_entries
 use Rattle.transaction.specs.Plan.{content_of, elements_of, Plan, shut, end, field, many, plan}
 use Rattle.transaction.specs.Form.{at_least, list_of, Value, form, plan_entries}
 use Rattle.transaction.specs.Avm.{avm}
-use Rattle.transaction.specs.Signed as Any
+use Rattle.transaction.specs.Signed as AnySigned
 use Rattle.transaction.specs.Family.{Signed, unsigned, head, wants, entries}
 use Rattle.transaction.specs.Codec.{Writing}
 use Rattle.transaction.specs.declared.ListName.{ListName}
@@ -125,7 +125,7 @@ pub credentials-length : (ws : List Want) (l : List (List ℕ)) → (credentials
 credentials-length ws l g = length-credentials ws l g
 
 pub entries-inside : (most : ℕ) (s : List ℕ) (v : Signed (avm most)) → Writing (avm most) s v → Inside (length s) (entries (avm most) v)
-unfolding entries Any.signed unsigned wants
+unfolding entries AnySigned.signed unsigned wants
 entries-inside most s (u, l) w =
     let p : Plan = plan u.0.type in
     let h : List ℕ = (head (avm most)).write u.0 in
