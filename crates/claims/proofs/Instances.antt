@@ -20,7 +20,7 @@ use Rattle.element.specs.Inputs.{key, spend, input_after}
 use Rattle.transaction.specs.Slots.{signature_width, blank, slot_at, put_slot, put_all}
 use Rattle.transaction.specs.Credentials.{credentials, layout, places}
 use Rattle.transaction.specs.Form.{at_least, form, asked, wanted}
-use Rattle.transaction.specs.Signed as Any
+use Rattle.transaction.specs.Signed as AnySigned
 use Rattle.transaction.specs.Family.{head, unsigned, wants}
 use Rattle.draft_slots.specs.Joining.{same}
 use Rattle.draft_slots.proofs.Comparing.{and-true}
@@ -56,8 +56,10 @@ record Computed : Type 0 where
   zeros : blank ≡ empty
 
 computed : Computed
-unfolding Any.check unsigned head wants credentials signature_width owners transfer_body transferable_output key spend input_after string integer blob_parse
-    items list_parse list_write value digits below form wanted asked at_least blank slot_at put_slot put_all layout places same body slot_count slot merge_of result
+unfolding AnySigned.check unsigned head wants credentials signature_width owners transfer_body transferable_output key spend input_after string integer
+    blob_parse
+    items list_parse list_write value digits below form wanted asked at_least blank slot_at put_slot put_all layout places same body slot_count slot
+    merge_of result
 computed =
     record {
       accepted = (refl, refl, refl);

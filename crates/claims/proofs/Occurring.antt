@@ -27,7 +27,7 @@ use Rattle.transaction.specs.Credentials.{credentials, layout, places, size}
 use Rattle.transaction.specs.Entries.{rows, entries_from, credential_entries, nth}
 use Rattle.transaction.specs.Form.{at_least, form, asked, wanted, plan_entries}
 use Rattle.transaction.specs.Avm.{avm}
-use Rattle.transaction.specs.Signed as Any
+use Rattle.transaction.specs.Signed as AnySigned
 use Rattle.transaction.specs.Family.{head, unsigned, wants, check, entries}
 use Rattle.transaction.specs.Answer.{memo_most, checked, checked_number}
 use Rattle.transaction.specs.Answer as Answer
@@ -64,14 +64,19 @@ zero-bytes zero = tt
 zero-bytes (suc n) = (omega arith, zero-bytes n)
 
 above_most : (n : ℕ) → 65536 < n → Refused 1
-above_most n h =
-    (zeros n, refusal too_long 0, zero-bytes n, ((first-broken (avm memo_most)).above_most (zeros n) 0).1 (omega (arith, length-replicate {A = ℕ} n 0), refl), refl)
+above_most n h = (
+  zeros n,
+  refusal too_long 0,
+  zero-bytes n,
+  ((first-broken (avm memo_most)).above_most (zeros n) 0).1 (omega (arith, length-replicate {A = ℕ} n 0), refl),
+  refl,
+)
 
 abbrev refuses : (s : List ℕ) → each_byte s ≡ true → (r : Rule) (p : ℕ) → check (avm memo_most) s ≡ refused (refusal r p) → (n : ℕ) × Refused n
 refuses s h r p e = (rule_number r, (s, refusal r p, bytes_of s h, e, refl))
 
 unfoldable refused-cases : List ((n : ℕ) × Refused n)
-unfolding Any.check unsigned head wants credentials owners amount transfer_body output transferable_output guard string text printable unprintable
+unfolding AnySigned.check unsigned head wants credentials owners amount transfer_body output transferable_output guard string text printable unprintable
     denomination constant tag count_prefixed integer blob_parse items list_parse list_write value digits below form wanted asked at_least layout
 refused-cases =
     (1, above_most 65537 (omega arith))
@@ -103,23 +108,28 @@ abbrev empty : List ℕ
 empty = zeros 58
 
 empty-checked : checked_number (checked memo_most empty) ≡ 0
-unfolding Any.check unsigned head wants credentials constant tag count_prefixed integer blob_parse items list_parse list_write value digits form wanted asked
+unfolding AnySigned.check unsigned head wants credentials constant tag count_prefixed integer blob_parse items list_parse list_write value digits form
+    wanted asked
     at_least string layout
 empty-checked = refl
 
 tables : (tabled_number (tabled memo_most empty []).answer ≡ 0) × (tabled_number (tabled memo_most A []).answer ≡ 14)
-unfolding Any.check unsigned head wants credentials owners amount transfer_body output transferable_output key indices spend input_after guard string constant tag
+unfolding AnySigned.check unsigned head wants credentials owners amount transfer_body output transferable_output key indices spend input_after guard string
+    constant tag
     count_prefixed integer blob_parse items list_parse list_write value digits below form wanted asked at_least layout signature_width entries plan_entries
     entries_from credential_entries rows
 tables = (refl, refl)
 
 slot-tables : (tabled_number (tabled_slots memo_most empty []).answer ≡ 0) × (tabled_number (tabled_slots memo_most A []).answer ≡ 14)
-unfolding Any.check unsigned head wants credentials owners amount transfer_body output transferable_output key indices spend input_after guard string constant tag
-    count_prefixed integer blob_parse items list_parse list_write value digits below form wanted asked at_least layout signature_width places size Slots.slots_from
+unfolding AnySigned.check unsigned head wants credentials owners amount transfer_body output transferable_output key indices spend input_after guard string
+    constant tag
+    count_prefixed integer blob_parse items list_parse list_write value digits below form wanted asked at_least layout signature_width places size
+    Slots.slots_from
 slot-tables = (refl, refl)
 
 read-entries : (entry_number (entry_of memo_most A 0).answer ≡ 0) × (entry_number (entry_of memo_most empty 0).answer ≡ 15)
-unfolding Any.check unsigned head wants credentials owners amount transfer_body output transferable_output key indices spend input_after guard string constant tag
+unfolding AnySigned.check unsigned head wants credentials owners amount transfer_body output transferable_output key indices spend input_after guard string
+    constant tag
     count_prefixed integer blob_parse items list_parse list_write value digits below form wanted asked at_least layout signature_width entries plan_entries
     entries_from credential_entries nth
 read-entries = (refl, refl)
@@ -191,8 +201,10 @@ abbrev merges : (d e out : List ℕ) → each_byte d ≡ true → each_byte e �
 merges d e out bd be n h = (n, (d, e, out, bytes_of d bd, bytes_of e be, h))
 
 unfoldable merge-cases : List ((n : ℕ) × MergeOf n)
-unfolding Any.check unsigned head wants credentials owners amount transfer_body output transferable_output key indices spend input_after guard string constant tag
-    count_prefixed integer blob_parse items list_parse list_write value digits below form wanted asked at_least layout signature_width places blank slot_at put_slot
+unfolding AnySigned.check unsigned head wants credentials owners amount transfer_body output transferable_output key indices spend input_after guard string
+    constant tag
+    count_prefixed integer blob_parse items list_parse list_write value digits below form wanted asked at_least layout signature_width places blank slot_at
+    put_slot
     put_all same clashes
     join first_clash body merged merge_call
 merge-cases =
@@ -213,8 +225,10 @@ abbrev fills : (d : List ℕ) (k : ℕ) (s : List ℕ) → each_byte d ≡ true 
 fills d k s bd bs n h = (n, (d, k, s, bytes_of d bd, bytes_of s bs, h))
 
 unfoldable fill-cases : List ((n : ℕ) × FillOf n)
-unfolding Any.check unsigned head wants credentials owners amount transfer_body output transferable_output key indices spend input_after guard string constant tag
-    count_prefixed integer blob_parse items list_parse list_write value digits below form wanted asked at_least layout signature_width places blank slot_at put_slot
+unfolding AnySigned.check unsigned head wants credentials owners amount transfer_body output transferable_output key indices spend input_after guard string
+    constant tag
+    count_prefixed integer blob_parse items list_parse list_write value digits below form wanted asked at_least layout signature_width places blank slot_at
+    put_slot
     same clashes
     join slot_count slot fill_call
 fill-cases =

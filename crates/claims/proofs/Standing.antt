@@ -29,7 +29,7 @@ use Rattle.transaction.specs.Entries.{EntryAt, nth, state_output_entry, state_en
 use Rattle.transaction.specs.Plan.{content_of, elements_of, Plan, shut, end, field, many, plan}
 use Rattle.transaction.specs.Form.{at_least, list_of, Value, form, plan_entries}
 use Rattle.transaction.specs.Avm.{avm}
-use Rattle.transaction.specs.Signed as Any
+use Rattle.transaction.specs.Signed as AnySigned
 use Rattle.transaction.specs.Family.{Signed, unsigned, head, wants, entries}
 use Rattle.transaction.specs.Answer.{memo_most}
 use Rattle.transaction.specs.Codec.{Writing}
@@ -205,7 +205,7 @@ module _ (s : List ℕ) where
 -- ---- all entries
 
 pub entries-stand-as : (s : List ℕ) (v : Signed (avm memo_most)) → Writing (avm memo_most) s v → Each (StandsAs s) (entries (avm memo_most) v)
-unfolding entries Any.signed unsigned credentials layout pieces
+unfolding entries AnySigned.signed unsigned credentials layout pieces
 entries-stand-as s (u, l) w =
     let h : List ℕ = (head (avm memo_most)).write u.0 in
     let f : List ℕ = (form memo_most (plan u.0.type)).write u.1 in

@@ -51,7 +51,8 @@ pub record CheckAnswers : Type 0 where
 -- ---- the calls that list rows of three numbers in a lent table
 
 -- `call s t` checks the bytes s and writes rows into the table t. A reading v of s has `count s v` rows; their numbers are `rows s v`
-pub record Lists (call : List ℕ → List ℕ → Filled) (count : List ℕ → Signed (avm memo_most) → ℕ) (rows : List ℕ → Signed (avm memo_most) → List ℕ) : Type 0 where
+pub record Lists (call : List ℕ → List ℕ → Filled) (count : List ℕ → Signed (avm memo_most) → ℕ) (rows : List ℕ → Signed (avm memo_most)
+    → List ℕ) : Type 0 where
   pub number : (s t : List ℕ) → OneOf (tabled_number (call s t).answer) table_numbers
   -- bytes that are not accepted get the check's own refusal, whatever the room
   pub refused-bytes : (s t : List ℕ) (e : Refusal) → check (avm memo_most) s ≡ refused e → call s t ≡ filled (T.Refused e) t

@@ -18,7 +18,7 @@ use Rattle.transaction.specs.Entries.{rows, entries_from, credential_entries}
 use Rattle.transaction.specs.Form.{at_least, form, asked, wanted, plan_entries}
 use Rattle.transaction.specs.Avm.{avm}
 use Rattle.transaction.specs.Answer.{memo_most}
-use Rattle.transaction.specs.Signed as Any
+use Rattle.transaction.specs.Signed as AnySigned
 use Rattle.transaction.specs.Family.{Signed, head, unsigned, wants, check, entries}
 use Rattle.draft_slots.specs.Joining.{same, clashes, join, first_clash}
 use Rattle.draft.specs.declared.Answer.{Answer}
@@ -179,7 +179,8 @@ table =
     ∷ []
 
 pub proved-cases : AllHold table
-unfolding Any.check unsigned head wants credentials signature_width owners amount transfer_body output transferable_output key indices spend input_after terms
+unfolding AnySigned.check unsigned head wants credentials signature_width owners amount transfer_body output transferable_output key indices spend
+    input_after terms
     action operation fx_id state_outputs initial_state_after guard string text printable unprintable denomination constant tag count_prefixed integer blob_parse
     items list_parse list_write value digits below rows entries_from credential_entries form wanted asked plan_entries at_least entries blank slot_at put_slot
     put_all layout places same clashes join first_clash body slot_count slot merged merge_call fill_call

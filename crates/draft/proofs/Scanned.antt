@@ -87,7 +87,8 @@ module _ (s : List ℕ) (q t n : ℕ) (x rest : List ℕ) (gt : (integer 4).Good
 pub regroup : (a b c x y rest : List ℕ) → c ≡ x ++ y → (a ++ (b ++ c)) ++ rest ≡ a ++ (b ++ (x ++ (y ++ rest)))
 regroup a b c x y rest e = rw e (simp append_assoc)
 
-scan-each : (ws : List Want) (l : List (List ℕ)) (s : List ℕ) (q : ℕ) (rest : List ℕ) → (pieces (each ws)).Good l → drop q s ≡ (pieces (each ws)).write l ++ rest
+scan-each : (ws : List Want) (l : List (List ℕ)) (s : List ℕ) (q : ℕ) (rest : List ℕ) → (pieces (each ws)).Good l
+    → drop q s ≡ (pieces (each ws)).write l ++ rest
     → scan_from (length ws) s q ≡ places q (each ws)
 unfolding each pieces scan_from places integer
 scan-each [] l s q rest g h = refl

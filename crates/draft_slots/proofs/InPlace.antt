@@ -127,6 +127,7 @@ joined-all e lo (p ∷ ps) d h l =
     let kept : length (put_slot p s d) ≡ length d = length-put p s d ls fits in
     ap (join_all ps e) (joined-put p (slot_at e p) d le)
     ∙ joined-all e (p + signature_width) ps (put_slot p s d) (subst⁻¹ (λ (n : ℕ). Spaced (p + signature_width) ps n) kept h.1) (l ∙ sym kept)
-    ∙ put-alike (λ q. join (slot_at (put_slot p s d) q) (slot_at e q)) (λ q. join (slot_at d q) (slot_at e q)) (p + signature_width) ps (length d) (put_slot p s d)
+    ∙ put-alike (λ q. join (slot_at (put_slot p s d) q) (slot_at e q)) (λ q. join (slot_at d q) (slot_at e q)) (p + signature_width) ps (length d)
+    (put_slot p s d)
     h.1
     (λ q k. ap (λ (z : List ℕ). join z (slot_at e q)) (put-slot-after p s d ls fits q k))

@@ -105,7 +105,8 @@ module _ (s : List ℕ) (q : ℕ) (x : SlotRange) (e : x ≡ range_at s q) where
   scan-range : (p n next left : ℕ) → x ≡ R.Slots p n next → 0 < left → scan_from left s q ≡ slot_range n p ++ scan_from (left - 1) s next
   unfolding scan_from
   scan-range p n next zero h i = absurd (not-suc-le-zero i)
-  scan-range p n next (suc left) h i = ap (λ (r : SlotRange). on_range r [] (λ f c m. slot_range c f ++ scan_from left s m)) (found e h) ∙ rw (sub-one (suc left))
+  scan-range p n next (suc left) h i = ap (λ (r : SlotRange). on_range r [] (λ f c m. slot_range c f ++ scan_from left s m)) (found e h)
+      ∙ rw (sub-one (suc left))
 
   scan-stop : (left : ℕ) → x ≡ R.Nothing → scan_from left s q ≡ []
   unfolding scan_from
@@ -140,7 +141,8 @@ unfolding first_clash
 clash-front d e k [] qs j h = let z : ◌≡◌ {A = ℕ} 0 1 = cc in absurd (omega arith)
 clash-front d e k (p ∷ ps) qs j h = go (clashes (slot_at d p) (slot_at e p)) h (clash-front d e (suc k) ps qs j)
   where
-    go : (t : Bool) → cond t (some k) (first_clash (suc k) ps d e) ≡ some j → (first_clash (suc k) ps d e ≡ some j → first_clash (suc k) (ps ++ qs) d e ≡ some j)
+    go : (t : Bool) → cond t (some k) (first_clash (suc k) ps d e) ≡ some j
+        → (first_clash (suc k) ps d e ≡ some j → first_clash (suc k) (ps ++ qs) d e ≡ some j)
         → cond t (some k) (first_clash (suc k) (ps ++ qs) d e) ≡ some j
     go true h ih = h
     go false h ih = ih h
@@ -218,7 +220,8 @@ module _ (d e : List ℕ) (k left q : ℕ) (y : Found) (w : clash_from d e k (sc
       unfolding clash_from
       clash-next h =
           ap (λ (i : ℕ). Scan.found (first_clash (k + i) (scan_from (left - 1) d next) d e)) (sym (length-range n p))
-          ∙ ap Scan.found (sym (clash-append d e k (slot_range n p) (scan_from (left - 1) d next) (found_none (first_clash k (slot_range n p) d e) (sym hz ∙ h))))
+          ∙ ap Scan.found
+          (sym (clash-append d e k (slot_range n p) (scan_from (left - 1) d next) (found_none (first_clash k (slot_range n p) d e) (sym hz ∙ h))))
           ∙ whole
 
 pub ruleset clashing-scan = (clash-over, clash-stop, clash-found, clash-next)

@@ -164,7 +164,8 @@ module _ (R : Reader) (L : Laws R) (d : List ℕ) (hd : Draft R d) where
   pub blank-emptied : BlankOf R d (emptied R d)
   unfolding emptied slot_count
   blank-emptied =
-      let l : Like R d (put_all (R.slots d) (λ p. blank) d) = like-put_all R L d hd d (like-self R d hd) (λ p. blank) (λ k b. length-blank) (λ p. bytes-blank) in
+      let l : Like R d (put_all (R.slots d) (λ p. blank) d) =
+      like-put_all R L d hd d (like-self R d hd) (λ p. blank) (λ k b. length-blank) (λ p. bytes-blank) in
       record {
         draft = l.draft;
         same-unsigned = sym l.unsigned;

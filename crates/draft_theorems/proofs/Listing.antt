@@ -40,7 +40,8 @@ held-filled p (d ∷ ds) (suc i) b f z = go (held-filled p ds i (le_of_suc-le-su
     go ih (yes e) = ih (sym (join-blank (slot_at d p) (held_at p ds) e) ∙ z)
     go ih (no n) = n (sym (join-filled (slot_at d p) (held_at p ds) n) ∙ z)
 
-length-held : (p : ℕ) (ds : List (List ℕ)) → ((i : ℕ) → i < length ds → length (slot_at (at ds i) p) ≡ signature_width) → length (held_at p ds) ≡ signature_width
+length-held : (p : ℕ) (ds : List (List ℕ)) → ((i : ℕ) → i < length ds → length (slot_at (at ds i) p) ≡ signature_width)
+    → length (held_at p ds) ≡ signature_width
 unfolding held_at
 length-held p [] h = length-blank
 length-held p (d ∷ ds) h =

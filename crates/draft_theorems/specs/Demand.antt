@@ -103,7 +103,8 @@ pub record Pair (R : Reader) (d e out : List ℕ) : Type 0 where
   pub agreeing : ((k : ℕ) → k < slot_count R d → Filled (slot R d k) → Filled (slot R e k) → slot R d k ≡ slot R e k)
       → answer_number (merge_call R d e out).0 ≡ 20 → ⊥
   -- a pair of the same unsigned transaction meets it exactly if the two disagree in some slot, and reports the first such slot
-  pub exactly : body R d ≡ body R e → (k : ℕ) → ((answer_number (merge_call R d e out).0 ≡ 20) × (answer_place (merge_call R d e out).0 ≡ k)) ↔ FirstClash R d e k
+  pub exactly : body R d ≡ body R e → (k : ℕ) → ((answer_number (merge_call R d e out).0 ≡ 20) × (answer_place (merge_call R d e out).0 ≡ k))
+      ↔ FirstClash R d e k
 
 -- ---- the demand
 

@@ -6,7 +6,7 @@ use Rattle.wire.specs.Numbers.{conflict}
 use Rattle.wire.specs.Format.{took}
 use Rattle.transaction.specs.Slots.{signature_width, blank, slot_at, put_all}
 use Rattle.transaction.specs.Credentials.{layout, blanks}
-use Rattle.transaction.specs.Signed as Any
+use Rattle.transaction.specs.Signed as AnySigned
 use Rattle.transaction.specs.Family.{Family, Signed, unsigned, wants, check}
 use Rattle.draft_slots.specs.Joining.{Filled, Clash}
 use Rattle.draft.specs.declared.Answer.TheVariants as A
@@ -60,4 +60,4 @@ pub record Filling (R : Reader) : Type 0 where
 -- d is accepted and v is its reading: the blank transaction of v's unsigned part, filled with v's signatures, is d
 pub record ReadingFilled (F : Family) : Type 0 where
   pub filled : (d : List ℕ) (v : Signed F) (n : ℕ) → Bytes d → check F d ≡ took v n
-      → Fills (reader F) 0 v.1 (Any.assemble (unsigned F) (wants F) v.0 (blanks (layout (wants F v.0)))) d
+      → Fills (reader F) 0 v.1 (AnySigned.assemble (unsigned F) (wants F) v.0 (blanks (layout (wants F v.0)))) d

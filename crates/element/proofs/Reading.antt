@@ -278,7 +278,8 @@ operation_tag = tag operation_code operation_type operation_type-code (integer 4
 module _ {R : Type 0} (s : List ℕ) (at : ℕ) (z : R) (stop : Refusal → R) (go : OperationType → ℕ → R) (x : Integer) (p : x ≡ valued (integer 4) s at) where
   pub on-operation-type : (v n : ℕ) → x ≡ N.Value v n → 12 ≤ v → v ≤ 13 → z ≡ go (operation_type v) n → z ≡ operation_tag.parse s at stop go
   on-operation-type v n q h i =
-      W.on-tag operation_code operation_type operation_type-code 4 (mint_nft ∷ transfer_nft ∷ []) unknown_type s at z stop go x p v n q (one_of 12 13 v refl h i)
+      W.on-tag operation_code operation_type operation_type-code 4 (mint_nft ∷ transfer_nft ∷ []) unknown_type s at z stop go x p v n q
+      (one_of 12 13 v refl h i)
 
   pub on-operation-type-below : (v n : ℕ) → x ≡ N.Value v n → v < 12 → z ≡ stop (by unknown_type at) → z ≡ operation_tag.parse s at stop go
   on-operation-type-below v n q h =

@@ -353,7 +353,8 @@ module _ {B R : Type 0} (s : List ℕ) (at : ℕ) (go : B → ℕ → R) (z : R)
         → Yields ((operation_owners type).parse s at refused k) go z
     recipients-next m q p = parse-next (operation_owners type) s at k go z x p m q
 
-    pub recipients-refused : (e : Refusal) → x ≡ P.Refused e → Passes (operation_owners type) s at x → Yields ((operation_owners type).parse s at refused k) go z
+    pub recipients-refused : (e : Refusal) → x ≡ P.Refused e → Passes (operation_owners type) s at x
+        → Yields ((operation_owners type).parse s at refused k) go z
     recipients-refused e q p = parse-refused (operation_owners type) s at k go z x p e q
 
 pub action-whole : {B : Type 0} (s : List ℕ) (at : ℕ) (k : Action → ℕ → Result B) (go : B → ℕ → Integer) (z : Integer)

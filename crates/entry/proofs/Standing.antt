@@ -97,9 +97,11 @@ module _ (s : List ℕ) (b : Slice s) where
         moved (λ w j. whole_at 32 s at ≡ w.asset) e₂ (W.whole_part 32 s at x i ex),
       )
 
-  outputs-stand : (prev : List ℕ) (at : ℕ) (v : TransferableOutput) (m : ℕ) → read (not_below transferable_output prev) s at ≡ took v m → All (output_entry at m v)
+  outputs-stand : (prev : List ℕ) (at : ℕ) (v : TransferableOutput) (m : ℕ) → read (not_below transferable_output prev) s at ≡ took v m
+      → All (output_entry at m v)
   outputs-stand prev at v m h =
-      let (f, a) = output-stands E.Output at v m (guarded-inv transferable_output (λ a. not (below (transferable_output.write a) prev)) out_of_order at v m h) in
+      let (f, a) = output-stands E.Output at v m
+      (guarded-inv transferable_output (λ a. not (below (transferable_output.write a) prev)) out_of_order at v m h) in
       (record { typed = f; asset = a; txid = refl }, tt)
 
   exported-stand : (prev : List ℕ) (at : ℕ) (v : TransferableOutput) (m : ℕ) → read (not_below transferable_output prev) s at ≡ took v m

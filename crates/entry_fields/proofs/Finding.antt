@@ -32,7 +32,8 @@ use Rattle.element.specs.declared.Recipients.TheVariants as Q
 use Rattle.element.specs.declared.OperationFields.{OperationFields}
 use Rattle.element.proofs.Reading.{key-wide}
 use Rattle.transaction.proofs.Reading.{written_next}
-use Rattle.entry_fields.specs.code.Found.{on_terms, on_recipients, operation_of, action_found, operation_found, owners_found, output_of, body_found, output_found}
+use Rattle.entry_fields.specs.code.Found.{on_terms, on_recipients, operation_of, action_found}
+use Rattle.entry_fields.specs.code.Found.{operation_found, owners_found, output_of, body_found, output_found}
 use Rattle.entry_fields.specs.code.Found.{input_found, terms_found, transfer_to, recipients_found}
 use Rattle.entry_fields.specs.declared.OwnersFound.{OwnersFound}
 use Rattle.entry_fields.specs.declared.OwnersFound.TheVariants as W

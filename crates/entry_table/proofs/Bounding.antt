@@ -23,7 +23,7 @@ use Rattle.transaction.specs.Entries.{EntryAt, state_output_entry, state_entries
 use Rattle.transaction.specs.Plan.{content_of, elements_of, Plan, shut, end, field, many, plan}
 use Rattle.transaction.specs.Form.{at_least, list_of, Value, form, plan_entries}
 use Rattle.transaction.specs.Avm.{avm}
-use Rattle.transaction.specs.Signed as Any
+use Rattle.transaction.specs.Signed as AnySigned
 use Rattle.transaction.specs.Family.{Signed, unsigned, head, wants, entries}
 use Rattle.transaction.specs.Codec.{Writing}
 use Rattle.transaction.specs.declared.ListName.{ListName}
@@ -139,7 +139,7 @@ credentials-few (w ∷ ws) at =
 -- ---- all entries
 
 pub entries-few : (most : ℕ) (s : List ℕ) (v : Signed (avm most)) → Writing (avm most) s v → length (entries (avm most) v) ≤ length s
-unfolding entries Any.signed unsigned wants
+unfolding entries AnySigned.signed unsigned wants
 entries-few most s (u, l) w =
     let p : Plan = plan u.0.type in
     let h : List ℕ = (head (avm most)).write u.0 in

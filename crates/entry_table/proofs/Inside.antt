@@ -19,7 +19,7 @@ use Rattle.transaction.specs.Entries.{EntryAt, state_output_entry, state_entries
 use Rattle.transaction.specs.Plan.{content_of, elements_of, Plan, shut, end, field, many, plan}
 use Rattle.transaction.specs.Form.{at_least, list_of, Value, form, plan_entries}
 use Rattle.transaction.specs.Avm.{avm}
-use Rattle.transaction.specs.Signed as Any
+use Rattle.transaction.specs.Signed as AnySigned
 use Rattle.transaction.specs.Family.{Signed, unsigned, head, wants, entries}
 use Rattle.transaction.specs.Codec.{Writing}
 use Rattle.transaction.specs.declared.ListName.{ListName}
@@ -48,7 +48,8 @@ module _ {A : Type 0} (E : List ℕ → Format A) (entry : ℕ → ℕ → A →
       let more = length-append w (list_write E (left E) w l) in
       inside-append (at + length (w ++ list_write E (left E) w l)) (entry at (at + length w) a) (entries_from E entry w (at + length w) l)
       (inside-more (at + length w) (at + length (w ++ list_write E (left E) w l)) (entry at (at + length w) a) (omega arith) (one prev at a))
-      (inside-more (at + length w + length (list_write E (left E) w l)) (at + length (w ++ list_write E (left E) w l)) (entries_from E entry w (at + length w) l)
+      (inside-more (at + length w + length (list_write E (left E) w l)) (at + length (w ++ list_write E (left E) w l))
+      (entries_from E entry w (at + length w) l)
       (omega arith) (list_inside w (at + length w) l))
 
   counted-inside : (least at : ℕ) (l : List A) → Inside (at + length ((at_least least E).write l)) (entries_from E entry [] (at + 4) l)
@@ -124,7 +125,7 @@ pub credentials-length : (ws : List Want) (l : List (List ℕ)) → (credentials
 credentials-length ws l g = length-credentials ws l g
 
 pub entries-inside : (most : ℕ) (s : List ℕ) (v : Signed (avm most)) → Writing (avm most) s v → Inside (length s) (entries (avm most) v)
-unfolding entries Any.signed unsigned wants
+unfolding entries AnySigned.signed unsigned wants
 entries-inside most s (u, l) w =
     let p : Plan = plan u.0.type in
     let h : List ℕ = (head (avm most)).write u.0 in

@@ -15,7 +15,7 @@ use Rattle.wire.specs.laws.Sizes.{length-integer}
 use Rattle.wire.specs.Sequence.{and_then, tag}
 use Rattle.wire.specs.Series.{series_from}
 use Rattle.wire.proofs.Bytes.{Slice, slice-bytes}
-use Rattle.transaction.specs.Signed as Any
+use Rattle.transaction.specs.Signed as AnySigned
 use Rattle.transaction.specs.Credentials.{Want, layout, pieces, credentials}
 use Rattle.transaction.specs.Entries.{EntryAt, entries_from, credential_entries}
 use Rattle.transaction.specs.Plan.{content_of, elements_of, Plan, shut, end, field, many, own_plan, plan, plan_of, type_id, type_of-id}
@@ -48,7 +48,8 @@ counted-inv : {A : Type 0} (least : ℕ) (E : List ℕ → Format A) (s : List �
     → (c f : ℕ) × (read (integer 4) s at ≡ took c f) × (read (series_from E [] c) s f ≡ took v m)
 unfolding at_least
 counted-inv least E s at v m e =
-    let (c, f, ec, e₁) = parse-inv (integer 4) s at (λ c f. pick (leb least c) ((series_from E [] c).parse s f refused took) (refused (by empty_list at))) v m e in
+    let (c, f, ec, e₁) = parse-inv (integer 4) s at
+    (λ c f. pick (leb least c) ((series_from E [] c).parse s f refused took) (refused (by empty_list at))) v m e in
     let (_, e₂) = pick_inv (leb least c) (by empty_list at) ((series_from E [] c).parse s f refused took) v m e₁ in
     (c, f, ec, e₂)
 
@@ -159,7 +160,7 @@ module _ (s : List ℕ) (b : Slice s) (most : ℕ) where
 
   -- the entries of an accepted transaction are ahead of the first cursor
   pub started : (v : Signed (avm most)) (n : ℕ) → check (avm most) s ≡ took v n → Ahead s most (type_id v.0.0.type) start (entries (avm most) v)
-  unfolding Any.check Any.signed
+  unfolding AnySigned.check AnySigned.signed
   started v n h =
       let (_, e₁) = pick_inv (leb (length s) 65536) (refusal too_long 0) _ v n h in
       let (u, c, eu, e₂) = parse-inv (unsigned (avm most)) s 0 _ v n e₁ in

@@ -149,7 +149,8 @@ module _ (d e : List ℕ) (bd : Bytes d) (be : Bytes e) where
         p.short,
         length-put_all (λ k. join (slot_at d k) (slot_at e k)) d 0 (R.slots d) spaced (λ k b.
             let fits = (spaced-at 0 (R.slots d) (length d) spaced k b).1 in
-            length-join (slot_at d _) (slot_at e _) (length-slot_at d _ fits) (length-slot_at e _ (omega (arith, length-eq U W d u l p, length-eq U W e u m q)))),
+            length-join (slot_at d _) (slot_at e _) (length-slot_at d _ fits)
+            (length-slot_at e _ (omega (arith, length-eq U W d u l p, length-eq U W e u m q)))),
       )
 
   pub merge-fits : (out s : List ℕ) (n : ℕ) → (A.Done n, s) ≡ merge_call R d e out → n ≤ 65536

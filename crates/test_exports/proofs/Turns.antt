@@ -24,7 +24,8 @@ refused-encoded w a e q n k m h = h ∙ ap (λ (i : ℕ). numbers_of w i e.place
 pub ruleset encoding = (done-encoded, refused-encoded)
 
 -- f is the step's definition, v the state that the integers encode, and r the answer of the step's method
-step-encoded : (f : Writer → Turn) (v w : Writer) (r : Step) (m b : List ℕ) → w ≡ v → after r b ≡ f w → m ≡ encoded_step r → exported_turn m b ≡ encoded_turn (f v)
+step-encoded : (f : Writer → Turn) (v w : Writer) (r : Step) (m b : List ℕ) → w ≡ v → after r b ≡ f w → m ≡ encoded_step r
+    → exported_turn m b ≡ encoded_turn (f v)
 step-encoded f v w r m b h t e = rw e (ap encoded_turn t ∙ ap (λ x. encoded_turn (f x)) h)
 
 -- The same for each number of arguments besides the state and the buffer s, so that `search` reads all of them off the goal

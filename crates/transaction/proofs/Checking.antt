@@ -16,7 +16,7 @@ use Rattle.wire.specs.code.Answer.{ended}
 use Rattle.wire.proofs.Reading as W
 use Rattle.element.proofs.Reading.{answer-took, answer-refused}
 use Rattle.transaction.specs.Credentials.{credentials}
-use Rattle.transaction.specs.Signed as Any
+use Rattle.transaction.specs.Signed as AnySigned
 use Rattle.transaction.specs.Family.{Unsigned, unsigned, wants, signed}
 use Rattle.transaction.specs.Avm.{avm}
 use Rattle.transaction.specs.Answer.{layout, checked}
@@ -29,14 +29,14 @@ use Rattle.transaction.specs.declared.Checked.TheVariants as C
 
 module _ (most : ℕ) where
   pub from-check : (s : List ℕ) (z : Checked)
-      → z ≡ pick (leb (length s) Any.most_bytes)
+      → z ≡ pick (leb (length s) AnySigned.most_bytes)
       ((unsigned (avm most)).parse s 0 C.Refused
       (λ u m. (credentials (wants (avm most) u)).parse s m C.Refused
       (λ l n. pick (eqb n (length s)) (C.Accepted (layout most u) n) (C.Refused (refusal bytes_after_end n)))))
       (C.Refused (refusal too_long 0))
       → z ≡ checked most s
-  unfolding Any.check Any.signed
-  from-check s z e = e ∙ whole_same (signed (avm most)) Any.most_bytes s C.Refused (λ v n. C.Accepted (layout most v.0) n)
+  unfolding AnySigned.check AnySigned.signed
+  from-check s z e = e ∙ whole_same (signed (avm most)) AnySigned.most_bytes s C.Refused (λ v n. C.Accepted (layout most v.0) n)
 
   module _ {R : Type 0} (s : List ℕ) (z : R) (stop : Refusal → R) (go : Unsigned (avm most) → ℕ → R) (x : UnsignedRead) (p : x ≡ unsigned_at most s) where
     pub on-unsigned : (w : Layout) → x ≡ U.Whole w

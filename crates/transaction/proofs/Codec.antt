@@ -8,26 +8,26 @@ use Rattle.wire.specs.Format.{took, refused}
 use Rattle.wire.proofs.Format.{local, write-inj}
 use Rattle.wire.proofs.Whole.{whole-sound, whole-complete, whole-ruled, whole-placed}
 use Rattle.transaction.specs.Signed.{most_bytes, taken}
-use Rattle.transaction.specs.Signed as Any
+use Rattle.transaction.specs.Signed as AnySigned
 use Rattle.transaction.specs.Family.{Family, unsigned, Signed, signed, check}
 use Rattle.transaction.specs.Codec.{Writing, Codec}
 use Rattle.transaction.proofs.Signed.{taken-inv}
 
 module _ (F : Family) where
   after_read : (s : List ℕ) (v : Signed F) (n : ℕ) → Bytes s → check F s ≡ took v n → Writing F s v × (n ≡ length s)
-  unfolding Any.check
+  unfolding AnySigned.check
   after_read s v n b e =
       let (g, w, m, h) = whole-sound (signed F) most_bytes s v n b e in
       (record { good = g; written = w; short = h }, m)
 
   after_write : (s : List ℕ) (v : Signed F) → Writing F s v → check F s ≡ took v (length s)
-  unfolding Any.check
+  unfolding AnySigned.check
   after_write s v w =
       subst (λ (d : List ℕ). length d ≤ most_bytes → check F d ≡ took v (length d)) w.written
       (λ h. whole-complete (signed F) most_bytes v refused took w.good h) w.short
 
   pub codec : Codec F
-  unfolding Any.check
+  unfolding AnySigned.check
   codec =
       record {
         accepted-exactly = λ s b. (

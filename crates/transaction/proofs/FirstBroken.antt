@@ -24,7 +24,7 @@ use Rattle.wire.specs.Whole.{whole}
 use Rattle.wire.proofs.Whole.{whole-sound}
 use Rattle.wire.specs.declared.Refusal.{Refusal}
 use Rattle.transaction.specs.Signed.{most_bytes, taken}
-use Rattle.transaction.specs.Signed as Any
+use Rattle.transaction.specs.Signed as AnySigned
 use Rattle.transaction.specs.Family.{Family, signed}
 use Rattle.transaction.specs.FirstBroken.{Refuses, Moment, FirstBroken}
 use Rattle.transaction.proofs.Signed.{taken-inv}
@@ -218,7 +218,7 @@ module _ {A : Type 0} (G : Format A) (most : ℕ) where
 module _ (F : Family) where
   moment : (s : List ℕ) (x : Rule) (p : ℕ) → Bytes s → (x ≡ too_long → ⊥) → (x ≡ rule_of cut_short → ⊥) → (x ≡ bytes_after_end → ⊥)
       → Refuses F s x p → (m : ℕ) × Moment F s x p m
-  unfolding Any.check
+  unfolding AnySigned.check
   moment s x p b n₁ n₂ n₁₃ q =
       let (h, r) = rule-read (signed F) most_bytes s (refusal x p) n₁ n₁₃ q in
       let (m, i, f, w) = shortest (signed F) s b in
@@ -233,7 +233,7 @@ module _ (F : Family) where
       )
 
   pub first-broken : FirstBroken F
-  unfolding Any.check
+  unfolding AnySigned.check
   first-broken =
       record {
         above_most = long-exactly (signed F) most_bytes;

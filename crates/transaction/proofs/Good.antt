@@ -34,7 +34,7 @@ use Rattle.transaction.specs.Plan.{own_plan, type_id, type_of, type_of-id, types
 use Rattle.transaction.specs.Form.{at_least, Value, form, asked, wanted}
 use Rattle.transaction.specs.Avm.{avm}
 use Rattle.transaction.specs.Family.{Head, head, unsigned, wants, Signed, signed}
-use Rattle.transaction.specs.Signed as Any
+use Rattle.transaction.specs.Signed as AnySigned
 use Rattle.transaction.specs.Transaction.{Own, plain, create_asset, operate, import_from, export_to, Transaction, input_want, operation_want}
 use Rattle.transaction.specs.Transaction.{own_wants, credentials_of, GoodOutputs, GoodInputs, GoodOperations, GoodStates, GoodOwn}
 use Rattle.transaction.specs.Transaction.{GoodTransaction}
@@ -311,7 +311,7 @@ head-good most h = (
 )
 
 pub transaction-good : (most : ℕ) (v : Signed (avm most)) → (signed (avm most)).Good v ↔ GoodTransaction most (reading most v)
-unfolding Any.signed unsigned form reading
+unfolding AnySigned.signed unsigned form reading
 transaction-good most ((h, (outs, (ins, (memo, own)))), signatures) = (
   λ g.
       let (network, chain) = (head-good most h).0 g.0.0 in

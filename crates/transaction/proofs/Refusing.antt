@@ -19,7 +19,7 @@ use Rattle.wire.specs.Series.{not_below}
 use Rattle.element.specs.Outputs.{transferable_output}
 use Rattle.element.specs.Inputs.{key_width, input}
 use Rattle.element.proofs.Refusing.{transferable-refuses, input-refuses, operation-refuses, state-refuses}
-use Rattle.transaction.specs.Signed as Any
+use Rattle.transaction.specs.Signed as AnySigned
 use Rattle.transaction.specs.Signed.{most_bytes}
 use Rattle.transaction.specs.Plan.{content_of, elements_of, Plan, shut, end, field, many}
 use Rattle.transaction.specs.Form.{at_least, list_of, form}
@@ -122,7 +122,7 @@ rule-listed empty_list = one_of check_numbers 11 refl
 rule-listed wrong_count = one_of check_numbers 12 refl
 
 pub check-numbers : (F : Family) (s : List ℕ) (e : Refusal) → check F s ≡ refused e → OneOf (number_of e) check_numbers
-unfolding Any.check
+unfolding AnySigned.check
 check-numbers F s e =
     whole-refuses (NumberIn check_numbers) (signed F) most_bytes
     (λ s at e q. let (r, i) = (signed F).ruled s at e q in subst (NumberIn check_numbers) (sym i) (rule-listed r))

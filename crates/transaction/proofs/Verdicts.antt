@@ -12,7 +12,7 @@ use Rattle.wire.specs.Bytes.{Bytes}
 use Rattle.wire.specs.Numbers.{number_of, refusal, too_long}
 use Rattle.wire.specs.Format.{Result, took, refused, on_result, verdict}
 use Rattle.wire.specs.laws.Format.{refused-placed}
-use Rattle.transaction.specs.Signed as Any
+use Rattle.transaction.specs.Signed as AnySigned
 use Rattle.transaction.specs.Plan.{plan}
 use Rattle.transaction.specs.Form.{form}
 use Rattle.transaction.specs.Avm.{avm}
@@ -36,13 +36,13 @@ module _ (most : ℕ) where
   refused-check s e = refused-inv (λ v. layout most v.0) (check (avm most) s) e
 
   -- the place is inside the bytes or at their end; for too many bytes it is 0
-  pub checked-place : (s : List ℕ) (e : Refusal) → Bytes s → C.Refused e ≡ checked most s → e.place ≤ Any.most_bytes
-  unfolding Any.check
-  checked-place s e bs q = fits (leb (length s) Any.most_bytes) refl (refused-check s e q)
+  pub checked-place : (s : List ℕ) (e : Refusal) → Bytes s → C.Refused e ≡ checked most s → e.place ≤ AnySigned.most_bytes
+  unfolding AnySigned.check
+  checked-place s e bs q = fits (leb (length s) AnySigned.most_bytes) refl (refused-check s e q)
     where
-      fits : (b : Bool) → leb (length s) Any.most_bytes ≡ b → check (avm most) s ≡ refused e → e.place ≤ Any.most_bytes
-      fits true p r = omega (arith, leb-true (length s) Any.most_bytes p, (codec (avm most)).refused-at s e bs r)
-      fits false p r = refused-placed {A = Signed (avm most)} Any.most_bytes (refusal too_long 0) e (omega arith) (rw p at r)
+      fits : (b : Bool) → leb (length s) AnySigned.most_bytes ≡ b → check (avm most) s ≡ refused e → e.place ≤ AnySigned.most_bytes
+      fits true p r = omega (arith, leb-true (length s) AnySigned.most_bytes p, (codec (avm most)).refused-at s e bs r)
+      fits false p r = refused-placed {A = Signed (avm most)} AnySigned.most_bytes (refusal too_long 0) e (omega arith) (rw p at r)
 
   -- the verdict of a check that refuses
   pub checked_refused : (s : List ℕ) (e : Refusal) → C.Refused e ≡ checked most s → verdict (check (avm most) s) ≡ (number_of e, e.place)

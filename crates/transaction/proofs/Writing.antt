@@ -19,7 +19,7 @@ use Rattle.transaction.specs.Plan.{own_plan, type_id}
 use Rattle.transaction.specs.Form.{at_least, form}
 use Rattle.transaction.specs.Avm.{avm}
 use Rattle.transaction.specs.Family.{Head, head, unsigned, wants, signed}
-use Rattle.transaction.specs.Signed as Any
+use Rattle.transaction.specs.Signed as AnySigned
 use Rattle.transaction.specs.Transaction.{Own, plain, create_asset, operate, import_from, export_to, Transaction, credentials_of}
 use Rattle.transaction.specs.PlainBytes.{plain_type_id, own_bytes, base_bytes, plain_credential_type, credential_bytes, bytes_of}
 use Rattle.transaction.specs.Accepted.{own_type, own_value, value_of}
@@ -118,6 +118,6 @@ unsigned_bytes most t =
     )
 
 pub transaction-bytes : (most : ℕ) (t : Transaction) → (signed (avm most)).write (value_of most t) ≡ bytes_of t
-unfolding Any.signed bytes_of value_of
+unfolding AnySigned.signed bytes_of value_of
 transaction-bytes most t =
     simp (unsigned_bytes most t, wants-value most t, credentials-bytes (credentials_of t) (value_of most t).1, append_assoc)

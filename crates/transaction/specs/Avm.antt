@@ -6,4 +6,5 @@ use Rattle.transaction.specs.declared.TransactionType.{TransactionType}
 
 -- the family with memos of at most `most` bytes
 abbrev pub avm : ℕ → Family
-avm most = record { TransactionType = TransactionType; type_id = type_id; type_of = type_of; type_of-id = type_of-id; types = types; plan = plan; memo_most = most }
+avm most =
+    record { TransactionType = TransactionType; type_id = type_id; type_of = type_of; type_of-id = type_of-id; types = types; plan = plan; memo_most = most }

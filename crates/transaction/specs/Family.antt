@@ -10,7 +10,7 @@ use Rattle.transaction.specs.Credentials.{Want}
 use Rattle.transaction.specs.Entries.{EntryAt, nth, credential_entries}
 use Rattle.transaction.specs.Plan.{Plan}
 use Rattle.transaction.specs.Form.{Value, form, wanted, plan_entries}
-use Rattle.transaction.specs.Signed as Any
+use Rattle.transaction.specs.Signed as AnySigned
 
 pub record Family : Type 1 where
   pub TransactionType : Type 0
@@ -57,13 +57,13 @@ module _ (F : Family) where
   Signed = Unsigned × List (List ℕ)
 
   abbrev pub signed : Format Signed
-  signed = Any.signed unsigned wants
+  signed = AnySigned.signed unsigned wants
 
   abbrev pub check : List ℕ → Result Signed
-  check = Any.check unsigned wants
+  check = AnySigned.check unsigned wants
 
   abbrev pub accepted : List ℕ → Bool
-  accepted = Any.accepted unsigned wants
+  accepted = AnySigned.accepted unsigned wants
 
   -- all entries in byte order: those of the plan's segments, then the credentials
   unfoldable pub entries : Signed → List EntryAt

@@ -12,7 +12,7 @@ use Rattle.wire.specs.Bytes.{pick}
 use Rattle.wire.specs.declared.Refusal.{Refusal}
 use Rattle.wire.specs.Numbers.{refusal, no_room, too_long}
 use Rattle.transaction.specs.Signed.{most_bytes}
-use Rattle.transaction.specs.Signed as Any
+use Rattle.transaction.specs.Signed as AnySigned
 use Rattle.transaction.specs.Answer.{checked}
 use Rattle.transaction.specs.declared.Checked.{Checked}
 use Rattle.transaction.specs.declared.Checked.TheVariants as C
@@ -30,7 +30,7 @@ kept-answer (S.Refused e) n p s = refl
 module _ (most : ℕ) where
   -- more than 65,536 bytes are refused as 1
   pub checked-long : (s : List ℕ) → most_bytes < length s → checked most s ≡ C.Refused (refusal too_long 0)
-  unfolding Any.check
+  unfolding AnySigned.check
   checked-long s h = rw (lt-leb (length s) most_bytes h)
 
   module _ (n : ℕ) (p s : List ℕ) where

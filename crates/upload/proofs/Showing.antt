@@ -14,7 +14,7 @@ use Rattle.wire.proofs.Numbers.{number-range}
 use Rattle.wire.specs.Format.{Result, on_result}
 use Rattle.wire.proofs.Whole.{whole-stable}
 use Rattle.transaction.specs.Signed.{most_bytes}
-use Rattle.transaction.specs.Signed as Any
+use Rattle.transaction.specs.Signed as AnySigned
 use Rattle.transaction.specs.Family.{Signed, signed}
 use Rattle.transaction.specs.Avm.{avm}
 use Rattle.transaction.specs.Answer.{layout, checked, checked_number}
@@ -65,7 +65,7 @@ shown-inv (C.Refused d) e h = go (eqb (number_of d) 2) refl h
 pub checked-stable : (most : ℕ) (b t : List ℕ) (e : Refusal) → Bytes b → (number_of e ≡ 2 → ⊥) → length (b ++ t) ≤ most_bytes
     → checked most b ≡ C.Refused e
     → checked most (b ++ t) ≡ C.Refused e
-unfolding Any.check
+unfolding AnySigned.check
 checked-stable most b t e bs ne h q =
     ap (λ (o : Result (Signed (avm most))). on_result o C.Refused (λ v n. C.Accepted (layout most v.0) n))
     (whole-stable (signed (avm most)) most_bytes b t e bs (λ z. ne (ap rule_number z)) h (refused-check most b e (sym q)))

@@ -10,7 +10,7 @@ use Rattle.wire.specs.Fields.{integer, constant}
 use Rattle.wire.specs.Parsers.{blob_parse}
 use Rattle.wire.specs.declared.Refusal.{Refusal}
 use Rattle.transaction.specs.Signed.{most_bytes}
-use Rattle.transaction.specs.Signed as Any
+use Rattle.transaction.specs.Signed as AnySigned
 use Rattle.transaction.specs.Family.{unsigned, head}
 use Rattle.transaction.specs.Answer.{checked}
 use Rattle.upload.specs.declared.Standing.{Standing}
@@ -142,5 +142,5 @@ module _ (most : ℕ) where
 -- ---- no byte at all is cut short
 
 pub empty-more : (most : ℕ) → shown (checked most []) ≡ S.NeedMore
-unfolding shown Any.check unsigned head constant integer blob_parse
+unfolding shown AnySigned.check unsigned head constant integer blob_parse
 empty-more most = refl

@@ -35,10 +35,6 @@ found p q = sym p ∙ q
 
 -- ---- an integer read byte by byte
 
--- the integer that all bytes of a string encode
-pub value-all : (k : ℕ) (w : List ℕ) (r : ℕ) → length w ≡ k → r ≡ value (take k (drop 0 w)) → r ≡ value w
-value-all k w r l e = e ∙ ap value (take_all k w (omega arith))
-
 value-snoc : (xs : List ℕ) (x : ℕ) → value (xs ++ (x ∷ [])) ≡ value xs * 256 + x
 unfolding value
 value-snoc [] x = omega arith
@@ -168,7 +164,13 @@ module _ (a b : List ℕ) (i : ℕ) (y : Bool) (w : below_from a b i ≡ y) (m :
   below_on h e =
       let p : i < length a = omega arith in
       let q : i < length b = omega arith in
-      found (rw (add-one, drop-cons a i 0, drop-cons b i 0, le-ltb (get_or a i 0) (get_or b i 0) (omega arith), le-ltb (get_or b i 0) (get_or a i 0) (omega arith))) w
+      found (rw (
+        add-one,
+        drop-cons a i 0,
+        drop-cons b i 0,
+        le-ltb (get_or a i 0) (get_or b i 0) (omega arith),
+        le-ltb (get_or b i 0) (get_or a i 0) (omega arith),
+      )) w
 
   pub below-ended : m ≤ i → ltb i (length b) ≡ y
   unfolding below below_from

@@ -180,7 +180,8 @@ pub ruleset passing = (part-next, part-refused, value-next, value-short, integer
 -- an integer that encodes a type
 module _ {B K R : Type 0} (code : K → ℕ) (decode : ℕ → K) (back : (k : K) → decode (code k) ≡ k) (w : ℕ) (ks : List K) (r : ReadingRule)
     (s : List ℕ) (at : ℕ) (k : K → ℕ → Result B) (go : B → ℕ → R) (z : R) (x : Integer) (p : x ≡ valued (integer w) s at) where
-  tag-parse : (Yields ((integer w).parse s at refused (λ n m. k (decode n) m)) go z) → Yields ((tag code decode back (integer w) ks r).parse s at refused k) go z
+  tag-parse : (Yields ((integer w).parse s at refused (λ n m. k (decode n) m)) go z)
+      → Yields ((tag code decode back (integer w) ks r).parse s at refused k) go z
   unfolding tag Yields
   tag-parse h v n e =
       let (c, m, ec, e₁) = parse-inv (integer w) s at _ v n e in

@@ -76,7 +76,8 @@ module _ {R : Type 0} (k : ℕ) (s : List ℕ) (at : ℕ) (z : R) (stop : Refusa
   unfolding blob blob_parse
   blob-there go p h e = rw (found p h) e
 
-  pub blob-cut : (go : List ℕ → ℕ → R) → t ≡ leb k (length s - at) → t ≡ false → (f : Refusal) → f ≡ cut_at k s at → z ≡ stop f → z ≡ (blob k).parse s at stop go
+  pub blob-cut : (go : List ℕ → ℕ → R) → t ≡ leb k (length s - at) → t ≡ false → (f : Refusal) → f ≡ cut_at k s at → z ≡ stop f
+      → z ≡ (blob k).parse s at stop go
   unfolding blob blob_parse
   blob-cut go p h f g e = rw (found p h) (e ∙ ap stop g)
 
@@ -85,7 +86,8 @@ module _ {R : Type 0} (k : ℕ) (s : List ℕ) (at : ℕ) (z : R) (stop : Refusa
   unfolding integer
   integer-there go v p h q e = blob-there (λ b m. go (value b) m) p h (e ∙ ap (λ u. go u (at + k)) q)
 
-  pub integer-cut : (go : ℕ → ℕ → R) → t ≡ leb k (length s - at) → t ≡ false → (f : Refusal) → f ≡ cut_at k s at → z ≡ stop f → z ≡ (integer k).parse s at stop go
+  pub integer-cut : (go : ℕ → ℕ → R) → t ≡ leb k (length s - at) → t ≡ false → (f : Refusal) → f ≡ cut_at k s at → z ≡ stop f
+      → z ≡ (integer k).parse s at stop go
   unfolding integer
   integer-cut go p h f g e = blob-cut (λ b m. go (value b) m) p h f g e
 

@@ -59,7 +59,8 @@ module _ {A : Type 0} (F : Format A) (most : ℕ) where
       fits false = refl
 
   -- a refusal other than 2 stays when bytes are appended, if they are still at most `most`
-  pub whole-stable : (s t : List ℕ) (e : Refusal) → Bytes s → (e.rule ≡ rule_of cut_short → ⊥) → length (s ++ t) ≤ most → whole F most s refused took ≡ refused e
+  pub whole-stable : (s t : List ℕ) (e : Refusal) → Bytes s → (e.rule ≡ rule_of cut_short → ⊥) → length (s ++ t) ≤ most
+      → whole F most s refused took ≡ refused e
       → whole F most (s ++ t) refused took ≡ refused e
   whole-stable s t e bs ne h q =
       let few : length s ≤ most = omega (arith, length-append s t) in
@@ -82,7 +83,8 @@ module _ {A : Type 0} (F : Format A) (most : ℕ) where
       behind v n true q = took-refused v n e q
       behind v n false q = let z = ap rule_number (refused-rule {A = A} (refusal bytes_after_end n) e q) in (omega arith, omega arith)
 
-      inside : (o : Result A) → read F s 0 ≡ o → on_result o refused (λ v n. pick (eqb n (length s)) (took v n) (refused (refusal bytes_after_end n))) ≡ refused e
+      inside : (o : Result A) → read F s 0 ≡ o → on_result o refused (λ v n. pick (eqb n (length s)) (took v n) (refused (refusal bytes_after_end n)))
+          ≡ refused e
           → (1 ≤ number_of e) × (number_of e ≤ 13)
       inside (took v n) r q = behind v n (eqb n (length s)) q
       inside (refused d) r q =

@@ -155,20 +155,6 @@ fn value_at(s: &[u8], at: usize, width: usize) -> u64
     total
 }
 
-// The integer that 8 bytes encode. By value, the compiler loads them at once.
-pub fn word_of(word: [u8; 8]) -> u64
-    ensures { result ≡ value word }
-{
-    value_at(&word, 0, 8)
-}
-
-// The integer that 4 bytes encode.
-pub fn half_of(half: [u8; 4]) -> u64
-    ensures { result ≡ value half }
-{
-    value_at(&half, 0, 4)
-}
-
 // An integer of any width that fits a u64.
 fn integer_at(s: &[u8], at: usize, width: usize) -> Integer
     requires { width ≤ 8 }

@@ -33,7 +33,8 @@ module _ (l : List ℕ) (i at : ℕ) (b y : List ℕ) (h : overwrite b at (integ
       let D : List ℕ = digits 4 n in
       let r : List ℕ = integers_bytes (drop (i + 1) l) in
       let d = length_digits 4 n in
-      let front : integers_bytes (drop i l) ≡ D ++ r = ap integers_bytes (drop-cons l i 0 k) ∙ ap (λ (j : ℕ). D ++ integers_bytes (drop j l)) (sym (add-one i)) in
+      let front : integers_bytes (drop i l) ≡ D ++ r = ap integers_bytes (drop-cons l i 0 k)
+      ∙ ap (λ (j : ℕ). D ++ integers_bytes (drop j l)) (sym (add-one i)) in
       ap (λ (z : List ℕ). overwrite z (at + 4) r) (e ∙ integer-put b at n f (omega (arith, w i)))
       ∙ overwrite-more b at D r (at + 4) (omega arith) (omega arith) ∙ ap (overwrite b at) (sym front) ∙ h
 

@@ -71,7 +71,8 @@ pub string-judged : (most : ℕ) (b : List ℕ)
 unfolding judged string named and_then guard
 string-judged most b =
     integer-front 3 (length b) b _ _
-    ∙ ap (λ (x : Verdict). pick (leb (length b) most) x (refused_by (rule_of bad_length))) (bytes_after 3 (length b) b _ _ ∙ all_read (digits 4 (length b) ++ b))
+    ∙ ap (λ (x : Verdict). pick (leb (length b) most) x (refused_by (rule_of bad_length))) (bytes_after 3 (length b) b _ _
+    ∙ all_read (digits 4 (length b) ++ b))
 
 pub text-judged : (most : ℕ) (b : List ℕ) → judged (text most) (given (digits 2 (length b) ++ b)) J.Allowed ≡ text_rules most b
 unfolding judged text named and_then guard printable guard_at

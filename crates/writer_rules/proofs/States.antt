@@ -74,7 +74,8 @@ module _ (last b : List ℕ) (sl : Slice b) (x : Integer) (p : x ≡ valued (int
       let r = W.integer-value-inv (read (integer 4) b 0) fx n (sym ((integer 4).same b 0 N.Refused N.Value) ∙ found p q) in
       let (_, st) = (integer 4).sound b 0 fx n (slice-bytes b sl) r in
       let four : n ≡ 4 = omega (arith, st.ends, length-integer 4 fx) in
-      let own : fx_id.write (fx_of fx) ≡ between 0 4 b = fx_of-write fx small ∙ stands-part b 0 ((integer 4).write fx) n st ∙ ap (λ (k : ℕ). between 0 k b) four in
+      let own : fx_id.write (fx_of fx) ≡ between 0 4 b = fx_of-write fx small ∙ stands-part b 0 ((integer 4).write fx) n st
+      ∙ ap (λ (k : ℕ). between 0 k b) four in
       ap₂ below (sym ea) (own ∙ sym eb) ∙ sym e
 
   module _ {R : Type 0} (z X Y : R) where

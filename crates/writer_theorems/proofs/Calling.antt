@@ -25,7 +25,7 @@ use Rattle.element.specs.Operations.{InitialState, initial_state_after, initial_
 use Rattle.string.specs.Strings as Strings
 use Rattle.transaction.specs.Slots.{slot_at, put_all}
 use Rattle.transaction.specs.Credentials.{layout, blanks}
-use Rattle.transaction.specs.Signed as Any
+use Rattle.transaction.specs.Signed as AnySigned
 use Rattle.transaction.specs.Signed.{most_bytes}
 use Rattle.transaction.specs.Plan.{elements_of, Plan, shut, end, field, many, own_plan, type_id}
 use Rattle.transaction.specs.Form.{list_of, Value, form}
@@ -261,7 +261,8 @@ module _ (most : ℕ) where
   unfolding input_after guard
   input-does l e p v g w s = same_step (avm most) L.Input l e w s (given ((input p).write v))
 
-  state-does : (p : List ℕ) (v : InitialState) → (initial_state p).Good v → Does most (C.state_call v) (puts_element L.State (given ((initial_state p).write v)))
+  state-does : (p : List ℕ) (v : InitialState) → (initial_state p).Good v
+      → Does most (C.state_call v) (puts_element L.State (given ((initial_state p).write v)))
   unfolding initial_state_after guard
   state-does p v g w s = refl
 
@@ -329,13 +330,13 @@ module _ (most : ℕ) where
     finish-done = ap (λ (x : Turn). x.step.answer) ends-alike ∙ (avm-round-trip most).finish-done d v n bs e s room
 
     pub blank-written : take (length d) (C.finish_after most (C.reading_calls most v.0) s).buffer
-        ≡ Any.assemble (unsigned (avm most)) (wants (avm most)) v.0 (blanks (layout (wants (avm most) v.0)))
+        ≡ AnySigned.assemble (unsigned (avm most)) (wants (avm most)) v.0 (blanks (layout (wants (avm most) v.0)))
     blank-written = ap (λ (x : Turn). take (length d) x.buffer) ends-alike ∙ (avm-round-trip most).blank-written d v n bs e s room
 
-    filled : put_all (Any.slots_at (unsigned (avm most)) (wants (avm most)) d) (slot_at d)
+    filled : put_all (AnySigned.slots_at (unsigned (avm most)) (wants (avm most)) d) (slot_at d)
         (take (length d) (C.finish_after most (C.reading_calls most v.0) s).buffer) ≡ d
     filled =
-        ap (λ (x : Turn). put_all (Any.slots_at (unsigned (avm most)) (wants (avm most)) d) (slot_at d) (take (length d) x.buffer)) ends-alike
+        ap (λ (x : Turn). put_all (AnySigned.slots_at (unsigned (avm most)) (wants (avm most)) d) (slot_at d) (take (length d) x.buffer)) ends-alike
         ∙ (avm-round-trip most).filled d v n bs e s room
 
 -- ---- the calls that write a reading have arguments of the methods' types

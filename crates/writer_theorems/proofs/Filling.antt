@@ -10,7 +10,7 @@ use Rattle.wire.specs.laws.Bytes.{length_digits}
 use Rattle.wire.specs.Fields.{integer}
 use Rattle.transaction.specs.Slots.{signature_width, slot_at, put_slot, put_all}
 use Rattle.transaction.specs.Credentials.{Want, Piece, due, signature, pieces, places, layout, credentials}
-use Rattle.transaction.specs.Signed as Any
+use Rattle.transaction.specs.Signed as AnySigned
 use Rattle.transaction.proofs.Signed.{slots-eq}
 
 fill-pieces : (ps : List Piece) (l m : List (List ℕ)) → (pieces ps).Good l → (pieces ps).Good m → (pre : List ℕ) (p : ℕ) → length pre ≡ p
@@ -40,9 +40,9 @@ fill-pieces (signature ∷ ps) (x ∷ l) (y ∷ m) g h pre p e d same =
     (same ∙ sym (append_assoc pre x ((pieces ps).write l)))
 
 module _ {U : Type 0} (body : _) (wants : U → List Want) where
-  pub fill-all : (d e : List ℕ) (u : U) (l m : List (List ℕ)) → Any.Parts body wants d u l → Any.Parts body wants e u m
-      → put_all (Any.slots_at body wants d) (slot_at d) e ≡ d
-  unfolding Any.assemble credentials
+  pub fill-all : (d e : List ℕ) (u : U) (l m : List (List ℕ)) → AnySigned.Parts body wants d u l → AnySigned.Parts body wants e u m
+      → put_all (AnySigned.slots_at body wants d) (slot_at d) e ≡ d
+  unfolding AnySigned.assemble credentials
   fill-all d e u l m p q =
       ap₂ (λ (ps : List ℕ) (z : List ℕ). put_all ps (slot_at d) z) (slots-eq body wants d u l p) q.same
       ∙ fill-pieces (layout (wants u)) l m p.signatures-good q.signatures-good (body.write u) (length (body.write u)) refl d p.same

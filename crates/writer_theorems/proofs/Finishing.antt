@@ -19,7 +19,7 @@ use Rattle.wire.proofs.Format.{read-complete}
 use Rattle.wire.specs.Fields.{integer, blob, constant}
 use Rattle.wire.specs.Sequence.{and_then, guard, named, tag, only}
 use Rattle.transaction.specs.Credentials.{layout, blanks}
-use Rattle.transaction.specs.Signed as Any
+use Rattle.transaction.specs.Signed as AnySigned
 use Rattle.transaction.specs.Signed.{most_bytes}
 use Rattle.transaction.specs.Plan.{content_of, elements_of, Plan, shut, end, field, many}
 use Rattle.transaction.specs.Form.{list_of, form}
@@ -281,8 +281,8 @@ module _ (F : Family) where
         w s (opened w.type_id (suc w.phase) (w.at + length z) shut) (overwrite s w.at z)) closing-is
 
     pub finished-parts : w.at + length (blank_of F u) ≤ length s → w.at + length (blank_of F u) ≤ most_bytes
-        → Any.Parts (unsigned F) (wants F) (take (w.at + length (blank_of F u)) (overwrite s w.at (blank_of F u))) u (blank_signed u)
-    unfolding Any.assemble
+        → AnySigned.Parts (unsigned F) (wants F) (take (w.at + length (blank_of F u)) (overwrite s w.at (blank_of F u))) u (blank_signed u)
+    unfolding AnySigned.assemble
     finished-parts f k =
         let n : ℕ = w.at + length (blank_of F u) in
         let s' : List ℕ = overwrite s w.at (blank_of F u) in
@@ -297,7 +297,7 @@ module _ (F : Family) where
   pub data Outcome (t : Turn) : Type 0 where
     not-due : t.step.answer ≡ W.Refused (refusal step_not_due 0) → Outcome t
     room_missing : t.step.answer ≡ W.Refused (refusal no_room 0) → Outcome t
-    finished : (n : ℕ) → t.step.answer ≡ W.Done n → (u : Unsigned F) → Any.Parts (unsigned F) (wants F) (take n t.buffer) u (blank_signed u)
+    finished : (n : ℕ) → t.step.answer ≡ W.Done n → (u : Unsigned F) → AnySigned.Parts (unsigned F) (wants F) (take n t.buffer) u (blank_signed u)
         → Outcome t
 
   whole-outcome : (w : Writer) (s b : List ℕ) → Here w s b → (u : Unsigned F) → (unsigned F).Good u → (unsigned F).write u ≡ b
@@ -312,7 +312,7 @@ module _ (F : Family) where
       (λ r.
       let (f, k) = room-inv n s r in
       finished (n + 0) refl u
-      (subst (λ (i : ℕ). Any.Parts (unsigned F) (wants F) (take i s') u (blank_signed u)) (sym (add-zero n)) (finished-parts w s b h u g e f k)))
+      (subst (λ (i : ℕ). AnySigned.Parts (unsigned F) (wants F) (take i s') u (blank_signed u)) (sym (add-zero n)) (finished-parts w s b h u g e f k)))
       (room_missing refl))
 
   due-outcome : (first : Head F.TransactionType) → (head F).Good first → (q : Plan) (w : Writer) (s b : List ℕ)

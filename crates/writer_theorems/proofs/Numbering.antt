@@ -111,7 +111,8 @@ module _ (P : Rule → Type 0) where
   text-numbered most b h k =
       subst (Numbered P) (sym (ap (λ (z : List ℕ). judged (text most) (given z) J.Allowed) (text-write most b) ∙ text-judged most b))
       (pick-numbered P (ltb 0 (length b)) _ (rule_of bad_length)
-      (pick-numbered P (leb (length b) most) _ (rule_of bad_length) (pick-numbered P (eqb (unprintable b) (length b)) J.Allowed (rule_of not_printable) tt k) h) h)
+      (pick-numbered P (leb (length b) most) _ (rule_of bad_length)
+      (pick-numbered P (eqb (unprintable b) (length b)) J.Allowed (rule_of not_printable) tt k) h) h)
 
   denomination-numbered : (n : ℕ) → P (rule_of bad_denomination) → Numbered P (judged denomination (given (denomination.write n)) J.Allowed)
   denomination-numbered n h =
@@ -297,7 +298,8 @@ module _ (w : Writer) (s : List ℕ) (w' : Writer) (s' : List ℕ) where
   answered-rules (J.Refuse d) ((_, most), _) e = absurd (omega arith)
 
   -- a step answers 16 exactly if it is not due, and 14 if it is due and the buffer is short
-  guarded-not-due : (is_due : Bool) (v : Verdict) → (is_due ≡ true → Numbered Some v) → (number_by (guarded is_due w s v) ≡ rule_number step_not_due) ↔ (is_due ≡ false)
+  guarded-not-due : (is_due : Bool) (v : Verdict) → (is_due ≡ true → Numbered Some v) → (number_by (guarded is_due w s v) ≡ rule_number step_not_due)
+      ↔ (is_due ≡ false)
   unfolding answered
   guarded-not-due true v h =
       let rules = pick-numbered Some (leb w.at (length s)) v no_room (h refl) some-room in

@@ -188,7 +188,8 @@ module _ (most : ℕ) where
       occurs (C.input (zeros 32) 0 (zeros 32) amount indices) ((refl, bytes_of (zeros 32) refl), omega arith, (refl, bytes_of (zeros 32) refl), h, k) w s
 
   unfoldable input-cases : List (Case input)
-  unfolding put_element put_element_at judged answered prev room_for value digits below blob blob_parse integer list_parse list_write items input_after key spend
+  unfolding put_element put_element_at judged answered prev room_for value digits below blob blob_parse integer list_parse list_write items input_after key
+      spend
       constant
   input-cases =
       spends 1 [] (omega arith) tt (at 0 2 4) (zeros 100) refl 0 refl
@@ -225,7 +226,8 @@ module _ (most : ℕ) where
   states b h w s = occurs (C.state b) (bytes_of b h) w s
 
   unfoldable state-cases : List (Case state)
-  unfolding put_element put_element_at judged answered prev room_for value digits below blob_parse integer list_parse items initial_state_after fx_id state_outputs
+  unfolding put_element put_element_at judged answered prev room_for value digits below blob_parse integer list_parse items initial_state_after fx_id
+      state_outputs
       Outputs.output transfer_body string owners
   state-cases =
       states (zeros 8) refl (at 1 7 4) (zeros 100) refl 0 refl

@@ -13,7 +13,7 @@ use Rattle.wire.specs.Fields.{integer, blob, constant}
 use Rattle.wire.specs.Sequence.{and_then, guard, named, tag}
 use Rattle.transaction.specs.Slots.{slot_at, put_all}
 use Rattle.transaction.specs.Credentials.{credentials}
-use Rattle.transaction.specs.Signed as Any
+use Rattle.transaction.specs.Signed as AnySigned
 use Rattle.transaction.specs.Signed.{most_bytes}
 use Rattle.transaction.specs.Plan.{Plan, shut, end}
 use Rattle.transaction.specs.Form.{form}
@@ -103,7 +103,7 @@ module _ (F : Family) (ends : (k : F.TransactionType) → Ends (F.plan k)) where
   Finishes : Unsigned F → List ℕ → ℕ → Type 0
   Finishes u s n =
       AllDone F (spelled F u) fresh s × ((finish_after F (spelled F u) s).step.answer ≡ W.Done n)
-      × Any.Parts (unsigned F) (wants F) (take n (finish_after F (spelled F u) s).buffer) u (blank_signed F u)
+      × AnySigned.Parts (unsigned F) (wants F) (take n (finish_after F (spelled F u) s).buffer) u (blank_signed F u)
 
   finishes : (u : Unsigned F) → (unsigned F).Good u → (s : List ℕ) (n : ℕ) → n ≡ length ((unsigned F).write u) + length (blank_of F u) → n ≤ length s
       → n ≤ most_bytes → Finishes u s n
@@ -124,7 +124,7 @@ module _ (F : Family) (ends : (k : F.TransactionType) → Ends (F.plan k)) where
           ≡ answered (room_for (w.at + length (blank_of F u)) t)
           w t (opened w.type_id (suc w.phase) (w.at + length (blank_of F u)) shut) (overwrite t w.at (blank_of F u))
           → room_for (w.at + length (blank_of F u)) t ≡ J.Allowed
-          → Any.Parts (unsigned F) (wants F) (take (w.at + length (blank_of F u)) (overwrite t w.at (blank_of F u))) u (blank_signed F u) → Finishes u s n
+          → AnySigned.Parts (unsigned F) (wants F) (take (w.at + length (blank_of F u)) (overwrite t w.at (blank_of F u))) u (blank_signed F u) → Finishes u s n
       ended u w t n all r d there is fits p =
           let x : ℕ = w.at + length (blank_of F u) in
           let w' : Writer = opened w.type_id (suc w.phase) x shut in
@@ -134,17 +134,17 @@ module _ (F : Family) (ends : (k : F.TransactionType) → Ends (F.plan k)) where
           ∙ ap (λ (v : Verdict). answered v w t w' s') fits in (
             all,
             ap (λ (z : Turn). z.step.answer) last ∙ ap W.Done (add-zero x ∙ there),
-            subst (λ (z : Turn). Any.Parts (unsigned F) (wants F) (take n z.buffer) u (blank_signed F u)) (sym last)
-                (subst (λ (i : ℕ). Any.Parts (unsigned F) (wants F) (take i s') u (blank_signed F u)) there p),
+            subst (λ (z : Turn). AnySigned.Parts (unsigned F) (wants F) (take n z.buffer) u (blank_signed F u)) (sym last)
+                (subst (λ (i : ℕ). AnySigned.Parts (unsigned F) (wants F) (take i s') u (blank_signed F u)) there p),
           )
 
   -- d is accepted, and v is its reading
   module _ (d : List ℕ) (v : Signed F) (n : ℕ) (bs : Bytes d) (e : check F d ≡ took v n) (s : List ℕ) (room : length d ≤ length s) where
-    parts : Any.Parts (unsigned F) (wants F) d v.0 v.1
+    parts : AnySigned.Parts (unsigned F) (wants F) d v.0 v.1
     parts = parts-took (unsigned F) (wants F) d v n bs e
 
     trip : Finishes v.0 s (length d)
-    unfolding Any.assemble
+    unfolding AnySigned.assemble
     trip =
         let p = parts in
         let c = same_length (wants F v.0) v.1 p.signatures-good in
@@ -159,11 +159,11 @@ module _ (F : Family) (ends : (k : F.TransactionType) → Ends (F.plan k)) where
     unfolding Finishes
     trip-done = trip.1
 
-    trip-parts : Any.Parts (unsigned F) (wants F) (take (length d) (finish_after F (spelled F v.0) s).buffer) v.0 (blank_signed F v.0)
+    trip-parts : AnySigned.Parts (unsigned F) (wants F) (take (length d) (finish_after F (spelled F v.0) s).buffer) v.0 (blank_signed F v.0)
     unfolding Finishes
     trip-parts = trip.2
 
-    trip-filled : put_all (Any.slots_at (unsigned F) (wants F) d) (slot_at d) (take (length d) (finish_after F (spelled F v.0) s).buffer) ≡ d
+    trip-filled : put_all (AnySigned.slots_at (unsigned F) (wants F) d) (slot_at d) (take (length d) (finish_after F (spelled F v.0) s).buffer) ≡ d
     trip-filled =
         fill-all (unsigned F) (wants F) d (take (length d) (finish_after F (spelled F v.0) s).buffer) v.0 v.1 (blank_signed F v.0) parts trip-parts
 

@@ -13,7 +13,7 @@ use Rattle.transaction.specs.Slots.{slot_at, put_all}
 use Rattle.transaction.specs.Plan.{own_plan, type_id, plan_of}
 use Rattle.transaction.specs.Form.{Value}
 use Rattle.transaction.specs.Avm.{avm}
-use Rattle.transaction.specs.Signed as Any
+use Rattle.transaction.specs.Signed as AnySigned
 use Rattle.transaction.specs.Family.{Signed, Unsigned, unsigned, wants, check, accepted}
 use Rattle.transaction.specs.declared.TransactionType.{TransactionType}
 use Rattle.transaction.specs.declared.TransactionType.TheVariants as K
@@ -201,7 +201,8 @@ module _ (most : ℕ) where
     pub finish-done : (d : List ℕ) (v : Signed (avm most)) (n : ℕ) → Bytes d → check (avm most) d ≡ took v n → (s : List ℕ) → length d ≤ length s
         → (finish_after (reading_calls most v.0) s).step.answer ≡ W.Done (length d)
     pub filled : (d : List ℕ) (v : Signed (avm most)) (n : ℕ) → Bytes d → check (avm most) d ≡ took v n → (s : List ℕ) → length d ≤ length s
-        → put_all (Any.slots_at (unsigned (avm most)) (wants (avm most)) d) (slot_at d) (take (length d) (finish_after (reading_calls most v.0) s).buffer) ≡ d
+        → put_all (AnySigned.slots_at (unsigned (avm most)) (wants (avm most)) d) (slot_at d)
+        (take (length d) (finish_after (reading_calls most v.0) s).buffer) ≡ d
 
   -- a call's answer: its number, and its place
   abbrev pub number_of : Call → Writer → List ℕ → ℕ

@@ -7,7 +7,7 @@ use Rattle.wire.specs.Format.{took}
 use Rattle.wire.specs.declared.Refusal.{Refusal}
 use Rattle.transaction.specs.Slots.{slot_at, put_all}
 use Rattle.transaction.specs.Credentials.{layout, blanks}
-use Rattle.transaction.specs.Signed as Any
+use Rattle.transaction.specs.Signed as AnySigned
 use Rattle.transaction.specs.Family.{Family, Signed, unsigned, wants, check, accepted}
 use Rattle.writer.specs.declared.Written.TheVariants as W
 use Rattle.writer.specs.Steps.{Turn, fresh, finish}
@@ -32,7 +32,7 @@ module _ (F : Family) where
     pub finish-done : (d : List ℕ) (v : Signed F) (n : ℕ) → Bytes d → check F d ≡ took v n → (s : List ℕ) → length d ≤ length s
         → (finish_after (spelled F v.0) s).step.answer ≡ W.Done (length d)
     pub blank-written : (d : List ℕ) (v : Signed F) (n : ℕ) → Bytes d → check F d ≡ took v n → (s : List ℕ) → length d ≤ length s
-        → take (length d) (finish_after (spelled F v.0) s).buffer ≡ Any.assemble (unsigned F) (wants F) v.0 (blanks (layout (wants F v.0)))
+        → take (length d) (finish_after (spelled F v.0) s).buffer ≡ AnySigned.assemble (unsigned F) (wants F) v.0 (blanks (layout (wants F v.0)))
     -- d again, once each slot is filled with its signature
     pub filled : (d : List ℕ) (v : Signed F) (n : ℕ) → Bytes d → check F d ≡ took v n → (s : List ℕ) → length d ≤ length s
-        → put_all (Any.slots_at (unsigned F) (wants F) d) (slot_at d) (take (length d) (finish_after (spelled F v.0) s).buffer) ≡ d
+        → put_all (AnySigned.slots_at (unsigned F) (wants F) d) (slot_at d) (take (length d) (finish_after (spelled F v.0) s).buffer) ≡ d

@@ -1,9 +1,5 @@
-use Prim.Native.Nat.{◌+◌, ◌≤◌}
-use mathlib.Core.Path.{◌≡◌}
 use native.Mathlib.Omega.{arith}
-use lib.ListN.{length}
 use Rattle.draft_slots.proofs.Scanning.{range-ends, slots-counted}
-use Rattle.draft_slot_table.specs.code.Scan.{scan_from}
 use Rattle.draft_slot_table.proofs.Scanning.{counting}
 use Rattle.draft_slot_table.proofs.count.Goals as goal
 

@@ -1,9 +1,5 @@
-use Prim.Native.Nat.{◌+◌, ◌*◌, ◌≤◌}
-use mathlib.Core.Path.{◌≡◌, refl}
+use mathlib.Core.Path.{refl}
 use native.Mathlib.Omega.{arith}
-use lib.ListN.{length}
-use Rattle.draft_slot_table.specs.Slots.{rows}
-use Rattle.draft_slot_table.specs.code.Scan.{slots_in, put}
 use Rattle.draft_slot_table.proofs.Scanning.{same_length, running}
 use Rattle.draft_slot_table.proofs.put_range.Goals as goal
 

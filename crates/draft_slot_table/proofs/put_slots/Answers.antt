@@ -1,10 +1,6 @@
-use Prim.Native.Nat.{◌+◌, ◌*◌, ◌≤◌}
-use mathlib.Core.Path.{◌≡◌, refl}
+use mathlib.Core.Path.{refl}
 use native.Mathlib.Omega.{arith}
-use lib.ListN.{length}
 use Rattle.draft_slots.proofs.Scanning.{range-fits, range-starts}
-use Rattle.draft_slot_table.specs.Slots.{rows}
-use Rattle.draft_slot_table.specs.code.Scan.{scan_from, put}
 use Rattle.draft_slot_table.proofs.Scanning.{slotting}
 use Rattle.draft_slot_table.proofs.Scanning.{same_length, left_after, credential-ends, rows_fit, row-numbers, credential-counted}
 use Rattle.draft_slot_table.proofs.put_slots.Goals as goal

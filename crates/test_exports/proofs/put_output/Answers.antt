@@ -13,5 +13,6 @@ pub returns-in-NftMint : goal.returns-in-NftMint
 returns-in-NftMint c = search (by-case output_values, put_two)
 
 pub returns-in-NftTransfer : goal.returns-in-NftTransfer
-returns-in-NftTransfer c = put-nft-transfer _ _ _ _ _ c.in-NftTransfer.is _ _ _ _ _ _ c.put-in-NftTransfer.ensures c.put-in-NftTransfer-2.ensures c.put-in-NftTransfer-3.ensures
+returns-in-NftTransfer c = put-nft-transfer _ _ _ _ _ c.in-NftTransfer.is _ _ _ _ _ _ c.put-in-NftTransfer.ensures c.put-in-NftTransfer-2.ensures
+    c.put-in-NftTransfer-3.ensures
     c.put-in-NftTransfer-4.ensures c.put_owners-in-NftTransfer.ensures

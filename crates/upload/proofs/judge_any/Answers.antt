@@ -13,7 +13,8 @@ returns-then-store-at-2 c = let a = c.args in
 
 pub returns-then-at-piece-gt-MOST_BYTES : goal.returns-then-at-piece-gt-MOST_BYTES
 returns-then-at-piece-gt-MOST_BYTES c = let a = c.args in
-    any-long _ a.at a.piece.now a.store.now (omega (arith, c.if-store-at-2.false)) c.if-at-piece-gt-MOST_BYTES.true _ c.refused-then-at-piece-gt-MOST_BYTES.ensures
+    any-long _ a.at a.piece.now a.store.now (omega (arith, c.if-store-at-2.false)) c.if-at-piece-gt-MOST_BYTES.true _
+    c.refused-then-at-piece-gt-MOST_BYTES.ensures
 
 pub returns-then-piece-le-SHORT : goal.returns-then-piece-le-SHORT
 returns-then-piece-le-SHORT c = let a = c.args in

@@ -1,9 +1,7 @@
-use Prim.Native.Nat.{◌+◌, ◌-◌, ◌*◌, ◌≤◌}
-use mathlib.Core.Path.{◌≡◌, refl, ap}
+use Prim.Native.Nat.{◌+◌, ◌≤◌}
+use mathlib.Core.Path.{refl, ap}
 use native.Mathlib.Omega.{arith}
-use lib.ListN.{length, drop, get_or}
-use Rattle.writer_rules.specs.code.Elements.{integers_bytes}
-use Rattle.writer_buffer.specs.Stores.{overwrite}
+use lib.ListN.{length, get_or}
 use Rattle.writer_buffer.proofs.Numbering.{integers-end, integers-on}
 use Rattle.writer_buffer.proofs.Stores.{length-integer}
 use Rattle.writer_buffer.proofs.put_integers.Goals as goal
@@ -16,12 +14,12 @@ overflow_cast-numbers c = omega (arith, c.type_inv.numbers c.loop-i.i)
 
 pub put_u32-requires : goal.put_u32-requires
 put_u32-requires c = omega (
-      arith,
-      c.loop-i.invariant.0,
-      c.loop-i.invariant.1,
-      c.loop-i-test.true,
-      c.requires,
-    )
+  arith,
+  c.loop-i.invariant.0,
+  c.loop-i.invariant.1,
+  c.loop-i-test.true,
+  c.requires,
+)
 
 pub loop-i-preserved : goal.loop-i-preserved
 loop-i-preserved c = let l = c.loop-i in let inv = l.invariant in let fits : l.at + 4 ≤ length l.buf = omega

@@ -1,7 +1,5 @@
 -- `writer_buffer::store` meets its contract. Assumes nothing.
-use Prim.Native.Nat.{◌+◌, ◌*◌, ◌≤◌}
 use native.Mathlib.Omega.{arith}
-use lib.ListN.{length}
 use Rattle.writer_buffer.proofs.Stores.{room-refuses, room-made, all_done}
 use Rattle.writer_buffer.proofs.Numbering.{length-all, sum_fits}
 use Rattle.writer_buffer.proofs.store.Goals as goal

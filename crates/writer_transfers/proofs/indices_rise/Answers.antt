@@ -1,8 +1,5 @@
-use Prim.Native.Nat.{◌-◌, ◌≤◌}
-use mathlib.Core.Path.{◌≡◌, refl}
+use mathlib.Core.Path.{refl}
 use native.Mathlib.Omega.{arith}
-use lib.ListN.{length, drop}
-use Rattle.writer_rules.specs.code.Elements.{rising}
 use Rattle.writer_transfers.proofs.Inputs.{rise}
 use Rattle.writer_transfers.proofs.indices_rise.Goals as goal
 

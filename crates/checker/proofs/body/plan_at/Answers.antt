@@ -1,10 +1,5 @@
-use Prim.Native.Nat.{◌+◌, ◌-◌, ◌*◌, ◌≤◌}
-use mathlib.Core.Path.{◌≡◌, refl}
+use mathlib.Core.Path.{refl}
 use native.Mathlib.Omega.{arith}
-use Rattle.transaction.specs.Plan.{plan_of}
-use Rattle.plan.specs.Due.{due}
-use Rattle.plan.specs.code.Rows.{last_phase}
-use Rattle.checker.specs.code.Segments.{plan_at}
 use Rattle.checker.proofs.Planning.{turns}
 use Rattle.checker.proofs.body.plan_at.Goals as goal
 

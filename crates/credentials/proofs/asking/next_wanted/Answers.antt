@@ -1,7 +1,5 @@
-use Prim.Native.Nat.{◌+◌, ◌-◌}
 use native.Mathlib.Omega.{arith}
-use Rattle.plan.specs.code.Rows.{last_phase}
-use Rattle.credentials.proofs.Ahead.{Onward, nexts}
+use Rattle.credentials.proofs.Ahead.{nexts}
 use Rattle.credentials.proofs.asking.next_wanted.Goals as goal
 
 pub loop-left-init : goal.loop-left-init

@@ -1,4 +1,4 @@
-use Rattle.credentials.proofs.Besides.{BesideOnward, onward}
+use Rattle.credentials.proofs.Besides.{onward}
 use Rattle.credentials.proofs.reading.beside.Goals as goal
 
 pub loop-left-init : goal.loop-left-init

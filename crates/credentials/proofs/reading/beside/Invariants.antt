@@ -1,9 +1,11 @@
 -- `credentials::reading::beside` meets its contract. The invariant: an answer for the credentials that are left is one for all. Assumes nothing.
-use Rattle.credentials.proofs.Besides.{BesideOnward, onward}
+use Rattle.credentials.proofs.Besides.{BesideOnward}
 use Rattle.credentials.proofs.reading.beside.Given as goal
 
 abbrev pub invariant-loop-left : goal.invariant-loop-left
-invariant-loop-left l =    BesideOnward l.s l.type_id record { phase = l.initial.phase; asks = l.initial.asks; at = l.initial.asks_at; left = l.initial.elements } l.count l.start
+invariant-loop-left l =
+    let i = l.initial in
+    BesideOnward l.s l.type_id record { phase = i.phase; asks = i.asks; at = i.asks_at; left = i.elements } l.count l.start
     record { phase = l.phase; asks = l.asks; at = l.asks_at; left = l.elements } l.left l.at
 
 abbrev pub decreases-loop-left : goal.decreases-loop-left

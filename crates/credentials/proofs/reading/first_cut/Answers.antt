@@ -1,6 +1,5 @@
-use mathlib.Core.Path.{◌≡◌, refl}
+use mathlib.Core.Path.{refl}
 use Rattle.wire.proofs.Reading.{on-part, on-cut}
-use Rattle.credentials.specs.code.Cut.{first_cut}
 use Rattle.credentials.proofs.Signatures.{cut_on, cut-end}
 use Rattle.credentials.proofs.reading.first_cut.Goals as goal
 

@@ -1,9 +1,7 @@
 -- `credentials::reading::first_cut` meets its contract. The invariant: the first signature cut short of those left is the first of all.
 -- Assumes nothing.
-use mathlib.Core.Path.{◌≡◌, refl}
-use Rattle.wire.proofs.Reading.{on-part, on-cut}
+use mathlib.Core.Path.{◌≡◌}
 use Rattle.credentials.specs.code.Cut.{first_cut}
-use Rattle.credentials.proofs.Signatures.{cut_on, cut-end}
 use Rattle.credentials.proofs.reading.first_cut.Given as goal
 
 abbrev pub invariant-loop-left : goal.invariant-loop-left

@@ -1,9 +1,4 @@
-use mathlib.Core.Path.{◌≡◌}
-use mathlib.Core.Bool.{◌&&◌}
-use Prim.Native.Nat.{◌-◌}
-use lib.ListN.{length}
-use Rattle.draft_slots.specs.Joining.{same}
-use Rattle.draft_slots.proofs.Blocks.{same_from, same-all, same-on, same_end}
+use Rattle.draft_slots.proofs.Blocks.{same-all, same-on, same_end}
 use Rattle.draft_slots.proofs.compare.same_block.Goals as goal
 
 pub loop-i-init : goal.loop-i-init

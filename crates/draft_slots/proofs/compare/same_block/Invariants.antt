@@ -4,7 +4,7 @@ use mathlib.Core.Bool.{◌&&◌}
 use Prim.Native.Nat.{◌-◌}
 use lib.ListN.{length}
 use Rattle.draft_slots.specs.Joining.{same}
-use Rattle.draft_slots.proofs.Blocks.{same_from, same-all, same-on, same_end}
+use Rattle.draft_slots.proofs.Blocks.{same_from}
 use Rattle.draft_slots.proofs.compare.same_block.Given as goal
 
 abbrev pub invariant-loop-i : goal.invariant-loop-i

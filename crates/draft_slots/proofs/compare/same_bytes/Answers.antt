@@ -1,9 +1,6 @@
-use mathlib.Core.Path.{◌≡◌}
-use Prim.Native.Nat.{◌-◌, ◌≤◌}
 use native.Mathlib.Omega.{arith}
-use lib.ListN.{length, length-take, length-drop}
-use Rattle.draft_slots.specs.Joining.{same}
-use Rattle.draft_slots.proofs.Blocks.{same_from, same_whole, differ-length, block_same, block-differs, block_last}
+use lib.ListN.{length-take, length-drop}
+use Rattle.draft_slots.proofs.Blocks.{same_whole, differ-length, block_same, block-differs, block_last}
 use Rattle.draft_slots.proofs.compare.same_bytes.Goals as goal
 
 pub returns-then-a-b : goal.returns-then-a-b

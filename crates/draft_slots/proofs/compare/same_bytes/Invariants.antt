@@ -1,10 +1,9 @@
 -- `draft_slots::compare::same_bytes` meets its contract. The invariant: the strings are equal exactly if what is left of them is. Assumes nothing.
 use mathlib.Core.Path.{◌≡◌}
 use Prim.Native.Nat.{◌-◌, ◌≤◌}
-use native.Mathlib.Omega.{arith}
-use lib.ListN.{length, length-take, length-drop}
+use lib.ListN.{length}
 use Rattle.draft_slots.specs.Joining.{same}
-use Rattle.draft_slots.proofs.Blocks.{same_from, same_whole, differ-length, block_same, block-differs, block_last}
+use Rattle.draft_slots.proofs.Blocks.{same_from}
 use Rattle.draft_slots.proofs.compare.same_bytes.Given as goal
 
 abbrev pub invariant-loop-i : goal.invariant-loop-i

@@ -1,9 +1,6 @@
 use Rattle.std.proofs.Common.{rules}
-use mathlib.Core.Path.{◌≡◌, refl}
-use Prim.Native.Nat.{◌+◌, ◌*◌, ◌≤◌}
+use mathlib.Core.Path.{refl}
 use native.Mathlib.Omega.{arith}
-use lib.ListN.{length}
-use Rattle.draft_slots.specs.code.Scan.{slot_range, join_all}
 use Rattle.draft_slots.proofs.InPlace.{join-on, join-end}
 use Rattle.draft_slots.proofs.join.join_range.Goals as goal
 

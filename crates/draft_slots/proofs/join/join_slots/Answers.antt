@@ -1,7 +1,5 @@
 use Rattle.std.proofs.Common.{rules}
-use mathlib.Core.Path.{◌≡◌, refl}
-use lib.ListN.{length}
-use Rattle.draft_slots.specs.code.Scan.{scan_from, join_all}
+use mathlib.Core.Path.{refl}
 use Rattle.draft_slots.proofs.Scanning.{range-fits, joining-scan}
 use Rattle.draft_slots.proofs.join.join_slots.Goals as goal
 

@@ -1,9 +1,6 @@
-use mathlib.Core.Path.{◌≡◌, refl}
-use Prim.Native.Nat.{◌+◌, ◌*◌, ◌≤◌}
+use mathlib.Core.Path.{refl}
 use native.Mathlib.Omega.{arith}
-use lib.ListN.{length}
-use Rattle.draft_slots.specs.code.Scan.{slot_range}
-use Rattle.draft_slots.proofs.Scanning.{clash_from, clash-is, clashing-range}
+use Rattle.draft_slots.proofs.Scanning.{clash-is, clashing-range}
 use Rattle.draft_slots.proofs.ranges.clash_in.Goals as goal
 
 pub loop-left-init : goal.loop-left-init

@@ -1,9 +1,7 @@
-use mathlib.Core.Path.{◌≡◌, refl}
-use Prim.Native.Nat.{◌≤◌}
+use mathlib.Core.Path.{refl}
 use native.Mathlib.Omega.{arith}
-use Rattle.draft_slots.specs.code.Scan.{scan_from}
 use Rattle.draft_slots.proofs.Scanning.{range-fits, range-starts, range-ends, slots-counted}
-use Rattle.draft_slots.proofs.Scanning.{clash_from, clash-is, clashing-scan}
+use Rattle.draft_slots.proofs.Scanning.{clash-is, clashing-scan}
 use Rattle.draft_slots.proofs.ranges.first_clash.Goals as goal
 
 pub loop-left-init : goal.loop-left-init

@@ -1,6 +1,5 @@
-use mathlib.Core.Path.{◌≡◌, refl}
-use Rattle.draft_slots.specs.code.Scan.{scan_from}
-use Rattle.draft_slots.proofs.Scanning.{slot-offset, slot-start, place_from, place_is, placing-scan}
+use mathlib.Core.Path.{refl}
+use Rattle.draft_slots.proofs.Scanning.{slot-offset, slot-start, place_is, placing-scan}
 use Rattle.draft_slots.proofs.ranges.place_of.Goals as goal
 
 pub loop-left-init : goal.loop-left-init

@@ -10,7 +10,8 @@ use Rattle.wire.specs.code.Answer.{ended}
 use Rattle.element.proofs.inputs.indices_from.Given as goal
 
 abbrev pub invariant-loop-left : goal.invariant-loop-left
-invariant-loop-left l = (l.prev < 256 ^ 4) × (ended (series_from (above (integer 4)) (pick l.any (digits 4 l.prev) []) l.left) l.s l.at ≡ ended (increasing (integer 4) l.count) l.s l.start)
+invariant-loop-left l = (l.prev < 256 ^ 4)
+    × (ended (series_from (above (integer 4)) (pick l.any (digits 4 l.prev) []) l.left) l.s l.at ≡ ended (increasing (integer 4) l.count) l.s l.start)
 
 abbrev pub decreases-loop-left : goal.decreases-loop-left
 decreases-loop-left l = l.left

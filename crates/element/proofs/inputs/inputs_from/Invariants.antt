@@ -13,7 +13,8 @@ use Rattle.element.proofs.Reading.{inputs_after}
 use Rattle.element.proofs.inputs.inputs_from.Given as goal
 
 abbrev pub invariant-loop-left : goal.invariant-loop-left
-invariant-loop-left l = (length l.prev ≡ 32) × (l.last < 256 ^ 4) × (ended (inputs_after (pick l.any (l.prev ++ (integer 4).write l.last) []) l.left) l.s l.at ≡ ended (series input l.count) l.s l.start)
+invariant-loop-left l = (length l.prev ≡ 32) × (l.last < 256 ^ 4)
+    × (ended (inputs_after (pick l.any (l.prev ++ (integer 4).write l.last) []) l.left) l.s l.at ≡ ended (series input l.count) l.s l.start)
 
 abbrev pub decreases-loop-left : goal.decreases-loop-left
 decreases-loop-left l = l.left

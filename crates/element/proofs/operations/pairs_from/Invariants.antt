@@ -12,7 +12,8 @@ use Rattle.element.specs.Inputs.{key}
 use Rattle.element.proofs.operations.pairs_from.Given as goal
 
 abbrev pub invariant-loop-left : goal.invariant-loop-left
-invariant-loop-left l = (length l.prev ≡ 32) × (l.last < 256 ^ 4) × (ended (series_from (above key) (pick l.any (l.prev ++ (integer 4).write l.last) []) l.left) l.s l.at ≡ ended
+invariant-loop-left l = (length l.prev ≡ 32) × (l.last < 256 ^ 4)
+    × (ended (series_from (above key) (pick l.any (l.prev ++ (integer 4).write l.last) []) l.left) l.s l.at ≡ ended
     (increasing key l.count) l.s l.start)
 
 abbrev pub decreases-loop-left : goal.decreases-loop-left

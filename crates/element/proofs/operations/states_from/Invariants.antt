@@ -12,7 +12,8 @@ use Rattle.element.proofs.Reading.{states_after}
 use Rattle.element.proofs.operations.states_from.Given as goal
 
 abbrev pub invariant-loop-left : goal.invariant-loop-left
-invariant-loop-left l = (l.last ≤ 1) × (ended (states_after (pick l.any ((integer 4).write l.last) []) l.left) l.s l.at ≡ ended (series initial_state l.count) l.s l.start)
+invariant-loop-left l = (l.last ≤ 1)
+    × (ended (states_after (pick l.any ((integer 4).write l.last) []) l.left) l.s l.at ≡ ended (series initial_state l.count) l.s l.start)
 
 abbrev pub decreases-loop-left : goal.decreases-loop-left
 decreases-loop-left l = l.left

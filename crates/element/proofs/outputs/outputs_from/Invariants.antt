@@ -8,7 +8,8 @@ use Rattle.element.specs.Outputs.{transferable_output}
 use Rattle.element.proofs.outputs.outputs_from.Given as goal
 
 abbrev pub invariant-loop-left : goal.invariant-loop-left
-invariant-loop-left l = ended (series_from (not_below transferable_output) (between l.prev l.at l.s) l.left) l.s l.at ≡ ended (nondecreasing transferable_output l.count) l.s l.start
+invariant-loop-left l = ended (series_from (not_below transferable_output) (between l.prev l.at l.s) l.left) l.s l.at
+    ≡ ended (nondecreasing transferable_output l.count) l.s l.start
 
 abbrev pub decreases-loop-left : goal.decreases-loop-left
 decreases-loop-left l = l.left

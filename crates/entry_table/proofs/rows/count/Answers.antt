@@ -1,8 +1,6 @@
 use Rattle.std.proofs.Common.{rules}
-use Prim.Native.Nat.{◌≤◌}
 use native.Mathlib.Omega.{arith}
-use Rattle.entry_walk.specs.code.Walk.{ahead}
-use Rattle.entry_table.proofs.Looping.{Counted, counting, moved-less, found-less}
+use Rattle.entry_table.proofs.Looping.{counting, moved-less, found-less}
 use Rattle.entry_table.proofs.rows.count.Goals as goal
 
 pub loop-next-init : goal.loop-next-init

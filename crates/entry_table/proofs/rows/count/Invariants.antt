@@ -1,9 +1,7 @@
 -- `entry_table::rows::count` meets its contract. The invariant: the rows counted and the entries ahead are all entries. Assumes nothing.
-use Rattle.std.proofs.Common.{rules}
 use Prim.Native.Nat.{◌≤◌}
-use native.Mathlib.Omega.{arith}
 use Rattle.entry_walk.specs.code.Walk.{ahead}
-use Rattle.entry_table.proofs.Looping.{Counted, counting, moved-less, found-less}
+use Rattle.entry_table.proofs.Looping.{Counted}
 use Rattle.entry_table.proofs.rows.count.Given as goal
 
 abbrev pub invariant-loop-next : goal.invariant-loop-next

@@ -1,5 +1,4 @@
-use Rattle.entry_walk.specs.code.Walk.{ahead}
-use Rattle.entry_table.proofs.Looping.{Looked, finding, moved-less, found-less}
+use Rattle.entry_table.proofs.Looping.{finding, moved-less, found-less}
 use Rattle.entry_table.proofs.rows.find.Goals as goal
 
 pub loop-next-init : goal.loop-next-init

@@ -1,6 +1,6 @@
 -- `entry_table::rows::find` meets its contract. The invariant: entry `left` of those ahead is entry n of all. Assumes nothing.
 use Rattle.entry_walk.specs.code.Walk.{ahead}
-use Rattle.entry_table.proofs.Looping.{Looked, finding, moved-less, found-less}
+use Rattle.entry_table.proofs.Looping.{Looked}
 use Rattle.entry_table.proofs.rows.find.Given as goal
 
 abbrev pub invariant-loop-next : goal.invariant-loop-next

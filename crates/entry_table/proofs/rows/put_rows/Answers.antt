@@ -1,10 +1,7 @@
 use Rattle.std.proofs.Common.{rules}
-use Prim.Native.Nat.{◌≤◌}
-use mathlib.Core.Path.{◌≡◌, refl}
+use mathlib.Core.Path.{refl}
 use native.Mathlib.Omega.{arith}
-use lib.ListN.{length}
-use Rattle.entry_walk.specs.code.Walk.{ahead}
-use Rattle.entry_table.proofs.Looping.{Put, putting, moved-less, found-less, put-length}
+use Rattle.entry_table.proofs.Looping.{putting, moved-less, found-less, put-length}
 use Rattle.entry_table.proofs.rows.put_rows.Goals as goal
 
 pub loop-next-init : goal.loop-next-init

@@ -1,11 +1,9 @@
 -- `entry_table::rows::put_rows` meets its contract. The invariant: storing the entries ahead from row i on gives the whole table. Assumes nothing.
-use Rattle.std.proofs.Common.{rules}
 use Prim.Native.Nat.{◌≤◌}
-use mathlib.Core.Path.{◌≡◌, refl}
-use native.Mathlib.Omega.{arith}
+use mathlib.Core.Path.{◌≡◌}
 use lib.ListN.{length}
 use Rattle.entry_walk.specs.code.Walk.{ahead}
-use Rattle.entry_table.proofs.Looping.{Put, putting, moved-less, found-less, put-length}
+use Rattle.entry_table.proofs.Looping.{Put}
 use Rattle.entry_table.proofs.rows.put_rows.Given as goal
 
 abbrev pub invariant-loop-next : goal.invariant-loop-next

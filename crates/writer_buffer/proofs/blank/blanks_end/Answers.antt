@@ -1,9 +1,4 @@
-use Prim.Native.Nat.{◌≤◌}
-use mathlib.Core.Path.{◌≡◌}
 use native.Mathlib.Omega.{arith}
-use lib.ListN.{length}
-use Rattle.wire.specs.declared.End.{End}
-use Rattle.writer_buffer.specs.code.Closing.{blank_bytes, fitted, OfAhead}
 use Rattle.writer_buffer.proofs.Blanks.{fitted-next}
 use Rattle.writer_buffer.proofs.Loops.{cursor, of_end, end-full, end_on, end_none}
 use Rattle.writer_buffer.proofs.blank.blanks_end.Goals as goal
@@ -19,9 +14,9 @@ returns-in-Refused c = c.loop-left.invariant.0 _ (search end-full)
 
 pub loop-left-preserved : goal.loop-left-preserved
 loop-left-preserved c = (
-      λ r h. c.loop-left.invariant.0 r (search end_on),
-      (fitted-next _ _ _ _ c.blank_end.ensures _ c.in-At.is).1,
-    )
+  λ r h. c.loop-left.invariant.0 r (search end_on),
+  (fitted-next _ _ _ _ c.blank_end.ensures _ c.in-At.is).1,
+)
 
 pub returns : goal.returns
 returns c = let l = c.loop-left in

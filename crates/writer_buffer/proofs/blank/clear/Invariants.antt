@@ -1,10 +1,8 @@
 -- `writer_buffer::blank::clear` meets its contract. The invariant: the bytes before i are zeros. Assumes nothing.
 use Prim.Native.Nat.{◌-◌, ◌≤◌}
-use mathlib.Core.Path.{◌≡◌, refl, ◌∙◌}
+use mathlib.Core.Path.{◌≡◌}
 use mathlib.Core.List.{◌++◌}
-use native.Mathlib.Omega.{arith}
-use lib.ListN.{length, drop, replicate, length-set}
-use Rattle.writer_buffer.proofs.Blanks.{zero_more, zeros-all}
+use lib.ListN.{length, drop, replicate}
 use Rattle.writer_buffer.proofs.blank.clear.Given as goal
 
 abbrev pub invariant-loop-i : goal.invariant-loop-i

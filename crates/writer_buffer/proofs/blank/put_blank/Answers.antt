@@ -12,7 +12,7 @@ put_zeros-requires c = search rules
 pub returns : goal.returns
 unfolding signature_width
 returns c = let a = c.args in record {
-      value = omega arith;
-      buf_after = blank-back a.buf.now _ _ _ a.at a.code a.count (omega arith) (omega arith) (omega arith)
-          c.put_u32.ensures c.put_u32-2.ensures c.put_zeros.ensures;
-    }
+  value = omega arith;
+  buf_after = blank-back a.buf.now _ _ _ a.at a.code a.count (omega arith) (omega arith) (omega arith)
+      c.put_u32.ensures c.put_u32-2.ensures c.put_zeros.ensures;
+}

@@ -1,6 +1,6 @@
 use native.Mathlib.Omega.{arith}
 use lib.ListN.{length-take}
-use Rattle.writer_buffer.proofs.Loops.{cursor, Writing, writing_begins, writing-front, writing-none, writing-end, writing-room, writing-on}
+use Rattle.writer_buffer.proofs.Loops.{writing_begins, writing-front, writing-none, writing-end, writing-room, writing-on}
 use Rattle.writer_buffer.proofs.blank.put_blanks.Goals as goal
 
 pub loop-owed-init : goal.loop-owed-init

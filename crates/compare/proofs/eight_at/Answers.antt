@@ -1,6 +1,0 @@
--- `compare::eight_at` meets its contract. Assumes nothing.
-use Rattle.compare.proofs.Words.{copied}
-use Rattle.compare.proofs.eight_at.Goals as goal
-
-pub returns : goal.returns
-returns c = search copied

@@ -1,2 +1,0 @@
--- What functions below the public calls answer
-pub mod Order
