@@ -1,10 +1,9 @@
 // Prints the entries of the transaction in a file, one row per line: kind, start, length. A refusal is one line: number, place.
 #![tactic(auto)]
 
-ghost use Rattle.std.specs.Prelude.{◌≡◌, take, IfOk, IfSome};
+ghost use Rattle.std.specs.Prelude.{◌≤◌, length, IfOk};
 
 use entry_table::Tabled;
-use std::alloc::Global;
 use std::env::{Env, FillError};
 use std::fs::Files;
 use std::io::Read;
@@ -12,7 +11,7 @@ use std::{fs, io};
 use wire::Refusal;
 
 // One byte more than a transaction may have, enough to see that a file is too long.
-const READ_MOST: u64 = 65537;
+const READ_MOST: usize = 65537;
 
 // The numbers of a table for any transaction: one of 65,536 bytes has at most 3,272 entries.
 const TABLE_NUMBERS: usize = 9816;
@@ -20,18 +19,26 @@ const TABLE_NUMBERS: usize = 9816;
 // The longest argument that is taken; the system opens no longer name.
 const NAME_MOST: usize = 4096;
 
-// The bytes up to the end of an open file, or the first `READ_MOST` of them.
-fn read_start<F: Read + Drop>(alloc: Global, file: F) -> io::Result<Vec<u8>>
-    ensures { IfOk result (λ bytes. IfSome (F.remaining file) (λ whole. bytes.items ≡ take READ_MOST whole)) }
+// Reads an open file up to its end or the buffer's. Returns how many bytes were read.
+fn read_start<F: Read + Drop>(mut file: F, buf: &mut [u8]) -> io::Result<usize>
+    ensures { IfOk result (λ n. n ≤ length buf.new) }
 {
-    let mut bytes = Vec::new(alloc);
-    file.take(READ_MOST).read_to_end(&mut bytes)?;
-    Ok(bytes)
+    let mut at = 0;
+    while at < buf.len() {
+        let got = file.read(&mut buf[at..])?;
+        if got == 0 {
+            return Ok(at);
+        }
+        at += got;
+    }
+    Ok(at)
 }
 
-// The bytes of a file by its name.
-fn load<R: Files + AllocGlobal>(rt: &R, name: &str) -> io::Result<Vec<u8>> {
-    read_start(rt.alloc(), fs::open(rt, name)?)
+// Reads the start of a file by its name. Returns how many bytes were read.
+fn load(rt: &impl Files, name: &str, buf: &mut [u8]) -> io::Result<usize>
+    ensures { IfOk result (λ n. n ≤ length buf.new) }
+{
+    read_start(fs::open(rt, name)?, buf)
 }
 
 fn print_row(rt: &impl Print, kind: u32, start: u32, length: u32) -> io::Result<()> {
@@ -78,8 +85,9 @@ fn report<R: Eprint + AllocGlobal>(rt: &R, name: &str, error: io::Error) -> io::
 
 // Prints the entries of the file, or on standard error why it cannot be read.
 fn show<R: Files + AllocGlobal + Print + Eprint>(rt: &R, name: &str) -> io::Result<()> {
-    match load(rt, name) {
-        Ok(bytes) => print_entries(rt, bytes.as_slice()),
+    let mut bytes = [0u8; READ_MOST];
+    match load(rt, name, &mut bytes) {
+        Ok(length) => print_entries(rt, &bytes[..length]),
         Err(error) => report(rt, name, error),
     }
 }
