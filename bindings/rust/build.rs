@@ -15,7 +15,11 @@ fn main() {
     for name in ["phone", "operator"] {
         let library = folder.join(format!("lib{name}.a"));
         println!("cargo:rerun-if-changed={}", library.display());
-        assert!(library.exists(), "no {}: run `tools/libraries {name}` first", library.display());
+        assert!(
+            library.exists(),
+            "no {}: run `tools/libraries {name}` first",
+            library.display()
+        );
         println!("cargo:rustc-link-lib=static={name}");
     }
 }

@@ -1,9 +1,9 @@
 //! What the command writes and how it ends, for files of every kind.
 #![allow(missing_docs)]
 
-use std::fs;
-use std::path::{Path, PathBuf};
+use std::path::PathBuf;
 use std::process::Command;
+use std::{env, fs, process};
 
 /// Case A: two slots, at 262 and 327.
 const CASE_A: &[u8; 392] = include_bytes!("../../tests/data/case-a.tx");
@@ -12,14 +12,20 @@ const SLOTS: [usize; 2] = [262, 327];
 /// Exit status, standard output, standard error.
 type Ended = (i32, String, String);
 
-/// A folder of a test's own, in which the command is run.
+/// A folder of a test's own, in which the command is run. It is outside the repository, and goes with the
+/// test: `rt ci` takes no repository with a link in it.
 struct Folder(PathBuf);
+
+impl Drop for Folder {
+    fn drop(&mut self) {
+        let _ = fs::remove_dir_all(&self.0);
+    }
+}
 
 impl Folder {
     /// With the files that every test may name: `a` and copies of it.
     fn new(name: &str) -> Folder {
-        let path = Path::new(env!("CARGO_TARGET_TMPDIR")).join(name);
-        let _ = fs::remove_dir_all(&path);
+        let path = env::temp_dir().join(format!("cellfacet-command-{}-{name}", process::id()));
         fs::create_dir_all(path.join("folder")).expect("a folder");
         let folder = Folder(path);
         folder.put("a", CASE_A);

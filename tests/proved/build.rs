@@ -9,7 +9,11 @@ fn main() {
     for name in ["phone", "operator", "test_exports"] {
         let library = folder.join(format!("lib{name}.a"));
         println!("cargo:rerun-if-changed={}", library.display());
-        assert!(library.exists(), "no {}: run `tools/libraries {name}` first", library.display());
+        assert!(
+            library.exists(),
+            "no {}: run `tools/libraries {name}` first",
+            library.display()
+        );
         println!("cargo:rustc-link-lib=static={name}");
     }
 }

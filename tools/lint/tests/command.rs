@@ -1,21 +1,32 @@
 //! The program: what it prints, and its exit status.
 
-use std::fs;
-use std::path::PathBuf;
+use std::path::{Path, PathBuf};
 use std::process::{Command, Output};
+use std::{env, fs, process};
 
-fn folder(name: &str, files: &[(&str, &[u8])]) -> PathBuf {
-    let root = PathBuf::from(env!("CARGO_TARGET_TMPDIR")).join(name);
-    let _ = fs::remove_dir_all(&root);
-    for (file, bytes) in files {
-        let path = root.join(file);
-        fs::create_dir_all(path.parent().unwrap()).unwrap();
-        fs::write(path, bytes).unwrap();
+/// A folder of a test's own. It is outside the repository, and goes with the test: in the repository no
+/// `.antt` file may stand but in a crate.
+struct Folder(PathBuf);
+
+impl Folder {
+    fn with(name: &str, files: &[(&str, &[u8])]) -> Folder {
+        let root = env::temp_dir().join(format!("cellfacet-lint-{}-{name}", process::id()));
+        for (file, bytes) in files {
+            let path = root.join(file);
+            fs::create_dir_all(path.parent().unwrap()).unwrap();
+            fs::write(path, bytes).unwrap();
+        }
+        Folder(root)
     }
-    root
 }
 
-fn run(root: &PathBuf, words: &[&str]) -> (i32, String, String) {
+impl Drop for Folder {
+    fn drop(&mut self) {
+        let _ = fs::remove_dir_all(&self.0);
+    }
+}
+
+fn run(root: &Path, words: &[&str]) -> (i32, String, String) {
     let program = env!("CARGO_BIN_EXE_cellfacet-lint");
     let Output { status, stdout, stderr } =
         Command::new(program).args(words).current_dir(root).output().unwrap();
@@ -27,8 +38,8 @@ const FAULTY: &[u8] = b"use M.{a}\n\npub f : T\nf = x\n";
 
 #[test]
 fn findings_are_printed_with_their_places() {
-    let root = folder("faulty", &[("crates/c/specs/S.antt", FAULTY)]);
-    let (status, out, _) = run(&root, &[]);
+    let root = Folder::with("faulty", &[("crates/c/specs/S.antt", FAULTY)]);
+    let (status, out, _) = run(&root.0, &[]);
     let lines: Vec<&str> = out.lines().collect();
     assert_eq!(status, 1);
     assert_eq!(lines[0], "crates/c/specs/S.antt:1: import a is not used");
@@ -38,17 +49,18 @@ fn findings_are_printed_with_their_places() {
 
 #[test]
 fn checks_can_be_chosen() {
-    let root = folder("chosen", &[("crates/c/specs/S.antt", FAULTY)]);
-    assert_eq!(run(&root, &["links"]), (0, "1 files: 0 bad links\n".into(), String::new()));
-    assert_eq!(run(&root, &["links", "dead"]).0, 1);
-    assert_eq!(run(&root, &["link"]).0, 2);
+    let root = Folder::with("chosen", &[("crates/c/specs/S.antt", FAULTY)]);
+    assert_eq!(run(&root.0, &["links"]), (0, "1 files: 0 bad links\n".into(), String::new()));
+    assert_eq!(run(&root.0, &["links", "dead"]).0, 1);
+    assert_eq!(run(&root.0, &["link"]).0, 2);
 }
 
 #[test]
 fn what_cannot_be_read_is_told() {
-    let root = folder("unread", &[("crates/c/specs/S.antt", b"f : \xff\n")]);
-    let (status, out, told) = run(&root, &[]);
+    let root = Folder::with("unread", &[("crates/c/specs/S.antt", b"f : \xff\n")]);
+    let (status, out, told) = run(&root.0, &[]);
     assert_eq!((status, out.as_str()), (2, ""));
     assert!(told.contains("crates/c/specs/S.antt"));
-    assert_eq!(run(&folder("empty", &[("A.md", b"a\n")]), &[]).0, 2);
+    let empty = Folder::with("empty", &[("A.md", b"a\n")]);
+    assert_eq!(run(&empty.0, &[]).0, 2);
 }
