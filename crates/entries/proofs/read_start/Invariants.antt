@@ -1,0 +1,9 @@
+-- No more is read than the buffer has room for.
+use Rattle.std.proofs.Common.{◌-◌, ◌≤◌, length}
+use Rattle.entries.proofs.read_start.Given as goal
+
+abbrev pub invariant-loop-at : goal.invariant-loop-at
+invariant-loop-at g l = l.at ≤ length l.buf
+
+abbrev pub decreases-loop-at : goal.decreases-loop-at
+decreases-loop-at g l = length l.buf - l.at
