@@ -1,7 +1,7 @@
 // Prints the entries of the transaction in a file, one row per line: kind, start, length. A refusal is one line: number, place.
 #![tactic(auto)]
 
-ghost use Rattle.std.specs.Prelude.{◌≤◌, length, IfOk};
+ghost use Rattle.std.specs.Prelude.{◌≡◌, ◌≤◌, length, take, IfOk, IfSome};
 
 use entry_table::Tabled;
 use std::env::{Env, FillError};
@@ -19,9 +19,10 @@ const TABLE_NUMBERS: usize = 9816;
 // The longest argument that is taken; the system opens no longer name.
 const NAME_MOST: usize = 4096;
 
-// Reads an open file up to its end or the buffer's. Returns how many bytes were read.
+// Reads an open file up to its end or the buffer's. Returns how many bytes were read: they are the file's first, as many as there is room for.
 fn read_start<F: Read + Drop>(mut file: F, buf: &mut [u8]) -> io::Result<usize>
-    ensures { IfOk result (λ n. n ≤ length buf.new) }
+    ensures within { IfOk result (λ n. n ≤ length buf.new) }
+    ensures start { IfOk result (λ n. IfSome (F.remaining file) (λ whole. take n buf.new ≡ take (length buf.new) whole)) }
 {
     let mut at = 0;
     while at < buf.len() {
