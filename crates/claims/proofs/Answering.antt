@@ -1,10 +1,11 @@
 -- What the calls that read answer. Assumes nothing.
+use Rattle.transaction.specs.declared.Layout.{Layout}
+use Rattle.std.specs.Prelude.{Result, Ok, Err, Option, None, Some}
 use Prim.Native.Nat.{ℕ, ◌*◌, ◌≤◌, ◌<◌}
 use mathlib.Core.Path.{◌≡◌, refl, ap, ◌∙◌}
 use mathlib.Core.Logic.{inl, inr}
 use mathlib.Core.Bool.{Bool, true, false}
 use mathlib.Core.List.{List, ◌++◌}
-use mathlib.Core.Option.{Option, none, some}
 use native.Mathlib.Omega.{arith}
 use lib.ListN.{length, drop, length-append, length-drop}
 use lib.Seq.{drop_at}
@@ -13,18 +14,16 @@ use borrow.Author.Tests.{leb-true, le-leb, lt-leb}
 use Rattle.wire.specs.Bytes.{pick}
 use Rattle.wire.specs.Numbers.{refusal, number_of, no_room}
 use Rattle.wire.specs.declared.Refusal.{Refusal}
-use Rattle.wire.specs.Format.{Result, took, refused, on_result, verdict}
+use Rattle.wire.specs.Format.{Parsed, took, refused, on_result, verdict}
 use Rattle.wire.specs.Orders.{OneOf}
 use Rattle.transaction.specs.Entries.{EntryAt}
 use Rattle.transaction.specs.Entries as Entries
 use Rattle.transaction.specs.Family.{Signed, check, entries, entry}
 use Rattle.transaction.specs.Avm.{avm}
 use Rattle.transaction.specs.Answer.{memo_most, layout, checked, checked_number, checked_place}
-use Rattle.transaction.specs.declared.Checked.TheVariants as C
 use Rattle.transaction.proofs.Codec.{codec}
 use Rattle.transaction.proofs.Refusing.{check-numbers}
 use Rattle.entry_table.specs.Table.{Filled, filled, tabled_number, tabled_rows}
-use Rattle.entry_table.specs.declared.Tabled.TheVariants as T
 use Rattle.entry_table.proofs.Inside.{entries-inside}
 use Rattle.entry_table.proofs.Tabling.{length-rows}
 use Rattle.draft_slot_table.specs.Slots as Slots
@@ -45,16 +44,16 @@ module _ (s : List ℕ) where
   check-number : OneOf (checked_number (checked memo_most s)) check_numbers
   check-number = go (check (avm memo_most) s) refl
     where
-      go : (o : Result (Signed (avm memo_most))) → check (avm memo_most) s ≡ o
-          → OneOf (checked_number (on_result o C.Refused (λ v n. C.Accepted (layout memo_most v.0) n))) check_numbers
+      go : (o : Parsed (Signed (avm memo_most))) → check (avm memo_most) s ≡ o
+          → OneOf (checked_number (on_result o Err (λ v n. Ok (layout memo_most v.0, n)))) check_numbers
       go (took v n) h = inl refl
       go (refused e) h = refused-listed s e h
 
   check-own : (checked_number (checked memo_most s), checked_place (checked memo_most s)) ≡ verdict (check (avm memo_most) s)
   check-own = go (check (avm memo_most) s)
     where
-      go : (o : Result (Signed (avm memo_most)))
-          → let a = on_result o C.Refused (λ v n. C.Accepted (layout memo_most v.0) n) in (checked_number a, checked_place a) ≡ verdict o
+      go : (o : Parsed (Signed (avm memo_most)))
+          → let a : Result (Layout × ℕ) Refusal = on_result o Err (λ v n. Ok (layout memo_most v.0, n)) in (checked_number a, checked_place a) ≡ verdict o
       go (took v n) = refl
       go (refused e) = refl
 
@@ -65,17 +64,17 @@ check-answers = record { number = check-number; own = check-own }
 
 module _ (s : List ℕ) (n : ℕ) where
   -- the answer, by the result of the check
-  abbrev answer_of : Result (Signed (avm memo_most)) → EntryRead
+  abbrev answer_of : Parsed (Signed (avm memo_most)) → EntryRead
   answer_of o = on_result o refused_entry (λ v end. entry_answer end (entry (avm memo_most) v n))
 
   entry-number : OneOf (entry_number (entry_of memo_most s n).answer) entry_numbers
   entry-number = go (check (avm memo_most) s) refl
     where
       reported : (bytes : ℕ) (o : Option EntryAt) → OneOf (entry_number (entry_answer bytes o).answer) entry_numbers
-      reported bytes none = inl refl
-      reported bytes (some e) = inr (inl refl)
+      reported bytes None = inl refl
+      reported bytes (Some e) = inr (inl refl)
 
-      go : (o : Result (Signed (avm memo_most))) → check (avm memo_most) s ≡ o → OneOf (entry_number (answer_of o).answer) entry_numbers
+      go : (o : Parsed (Signed (avm memo_most))) → check (avm memo_most) s ≡ o → OneOf (entry_number (answer_of o).answer) entry_numbers
       go (took v bytes) h = reported bytes (entry (avm memo_most) v n)
       go (refused e) h = inr (refused-listed s e h)
 
@@ -104,24 +103,24 @@ record Kept (t : List ℕ) (f : Filled) : Type 0 where
   beyond : drop (3 * tabled_rows f.answer) f.table ≡ drop (3 * tabled_rows f.answer) t
   length-kept : length f.table ≡ length t
 
-refused-kept : (t : List ℕ) (e : Refusal) → OneOf (number_of e) table_numbers → Kept t (filled (T.Refused e) t)
+refused-kept : (t : List ℕ) (e : Refusal) → OneOf (number_of e) table_numbers → Kept t (filled (Err e) t)
 refused-kept t e h = record { number = h; unchanged = λ n. (refl, refl); beyond = refl; length-kept = refl }
 
 -- c rows, which are the integers r, where room for n integers is asked
 module _ (c : ℕ) (r : List ℕ) (n : ℕ) (asked : n ≡ 3 * c) (long : length r ≡ 3 * c) (end : ℕ) (t : List ℕ) where
   abbrev in_room : Filled
-  in_room = pick (leb n (length t)) (filled (T.Listed c end) (r ++ drop n t)) (filled (T.Refused (refusal no_room 0)) t)
+  in_room = pick (leb n (length t)) (filled (Ok (c, end)) (r ++ drop n t)) (filled (Err (refusal no_room 0)) t)
 
-  room-listed : 3 * c ≤ length t → in_room ≡ filled (T.Listed c end) (r ++ drop (3 * c) t)
-  room-listed h = rw (le-leb n (length t) (omega arith)) (ap (λ (m : ℕ). filled (T.Listed c end) (r ++ drop m t)) asked)
+  room-listed : 3 * c ≤ length t → in_room ≡ filled (Ok (c, end)) (r ++ drop (3 * c) t)
+  room-listed h = rw (le-leb n (length t) (omega arith)) (ap (λ (m : ℕ). filled (Ok (c, end)) (r ++ drop m t)) asked)
 
-  room-none : length t < 3 * c → in_room ≡ filled (T.Refused (refusal no_room 0)) t
+  room-none : length t < 3 * c → in_room ≡ filled (Err (refusal no_room 0)) t
   room-none h = rw (lt-leb n (length t) (omega arith))
 
   room-kept : Kept t in_room
   room-kept = go (leb n (length t)) refl
     where
-      go : (b : Bool) → leb n (length t) ≡ b → Kept t (pick b (filled (T.Listed c end) (r ++ drop n t)) (filled (T.Refused (refusal no_room 0)) t))
+      go : (b : Bool) → leb n (length t) ≡ b → Kept t (pick b (filled (Ok (c, end)) (r ++ drop n t)) (filled (Err (refusal no_room 0)) t))
       go true room =
           record {
             number = inr (inl refl);
@@ -136,13 +135,13 @@ module _ (count : List ℕ → Signed (avm memo_most) → ℕ) (rows : List ℕ 
     (asked : (s : List ℕ) (v : Signed (avm memo_most)) → width s v ≡ 3 * count s v)
     (long : (s : List ℕ) (v : Signed (avm memo_most)) → length (rows s v) ≡ 3 * count s v) where
   -- the table, by the result of the check
-  abbrev table_of : List ℕ → List ℕ → Result (Signed (avm memo_most)) → Filled
-  table_of s t o = on_result o (λ e. filled (T.Refused e) t) (λ v end. in_room (count s v) (rows s v) (width s v) (asked s v) (long s v) end t)
+  abbrev table_of : List ℕ → List ℕ → Parsed (Signed (avm memo_most)) → Filled
+  table_of s t o = on_result o (λ e. filled (Err e) t) (λ v end. in_room (count s v) (rows s v) (width s v) (asked s v) (long s v) end t)
 
   kept : (s t : List ℕ) → Kept t (table_of s t (check (avm memo_most) s))
   kept s t = go (check (avm memo_most) s) refl
     where
-      go : (o : Result (Signed (avm memo_most))) → check (avm memo_most) s ≡ o → Kept t (table_of s t o)
+      go : (o : Parsed (Signed (avm memo_most))) → check (avm memo_most) s ≡ o → Kept t (table_of s t o)
       go (took v n) h = room-kept (count s v) (rows s v) (width s v) (asked s v) (long s v) n t
       go (refused e) h = refused-kept t e (inr (refused-listed s e h))
 

@@ -1,8 +1,8 @@
 -- The hypotheses of demand 3 can be met. Assumes nothing.
+use Rattle.std.specs.Prelude.{None, Some}
 use mathlib.Core.Path.{◌≡◌, refl, sym, ap, ◌∙◌}
 use mathlib.Core.Logic.{inl, inr}
 use mathlib.Core.Bool.{Bool, true, ◌&&◌}
-use mathlib.Core.Option.{none, some}
 use mathlib.Core.List.{List, [], ◌∷◌}
 use Prim.Native.Nat.{ℕ, zero, suc, ◌<◌}
 use native.Mathlib.Omega.{arith}
@@ -48,8 +48,8 @@ record Computed : Type 0 where
   second-emptied : LikeA (edited 327 empty A)
   last-changed : LikeA (edited 391 (1 ∷ []) A)
   halves-merge : merge_of Avm halves ≡ A
-  halves-result : result Avm halves one_call ≡ some A
-  clashing-result : result Avm clashing one_call ≡ none
+  halves-result : result Avm halves one_call ≡ Some A
+  clashing-result : result Avm clashing one_call ≡ None
   slots : slot_count Avm A ≡ 2
   slot-A : slot Avm A 1 ≡ take 65 (drop 327 A)
   slot-changed : slot Avm (edited 391 (1 ∷ []) A) 1 ≡ take 65 (drop 327 (edited 391 (1 ∷ []) A))
@@ -113,7 +113,7 @@ halves-free c =
     let h : Supposed halves one_call = halves-supposed in
     never (sym ((avm-demand-3.groupings halves h.drafts one_call h.fits h.uses).no_result c) ∙ computed.halves-result)
   where
-    never : {x : List ℕ} → none ≡ some x → ⊥
+    never : {x : List ℕ} → None ≡ Some x → ⊥
     never p = let y : ◌≡◌ {A = ℕ} 0 1 = cc in omega arith
 
 -- slot 1 is filled in both, for its first byte is 64, and its last bytes differ

@@ -1,4 +1,5 @@
 -- Each number in a call's list occurs, as the computed answer of some call. Assumes nothing.
+use Rattle.std.specs.Prelude.{Ok, Err}
 use Prim.Native.Nat.{ℕ, zero, suc, ◌<◌}
 use mathlib.Core.Path.{◌≡◌, refl, sym, ap, ◌∙◌, subst}
 use mathlib.Core.Logic.{⊎_elim}
@@ -31,10 +32,8 @@ use Rattle.transaction.specs.Signed as AnySigned
 use Rattle.transaction.specs.Family.{head, unsigned, wants, check, entries}
 use Rattle.transaction.specs.Answer.{memo_most, checked, checked_number}
 use Rattle.transaction.specs.Answer as Answer
-use Rattle.transaction.specs.declared.Checked.TheVariants as C
 use Rattle.transaction.proofs.FirstBroken.{first-broken}
 use Rattle.entry_table.specs.Table.{Filled, filled, tabled, tabled_number}
-use Rattle.entry_table.specs.declared.Tabled.TheVariants as T
 use Rattle.entry.specs.Entry.{entry_of, entry_number}
 use Rattle.draft_slots.specs.Joining.{same, clashes, join, first_clash}
 use Rattle.draft_slot_table.specs.Slots as Slots
@@ -145,10 +144,10 @@ check-occurs : (n : ℕ) → OneOf n check_numbers → (s : List ℕ) × Bytes s
 check-occurs n =
     first-or (λ n. (s : List ℕ) × Bytes s × (checked_number (checked memo_most s) ≡ n)) 0 n refusals (empty, zero-bytes 58, empty-checked)
     (λ r. let (s, e, b, c, k) = refused-by n r in
-    (s, b, ap (λ o. checked_number (on_result o C.Refused (λ v m. C.Accepted (Answer.layout memo_most v.0) m))) c ∙ k))
+    (s, b, ap (λ o. checked_number (on_result o Err (λ v m. Ok (Answer.layout memo_most v.0, m)))) c ∙ k))
 
 module _ (call : List ℕ → List ℕ → Filled) (refuses-alike : (s t : List ℕ) (e : Refusal) → check (avm memo_most) s ≡ refused e
-    → call s t ≡ filled (T.Refused e) t)
+    → call s t ≡ filled (Err e) t)
     (done : tabled_number (call empty []).answer ≡ 0) (without_room : tabled_number (call A []).answer ≡ 14) where
   Listing : ℕ → Type 0
   Listing n = (s t : List ℕ) × Bytes s × (tabled_number (call s t).answer ≡ n)
@@ -177,7 +176,7 @@ unfolding PieceOf
 piece-occurs n h =
     first-or PieceOf 14 n refusals ([], 0 ∷ [], tt, (omega arith, tt), ap standing_number (answer-full memo_most))
     (λ r. let (s, e, b, c, k) = refused-by n r in
-    let q : checked memo_most s ≡ C.Refused e = ap (λ o. on_result o C.Refused (λ v m. C.Accepted (Answer.layout memo_most v.0) m)) c in
+    let q : checked memo_most s ≡ Err e = ap (λ o. on_result o Err (λ v m. Ok (Answer.layout memo_most v.0, m))) c in
     (s, s, b, b, ap standing_number (answer-one memo_most s ∙ ap shown q) ∙ shown-number e ∙ k))
     (contained (14 ∷ refusals) piece_numbers refl n h)
 

@@ -1,9 +1,9 @@
 -- In an accepted transaction each entry lies inside the bytes, and its element's bytes are there. Assumes nothing.
+use Rattle.std.specs.Prelude.{Some}
 use Prim.Native.Nat.{ℕ, zero, suc, ◌+◌, ◌-◌, ◌*◌, ◌≤◌}
 use mathlib.Core.Path.{◌≡◌, refl, sym, ap, ◌∙◌, subst}
 use mathlib.Core.Bool.{Bool, true, false}
 use mathlib.Core.List.{List, [], ◌∷◌, ◌++◌, append_assoc, append-nil}
-use mathlib.Core.Option.{some}
 use native.Mathlib.Nat.{zero-add}
 use native.Mathlib.Omega.{arith}
 use lib.ListN.{length, drop, length-append}
@@ -41,12 +41,12 @@ use Rattle.claims.specs.Answers.{StandsAs, an_output, an_input, an_operation, an
 
 -- ---- one of the entries
 
-pub each-nth : (P : EntryAt → Type 0) (es : List EntryAt) → Each P es → (n : ℕ) (e : EntryAt) → nth es n ≡ some e → P e
+pub each-nth : (P : EntryAt → Type 0) (es : List EntryAt) → Each P es → (n : ℕ) (e : EntryAt) → nth es n ≡ Some e → P e
 unfolding nth
 each-nth P [] h n e q = let z : ◌≡◌ {A = ℕ} 0 1 = cc in absurd (omega arith)
 each-nth P (x ∷ es) (h, hs) n e q = go (eqb n 0) q (each-nth P es hs (n - 1) e)
   where
-    go : (b : Bool) → pick b (some x) (nth es (n - 1)) ≡ some e → (nth es (n - 1) ≡ some e → P e) → P e
+    go : (b : Bool) → pick b (Some x) (nth es (n - 1)) ≡ Some e → (nth es (n - 1) ≡ Some e → P e) → P e
     go true q later = let z : x ≡ e = cc in subst P z h
     go false q later = later q
 

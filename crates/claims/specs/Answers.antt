@@ -1,8 +1,7 @@
 -- Demand 1 of document 00, for the calls that read: whatever the bytes, the answer has a number of the call's list, a refusal changes nothing that
 -- was lent, and bytes that are not accepted get the check's own number and place. That a call ends and stays inside the memory lent is part of what
 -- a proved function is. Assumes nothing.
-use Rattle.std.specs.Prelude.{ℕ, ◌*◌, ◌≤◌, ◌<◌, ◌≡◌, ◌↔◌, List, [], ◌∷◌, ◌++◌, map, length, drop}
-use Rattle.std.proofs.Math.Option.{none, some}
+use Rattle.std.specs.Prelude.{ℕ, ◌*◌, ◌≤◌, ◌<◌, ◌≡◌, ◌↔◌, List, [], ◌∷◌, ◌++◌, map, length, drop, Ok, Err, None, Some}
 use Rattle.wire.specs.Bytes.{Bytes, between}
 use Rattle.wire.specs.declared.Refusal.{Refusal}
 use Rattle.wire.specs.Numbers.{refusal, no_room, no_entry}
@@ -20,13 +19,11 @@ use Rattle.transaction.specs.Family.{Signed, check, entries, entry}
 use Rattle.transaction.specs.Avm.{avm}
 use Rattle.transaction.specs.Answer.{memo_most, checked, checked_number, checked_place}
 use Rattle.entry_table.specs.Table.{Filled, filled, tabled, tabled_number, tabled_rows}
-use Rattle.entry_table.specs.declared.Tabled.TheVariants as T
 use Rattle.draft_slot_table.specs.Slots.{filled_at}
 use Rattle.draft_slot_table.specs.Slots as Slots
 use Rattle.draft_slot_table.specs.Table.{slots, tabled_slots}
 use Rattle.draft.specs.Reader.{reader}
 use Rattle.entry.specs.Entry.{entry_of, entry_number, found_entry}
-use Rattle.entry.specs.declared.EntryAnswer.TheVariants as E
 
 -- ---- the numbers that each call can answer
 
@@ -55,13 +52,13 @@ pub record Lists (call : List ℕ → List ℕ → Filled) (count : List ℕ →
     → List ℕ) : Type 0 where
   pub number : (s t : List ℕ) → OneOf (tabled_number (call s t).answer) table_numbers
   -- bytes that are not accepted get the check's own refusal, whatever the room
-  pub refused-bytes : (s t : List ℕ) (e : Refusal) → check (avm memo_most) s ≡ refused e → call s t ≡ filled (T.Refused e) t
+  pub refused-bytes : (s t : List ℕ) (e : Refusal) → check (avm memo_most) s ≡ refused e → call s t ≡ filled (Err e) t
   -- accepted bytes whose rows fit: all rows are at the front, and each number beyond them is as before
   pub listed : (s t : List ℕ) (v : Signed (avm memo_most)) (n : ℕ) → check (avm memo_most) s ≡ took v n → 3 * count s v ≤ length t
-      → call s t ≡ filled (T.Listed (count s v) n) (rows s v ++ drop (3 * count s v) t)
+      → call s t ≡ filled (Ok (count s v, n)) (rows s v ++ drop (3 * count s v) t)
   -- accepted bytes whose rows do not fit: 14 at place 0
   pub no_room : (s t : List ℕ) (v : Signed (avm memo_most)) (n : ℕ) → check (avm memo_most) s ≡ took v n → length t < 3 * count s v
-      → call s t ≡ filled (T.Refused (refusal no_room 0)) t
+      → call s t ≡ filled (Err (refusal no_room 0)) t
   -- a refusal has no rows and changes no number of the table
   pub unchanged : (s t : List ℕ) → (tabled_number (call s t).answer ≡ 0 → ⊥) → (tabled_rows (call s t).answer ≡ 0) × ((call s t).table ≡ t)
   -- numbers beyond the rows stay
@@ -102,15 +99,15 @@ pub data StandsAs (s : List ℕ) (e : EntryAt) : Type 0 where
 pub record EntryAnswers : Type 0 where
   pub number : (s : List ℕ) (n : ℕ) → OneOf (entry_number (entry_of memo_most s n).answer) entry_numbers
   -- bytes that are not accepted get the check's own refusal first
-  pub refused-bytes : (s : List ℕ) (n : ℕ) (e : Refusal) → check (avm memo_most) s ≡ refused e → (entry_of memo_most s n).answer ≡ E.Refused e
+  pub refused-bytes : (s : List ℕ) (n : ℕ) (e : Refusal) → check (avm memo_most) s ≡ refused e → (entry_of memo_most s n).answer ≡ Err e
   -- then the fields of entry n of the reading, with the length of the transaction as place
   pub found : (s : List ℕ) (n : ℕ) (v : Signed (avm memo_most)) (bytes : ℕ) (e : EntryAt) → check (avm memo_most) s ≡ took v bytes
-      → entry (avm memo_most) v n ≡ some e → entry_of memo_most s n ≡ found_entry bytes e
+      → entry (avm memo_most) v n ≡ Some e → entry_of memo_most s n ≡ found_entry bytes e
   -- the entry lies inside the transaction, and its element's bytes are there
   pub inside : (s : List ℕ) (n : ℕ) (v : Signed (avm memo_most)) (bytes : ℕ) (e : EntryAt) → Bytes s → check (avm memo_most) s ≡ took v bytes
-      → entry (avm memo_most) v n ≡ some e → (e.start ≤ e.end) × (e.end ≤ length s)
+      → entry (avm memo_most) v n ≡ Some e → (e.start ≤ e.end) × (e.end ≤ length s)
   pub stands : (s : List ℕ) (n : ℕ) (v : Signed (avm memo_most)) (bytes : ℕ) (e : EntryAt) → Bytes s → check (avm memo_most) s ≡ took v bytes
-      → entry (avm memo_most) v n ≡ some e → StandsAs s e
+      → entry (avm memo_most) v n ≡ Some e → StandsAs s e
   -- 15 at place 0 if the reading has no such entry
   pub missing : (s : List ℕ) (n : ℕ) (v : Signed (avm memo_most)) (bytes : ℕ) → check (avm memo_most) s ≡ took v bytes
-      → entry (avm memo_most) v n ≡ none → (entry_of memo_most s n).answer ≡ E.Refused (refusal no_entry 0)
+      → entry (avm memo_most) v n ≡ None → (entry_of memo_most s n).answer ≡ Err (refusal no_entry 0)

@@ -1,7 +1,8 @@
 -- Document 01's "Table of proved cases", as rows of one table and one statement over it, and its "Bad examples". Assumes nothing.
-use Rattle.std.specs.Prelude.{◌≡◌, refl, ℕ, ◌+◌, List, [], ◌∷◌, ◌++◌, length, take, drop, replicate}
+use Rattle.wire.specs.declared.Refusal.{Refusal}
+use Rattle.std.specs.Prelude.{◌≡◌, refl, ℕ, ◌+◌, List, [], ◌∷◌, ◌++◌, length, take, drop, replicate, Result}
 use Rattle.wire.specs.Bytes.{value, digits, below}
-use Rattle.wire.specs.Format.{read, verdict, Result, took, refused}
+use Rattle.wire.specs.Format.{read, verdict, Parsed, took, refused}
 use Rattle.wire.specs.Fields.{integer, constant}
 use Rattle.wire.specs.Sequence.{guard, tag, items}
 use Rattle.wire.specs.Series.{count_prefixed}
@@ -21,7 +22,6 @@ use Rattle.transaction.specs.Answer.{memo_most}
 use Rattle.transaction.specs.Signed as AnySigned
 use Rattle.transaction.specs.Family.{Signed, head, unsigned, wants, check, entries}
 use Rattle.draft_slots.specs.Joining.{same, clashes, join, first_clash}
-use Rattle.draft.specs.declared.Answer.{Answer}
 use Rattle.draft.specs.Reader.{reader, body, slot_count, slot}
 use Rattle.draft.specs.Calls.{answer_number, answer_place, merged, merge_call, fill_call}
 
@@ -115,11 +115,11 @@ pub data Case : Type 0 where
   -- a draft, a slot and a signature; number, place, and the draft afterwards
   fills : List ℕ → ℕ → List ℕ → ℕ → ℕ → List ℕ → Case
 
-abbrev rows_of : Result (Signed (avm memo_most)) → List ℕ
+abbrev rows_of : Parsed (Signed (avm memo_most)) → List ℕ
 rows_of (took v n) = rows (entries (avm memo_most) v)
 rows_of (refused e) = []
 
-abbrev answered : Answer × List ℕ → (ℕ × ℕ) × List ℕ
+abbrev answered : Result ℕ Refusal × List ℕ → (ℕ × ℕ) × List ℕ
 answered (a, s) = ((answer_number a, answer_place a), s)
 
 abbrev pub Holds : Case → Type 0

@@ -1,6 +1,5 @@
 -- The hypotheses of demand 3 can be met, with a conflict and without one: by the drafts of P13 and of P14, and one call over them. Assumes nothing.
-use Rattle.std.specs.Prelude.{◌≡◌, List, [], ◌∷◌, ℕ, ◌<◌, length, replicate}
-use Rattle.std.proofs.Math.Option.{none, some}
+use Rattle.std.specs.Prelude.{◌≡◌, List, [], ◌∷◌, ℕ, ◌<◌, length, replicate, None, Some}
 use Rattle.transaction.specs.Avm.{avm}
 use Rattle.transaction.specs.Answer.{memo_most}
 use Rattle.draft.specs.Reader.{Reader, reader}
@@ -33,7 +32,7 @@ pub record Instances : Type 0 where
   pub halves-supposed : Supposed halves one_call
   pub halves-free : Conflict Avm halves → ⊥
   pub halves-merge : merge_of Avm halves ≡ A
-  pub halves-result : result Avm halves one_call ≡ some A
+  pub halves-result : result Avm halves one_call ≡ Some A
   pub clashing-supposed : Supposed clashing one_call
   pub clashing-conflict : Conflict Avm clashing
-  pub clashing-result : result Avm clashing one_call ≡ none
+  pub clashing-result : result Avm clashing one_call ≡ None

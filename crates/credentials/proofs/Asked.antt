@@ -1,7 +1,7 @@
 -- How many credentials are asked for: one for each value, or none. Assumes nothing.
+use Rattle.std.specs.Prelude.{Option, None, Some}
 use Prim.Native.Nat.{ℕ}
 use mathlib.Core.Path.{◌≡◌, refl}
-use mathlib.Core.Option.{Option, none, some}
 use mathlib.Core.List.{List, [], ◌∷◌}
 use native.Mathlib.Omega.{arith}
 use lib.ListN.{length, length-append}
@@ -11,13 +11,13 @@ use Rattle.transaction.specs.Form.{asked}
 use Rattle.plan.specs.code.Rows.{credential_asked}
 
 pub none-wanted : (c : Option CredentialType) (t n : ℕ) → t ≡ credential_asked c → t ≡ 0 → want_of c n ≡ []
-none-wanted none t n i z = refl
-none-wanted (some secp_credential) t n i z = absurd (omega arith)
-none-wanted (some nft_credential) t n i z = absurd (omega arith)
+none-wanted None t n i z = refl
+none-wanted (Some secp_credential) t n i z = absurd (omega arith)
+none-wanted (Some nft_credential) t n i z = absurd (omega arith)
 
 pub one_wanted : (c : Option CredentialType) (t n : ℕ) → t ≡ credential_asked c → (t ≡ 0 → ⊥) → length (want_of c n) ≡ 1
-one_wanted none t n i z = absurd (z i)
-one_wanted (some c) t n i z = refl
+one_wanted None t n i z = absurd (z i)
+one_wanted (Some c) t n i z = refl
 
 module _ {A : Type 0} (c : Option CredentialType) (f : A → ℕ) (t : ℕ) (i : t ≡ credential_asked c) where
   pub none-asked : t ≡ 0 → (v : List A) → asked (λ a. want_of c (f a)) v ≡ []

@@ -1,22 +1,19 @@
 -- Laws of the credentials, each read together with what wants it, after an unsigned part that was read. Assumes nothing.
+use Rattle.std.specs.Prelude.{Ok, Err, Option, Result, None, Some}
 use Prim.Native.Nat.{ℕ, ◌+◌, ◌-◌, ◌≤◌, ◌<◌}
 use mathlib.Core.Path.{◌≡◌, refl, sym, ap, ap₂, ◌∙◌, subst, subst₂}
 use mathlib.Core.List.{List, [], ◌∷◌, ◌++◌}
-use mathlib.Core.Option.{none}
 use native.Mathlib.Omega.{arith}
 use lib.ListN.{length}
 use Rattle.wire.specs.declared.Refusal.{Refusal}
-use Rattle.wire.specs.declared.End.{End}
-use Rattle.wire.specs.declared.End.TheVariants as Q
-use Rattle.wire.specs.declared.Integer.{Integer}
-use Rattle.wire.specs.declared.Integer.TheVariants as N
-use Rattle.wire.specs.Numbers.{by, cut_at, wrong_count}
+use Rattle.wire.specs.Numbers.{by, wrong_count}
 use Rattle.wire.specs.Format.{took, read}
 use Rattle.wire.specs.laws.Format.{parse-inv}
 use Rattle.wire.specs.Fields.{integer, constant}
 use Rattle.wire.specs.code.Answer.{ended, valued}
 use Rattle.wire.proofs.Bytes.{Slice}
 use Rattle.wire.proofs.Reading as W
+use Rattle.wire.proofs.Trying.{passed-on}
 use Rattle.transaction.specs.Credentials as Credentials
 use Rattle.transaction.specs.Credentials.{credential_pieces, Want, each, pieces, credentials}
 use Rattle.transaction.specs.Plan.{Plan, plan, type_of-id}
@@ -34,76 +31,88 @@ use Rattle.transaction.proofs.Verdicts.{layout-credentials}
 use Rattle.plan.specs.Due.{tail}
 use Rattle.credentials.specs.declared.Wanting.{Wanting}
 use Rattle.credentials.specs.declared.Wanted.{Wanted}
-use Rattle.credentials.specs.declared.Wanted.TheVariants as X
 use Rattle.credentials.specs.code.Wanted.{Wants, First, Nexts, NextWants, Beside, first_wanting}
 use Rattle.credentials.proofs.Asked.{none-asked}
 use Rattle.credentials.proofs.Ahead.{front_of, list_over}
 
 -- ---- the loop: n credentials are left, from `at` on, beside what is wanted from c on
 
-module _ (s : List ℕ) (type_id : ℕ) (c : Wanting) (n at : ℕ) (x : Wanted) (h : NextWants type_id s c x) where
-  beside_end : (r : End) → 0 < n → x ≡ X.Nothing → Beside type_id s c n at r
+module _ (s : List ℕ) (type_id : ℕ) (c : Wanting) (n at : ℕ) (x : Option Wanted) (h : NextWants type_id s c x) where
+  beside_end : (r : Result ℕ Refusal) → 0 < n → x ≡ None → Beside type_id s c n at r
   beside_end r o q most ws w e =
-      let none : ws ≡ [] = subst (λ (x : Wanted). Nexts most s type_id ws x) q (h most ws w) in
-      absurd (omega (arith, ap length none))
+      let empty : ws ≡ [] = subst (λ (x : Option Wanted). Nexts most s type_id ws x) q (h most ws w) in
+      absurd (omega (arith, ap length empty))
 
-  module _ (t k : ℕ) (d : Wanting) (q : x ≡ X.Credential t k d) (y : End) (g : y ≡ ended (pieces (credential_pieces t k [])) s at) where
+  module _ (v : Wanted) (q : x ≡ Some v) (y : Result ℕ Refusal) (g : y ≡ ended (pieces (credential_pieces v.credential v.signatures [])) s at) where
+    abbrev d : Wanting
+    d = v.next
+
+    abbrev t : ℕ
+    t = v.credential
+
+    abbrev k : ℕ
+    k = v.signatures
+
     first : (most : ℕ) (ws : List Want) → Wants most s type_id c ws → First most s t k (Wants most s type_id d) ws
-    first most ws w = subst (λ (x : Wanted). Nexts most s type_id ws x) q (h most ws w)
+    first most ws w = subst (λ (x : Option Wanted). Nexts most s type_id ws x) q (h most ws w)
 
     split : (most : ℕ) (ws : List Want) (f : First most s t k (Wants most s type_id d) ws)
-        → ended (pieces (each ws)) s at ≡ (pieces (credential_pieces t k [])).parse s at Q.Refused (λ b m. ended (pieces (each f.others)) s m)
+        → ended (pieces (each ws)) s at ≡ (pieces (credential_pieces t k [])).parse s at Err (λ b m. ended (pieces (each f.others)) s m)
     split most ws f =
         ap (λ (ws : List Want). ended (pieces (each ws)) s at) f.all
-        ∙ each-then s Q.Refused Q.At f.want f.others at
-        ∙ ap₂ (λ (i j : ℕ). (pieces (credential_pieces i j [])).parse s at Q.Refused (λ b m. ended (pieces (each f.others)) s m)) (sym f.type)
+        ∙ each-then s Err Ok f.want f.others at
+        ∙ ap₂ (λ (i j : ℕ). (pieces (credential_pieces i j [])).parse s at Err (λ b m. ended (pieces (each f.others)) s m)) (sym f.type)
         (sym f.signatures)
 
-    beside-refused : (e : Refusal) → y ≡ Q.Refused e → Beside type_id s c n at (Q.Refused e)
+    beside-refused : (e : Refusal) → y ≡ Err e → Beside type_id s c n at (Err e)
     beside-refused e i most ws w l =
         let f = first most ws w in
-        W.stops (pieces (credential_pieces t k [])) End s at (Q.Refused e) Q.Refused _ y e g i refl ∙ sym (split most ws f)
+        W.stops (pieces (credential_pieces t k [])) (Result ℕ Refusal) s at (Err e) Err _ y e g i refl ∙ sym (split most ws f)
 
-    beside-past : (r : End) (m : ℕ) → y ≡ Q.At m → Beside type_id s d (n - 1) m r → Beside type_id s c n at r
+    beside-past : (r : Result ℕ Refusal) (m : ℕ) → y ≡ Ok m → Beside type_id s d (n - 1) m r → Beside type_id s c n at r
     beside-past r m i b most ws w l =
         let f = first most ws w in
         let left : length f.others ≡ n - 1 = omega (arith, ap length f.all) in
-        W.ends (pieces (credential_pieces t k [])) End s at r Q.Refused _ y m g i (λ v. b most f.others f.after left) ∙ sym (split most ws f)
+        W.ends (pieces (credential_pieces t k [])) (Result ℕ Refusal) s at r Err _ y m g i (λ v. b most f.others f.after left) ∙ sym (split most ws f)
 
-beside-done : (s : List ℕ) (type_id : ℕ) (c : Wanting) (n at : ℕ) → n ≤ 0 → Beside type_id s c n at (Q.At at)
+beside-done : (s : List ℕ) (type_id : ℕ) (c : Wanting) (n at : ℕ) → n ≤ 0 → Beside type_id s c n at (Ok at)
 unfolding each pieces
 beside-done s type_id c n at h most [] w l = refl
 beside-done s type_id c n at h most (d ∷ ws) w l = absurd (omega arith)
 
--- an answer for the credentials that are left is one for all: `count` from `start` on, beside what is wanted from `from` on
+-- an answer for the credentials from the i-th on is one for all: `count` from `start` on, beside what is wanted from `from` on
 module _ (s : List ℕ) (type_id : ℕ) (from : Wanting) (count start : ℕ) where
   unfoldable pub BesideOnward : Wanting → ℕ → ℕ → Type 0
-  BesideOnward c n at = (r : End) → Beside type_id s c n at r → Beside type_id s from count start r
+  BesideOnward c i at = (r : Result ℕ Refusal) → Beside type_id s c (count - i) at r → Beside type_id s from count start r
 
-  pub onward-start : BesideOnward from count start
+  pub onward-start : BesideOnward from 0 start
   unfolding BesideOnward
-  onward-start r h = h
+  onward-start r h = let e : count - 0 ≡ count = omega arith in subst (λ (n : ℕ). Beside type_id s from n start r) e h
 
-  module _ (c : Wanting) (n at : ℕ) (o : BesideOnward c n at) where
-    pub onward-done : n ≤ 0 → Beside type_id s from count start (Q.At at)
+  module _ (c : Wanting) (i at : ℕ) (o : BesideOnward c i at) where
+    pub onward-done : count ≤ i → Beside type_id s from count start (Ok at)
     unfolding BesideOnward
-    onward-done h = o (Q.At at) (beside-done s type_id c n at h)
+    onward-done h = o (Ok at) (beside-done s type_id c (count - i) at (omega arith))
 
-    module _ (x : Wanted) (h : NextWants type_id s c x) where
-      pub onward-end : (r : End) → 0 < n → x ≡ X.Nothing → Beside type_id s from count start r
+    module _ (x : Option Wanted) (h : NextWants type_id s c x) where
+      pub onward-end : (r : Result ℕ Refusal) → i < count → x ≡ None → Beside type_id s from count start r
       unfolding BesideOnward
-      onward-end r l q = o r (beside_end s type_id c n at x h r l q)
+      onward-end r l q = o r (beside_end s type_id c (count - i) at x h r (omega arith) q)
 
-      module _ (t k : ℕ) (d : Wanting) (q : x ≡ X.Credential t k d) (y : End) (g : y ≡ ended (pieces (credential_pieces t k [])) s at) where
-        pub onward-refused : (e : Refusal) → y ≡ Q.Refused e → Beside type_id s from count start (Q.Refused e)
+      module _ (v : Wanted) (q : x ≡ Some v) (y : Result ℕ Refusal) (g : y ≡ ended (pieces (credential_pieces v.credential v.signatures [])) s at) where
+        pub onward-refused : (e : Refusal) → y ≡ Err e → (r : Result ℕ Refusal) → r ≡ Err e → Beside type_id s from count start r
         unfolding BesideOnward
-        onward-refused e i = o (Q.Refused e) (beside-refused s type_id c n at x h t k d q y g e i)
+        onward-refused e t r u =
+            subst (λ (r : Result ℕ Refusal). Beside type_id s from count start r) (sym u)
+            (o (Err e) (beside-refused s type_id c (count - i) at x h v q y g e t))
 
-        pub onward-past : (m : ℕ) → y ≡ Q.At m → BesideOnward d (n - 1) m
+        pub onward-past : (m : ℕ) → y ≡ Ok m → (d : Wanting) → d ≡ v.next → BesideOnward d (i + 1) m
         unfolding BesideOnward
-        onward-past m i r b = o r (beside-past s type_id c n at x h t k d q y g r m i b)
+        onward-past m t d e r b =
+            let k : count - (i + 1) ≡ (count - i) - 1 = omega arith in
+            o r (beside-past s type_id c (count - i) at x h v q y g r m t (subst₂ (λ (d : Wanting) (n : ℕ). Beside type_id s d n m r) e k b))
 
-pub ruleset onward = (onward-start, onward-done, onward-end, onward-refused, onward-past)
+pub ruleset onward = (onward-start, onward-done, onward-end, onward-refused, onward-past, passed-on)
 
 -- ---- all credentials
 
@@ -116,7 +125,7 @@ body most s b d v a k ha e =
     let o : Plan = tail (plan d.type) in
     let f = front_of most (list_of L.Output 0) o s a v k e in
     let ws : asked (element_asks L.Output) v.0 ++ wanted o v.1 ≡ wanted o v.1 =
-    ap (λ (l : List Want). l ++ wanted o v.1) (none-asked none (λ v. 0) 0 refl refl v.0) in
+    ap (λ (l : List Want). l ++ wanted o v.1) (none-asked None (λ v. 0) 0 refl refl v.0) in
     let others : f.others ≡ v.1 = sym (ap (λ (w : Value (plan d.type)). w.1) f.all) in
     let outs : f.between ≡ v.0 = sym (ap (λ (w : Value (plan d.type)). w.0) f.all) in
     let place : f.next ≡ length ((head (avm most)).write d) + length ((list_of L.Output 0).write v.0) =
@@ -147,8 +156,8 @@ pub credentials-stand : (most : ℕ) (s : List ℕ) (u : Unsigned (avm most)) (a
 credentials-stand most s u at w b e h =
     omega (arith, written_next (unsigned (avm most)) s 0 u at b e, layout-credentials most u, ap (λ (v : Layout). v.credentials_at) h)
 
-module _ (w : Layout) (s : List ℕ) (b : Slice s) (x : Integer) (p : x ≡ valued (integer 4) s w.credentials_at) where
-  on-place : (r : End)
+module _ (w : Layout) (s : List ℕ) (b : Slice s) (x : Result (ℕ × ℕ) Refusal) (p : x ≡ valued (integer 4) s w.credentials_at) where
+  on-place : (r : Result ℕ Refusal)
       → ((most : ℕ) (u : Unsigned (avm most)) → read (unsigned (avm most)) s 0 ≡ took u w.credentials_at → w ≡ layout most u
       → r ≡ ended (credentials (wants (avm most) u)) s w.credentials_at)
       → CredentialsAt w s r
@@ -157,40 +166,40 @@ module _ (w : Layout) (s : List ℕ) (b : Slice s) (x : Integer) (p : x ≡ valu
       subst (λ (j : ℕ). r ≡ ended (credentials (wants (avm most) u)) s j) (sym i) (g most u (e ∙ ap (took u) i) h)
 
 module _ (most : ℕ) (w : Layout) (s : List ℕ) (at : ℕ) (u : Unsigned (avm most)) (e : read (unsigned (avm most)) s 0 ≡ took u at) (h : w ≡ layout most u)
-    (x : Integer) (p : x ≡ valued (integer 4) s at) where
+    (x : Result (ℕ × ℕ) Refusal) (p : x ≡ valued (integer 4) s at) where
   abbrev Wanting-here : List Want
   Wanting-here = wants (avm most) u
 
-  count-short : (d f : Refusal) → x ≡ N.Refused d → f ≡ cut_at 4 s at → Q.Refused f ≡ ended (credentials Wanting-here) s at
+  count-short : (d : Refusal) (z : Result ℕ Refusal) → x ≡ Err d → z ≡ Err d → z ≡ ended (credentials Wanting-here) s at
   unfolding credentials Credentials.layout pieces constant
-  count-short d f q g = W.on-short 4 s at _ Q.Refused _ x d p q f g refl
+  count-short d z q g = W.on-integer-refused 4 s at z Err _ x d p q g
 
-  count-other : (c i : ℕ) → x ≡ N.Value c i → (c ≡ w.credentials_count → ⊥) → Q.Refused (by wrong_count at) ≡ ended (credentials Wanting-here) s at
+  count-other : (c i : ℕ) → x ≡ Ok (c, i) → (c ≡ w.credentials_count → ⊥) → Err (by wrong_count at) ≡ ended (credentials Wanting-here) s at
   unfolding credentials Credentials.layout pieces constant wants
   count-other c i q o =
-      W.on_value 4 s at _ Q.Refused _ x c i p q
+      W.on_value 4 s at _ Err _ x c i p q
       (W.if-ne c (length Wanting-here) _ _ _ (λ j. o (j ∙ sym (ap (λ (v : Layout). v.credentials_count) h))) refl)
 
-  count_same : (c i : ℕ) (r : End) → x ≡ N.Value c i → c ≡ w.credentials_count → Slice s → Beside w.type_id s (first_wanting w) c i r
+  count_same : (c i : ℕ) (r : Result ℕ Refusal) → x ≡ Ok (c, i) → c ≡ w.credentials_count → Slice s → Beside w.type_id s (first_wanting w) c i r
       → r ≡ ended (credentials Wanting-here) s at
   unfolding credentials Credentials.layout pieces constant wants
   count_same c i r q o b d =
       let counts : c ≡ length Wanting-here = o ∙ ap (λ (v : Layout). v.credentials_count) h in
       let here : Wants most s w.type_id (first_wanting w) Wanting-here =
       subst (λ (v : Layout). Wants most s v.type_id (first_wanting v) Wanting-here) (sym h) (first-wants most s u at b e) in
-      W.on_value 4 s at _ Q.Refused _ x c i p q (W.if-eq c (length Wanting-here) _ _ _ counts (d most Wanting-here here (sym counts)))
+      W.on_value 4 s at _ Err _ x c i p q (W.if-eq c (length Wanting-here) _ _ _ counts (d most Wanting-here here (sym counts)))
 
 -- for any unsigned part that was read with this layout
-module _ (w : Layout) (s : List ℕ) (b : Slice s) (x : Integer) (p : x ≡ valued (integer 4) s w.credentials_at) where
-  pub counted-short : (d f : Refusal) → x ≡ N.Refused d → f ≡ cut_at 4 s w.credentials_at → CredentialsAt w s (Q.Refused f)
-  counted-short d f q g = on-place w s b x p _ (λ most u e h. count-short most w s _ u e h x p d f q g)
+module _ (w : Layout) (s : List ℕ) (b : Slice s) (x : Result (ℕ × ℕ) Refusal) (p : x ≡ valued (integer 4) s w.credentials_at) where
+  pub counted-short : (d : Refusal) (z : Result ℕ Refusal) → x ≡ Err d → z ≡ Err d → CredentialsAt w s z
+  counted-short d z q g = on-place w s b x p z (λ most u e h. count-short most w s _ u e h x p d z q g)
 
-  pub counted-other : (c i : ℕ) → x ≡ N.Value c i → (c ≡ w.credentials_count → ⊥) → (f : Refusal) → f ≡ by wrong_count w.credentials_at
-      → CredentialsAt w s (Q.Refused f)
+  pub counted-other : (c i : ℕ) → x ≡ Ok (c, i) → (c ≡ w.credentials_count → ⊥) → (f : Refusal) → f ≡ by wrong_count w.credentials_at
+      → CredentialsAt w s (Err f)
   counted-other c i q o f g =
-      subst (λ (e : Refusal). CredentialsAt w s (Q.Refused e)) (sym g) (on-place w s b x p _ (λ most u e h. count-other most w s _ u e h x p c i q o))
+      subst (λ (e : Refusal). CredentialsAt w s (Err e)) (sym g) (on-place w s b x p _ (λ most u e h. count-other most w s _ u e h x p c i q o))
 
-  pub counted_same : (c i : ℕ) (r : End) → x ≡ N.Value c i → c ≡ w.credentials_count → (from : Wanting) → from ≡ first_wanting w
+  pub counted_same : (c i : ℕ) (r : Result ℕ Refusal) → x ≡ Ok (c, i) → c ≡ w.credentials_count → (from : Wanting) → from ≡ first_wanting w
       → Beside w.type_id s from c i r → CredentialsAt w s r
   counted_same c i r q o from f d =
       on-place w s b x p r (λ most u e h. count_same most w s _ u e h x p c i r q o b (subst (λ (from : Wanting). Beside w.type_id s from c i r) f d))

@@ -8,7 +8,6 @@ ghost use Rattle.credentials.specs.code.Wanted.{ListBegins, Begins, BegunLive, E
 use crate::{Begun, Wanted, Wanting};
 use plan::{Due, rows};
 use transaction::{Layout, ListName};
-use wire::{End, Integer};
 
 // The cursor just past the outputs, which ask for nothing: before the first element that may ask.
 pub fn first_wanting(layout: Layout) -> Wanting
@@ -23,64 +22,73 @@ pub fn first_wanting(layout: Layout) -> Wanting
 }
 
 // Enters a list; skips it if its elements ask for no credentials.
-fn list_begun(s: &[u8], at: usize, list: ListName) -> Begun
+fn list_begun(s: &[u8], at: usize, list: ListName) -> Option<Begun>
     ensures { ListBegins list s.now at result }
 {
-    let Integer::Value(count, first) = wire::u32_at(s, at) else {
-        return Begun::Nothing;
-    };
+    let (count, first) = wire::u32_at(s, at).ok()?;
     let asks = rows::credential_of(list);
     if asks == 0 {
-        return match rows::elements_past(s, first, count, list) {
-            End::Refused(_) => Begun::Nothing,
-            End::At(next) => Begun::Into(0, 0, next),
-        };
+        let next = rows::elements_past(s, first, count, list).ok()?;
+        return Some(Begun::Into {
+            asks: 0,
+            count: 0,
+            start: next,
+        });
     }
-    Begun::Into(asks, count, first)
+    Some(Begun::Into {
+        asks,
+        count,
+        start: first,
+    })
 }
 
 // Enters the next segment.
-fn begun_at(s: &[u8], type_id: u32, phase: u32, at: usize) -> Begun
+fn begun_at(s: &[u8], type_id: u32, phase: u32, at: usize) -> Option<Begun>
     ensures begins { Begins (due phase (plan_of type_id)) s.now at result }
     ensures begun_live { BegunLive (due phase (plan_of type_id)) result }
 {
     match rows::due_at(type_id, phase) {
-        Due::Nothing => Begun::Nothing,
-        Due::Finish => Begun::Nothing,
+        Due::Nothing | Due::Finish => None,
         Due::List(list, _) => list_begun(s, at, list),
         Due::Field(field) => {
             let next = rows::field_past(s, at, field);
             let asks = rows::field_credential(field);
             if asks == 0 {
-                return Begun::Into(0, 0, next);
+                return Some(Begun::Into {
+                    asks: 0,
+                    count: 0,
+                    start: next,
+                });
             }
-            Begun::Asks(asks, rows::field_signatures(s, at, field), next)
+            Some(Begun::Asks {
+                credential: asks,
+                signatures: rows::field_signatures(s, at, field),
+                next,
+            })
         }
     }
 }
 
 // The credential that the current element of a list asks for.
-fn element_wanted(s: &[u8], from: Wanting) -> Wanted
+fn element_wanted(s: &[u8], from: Wanting) -> Option<Wanted>
     requires { 0 < from.left }
     ensures { ElementWants s.now from result }
 {
-    let Integer::Value(signatures, at) = rows::asking_past(s, from.at, from.asks) else {
-        return Wanted::Nothing;
-    };
-    Wanted::Credential(
-        from.asks,
+    let (signatures, at) = rows::asking_past(s, from.at, from.asks).ok()?;
+    Some(Wanted {
+        credential: from.asks,
         signatures,
-        Wanting {
+        next: Wanting {
             phase: from.phase,
             asks: from.asks,
             at,
             left: from.left - 1,
         },
-    )
+    })
 }
 
 // The credential wanted next. The cursor is kept as separate locals, which is faster if this function is not inlined.
-pub fn next_wanted(s: &[u8], type_id: u32, from: Wanting) -> Wanted
+pub fn next_wanted(s: &[u8], type_id: u32, from: Wanting) -> Option<Wanted>
     ensures { NextWants type_id s.now from result }
 {
     let mut phase = from.phase;
@@ -88,26 +96,31 @@ pub fn next_wanted(s: &[u8], type_id: u32, from: Wanting) -> Wanted
     let mut at = from.at;
     let mut left = from.left;
     while left == 0 {
-        match begun_at(s, type_id, phase, at) {
-            Begun::Nothing => {
-                return Wanted::Nothing;
-            }
-            Begun::Asks(credential, signatures, next) => {
-                return Wanted::Credential(
+        match begun_at(s, type_id, phase, at)? {
+            Begun::Asks {
+                credential,
+                signatures,
+                next,
+            } => {
+                return Some(Wanted {
                     credential,
                     signatures,
-                    Wanting {
+                    next: Wanting {
                         phase: phase + 1,
                         asks: credential,
                         at: next,
                         left: 0,
                     },
-                );
+                });
             }
-            Begun::Into(credential, count, next) => {
+            Begun::Into {
+                asks: credential,
+                count,
+                start,
+            } => {
                 phase += 1;
                 asks = credential;
-                at = next;
+                at = start;
                 left = count;
             }
         }
@@ -124,7 +137,7 @@ pub fn next_wanted(s: &[u8], type_id: u32, from: Wanting) -> Wanted
 }
 
 // `next_wanted` with a fast path inside a list, short enough that the compiler inlines it in a loop over credentials.
-pub(crate) fn next_wanted_fast(s: &[u8], type_id: u32, from: Wanting) -> Wanted
+pub(crate) fn next_wanted_fast(s: &[u8], type_id: u32, from: Wanting) -> Option<Wanted>
     ensures { NextWants type_id s.now from result }
 {
     if 0 < from.left {

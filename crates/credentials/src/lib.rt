@@ -14,18 +14,26 @@ pub struct Wanting {
     pub left: u64,
 }
 
-// The next segment. `Into`: the credential type that each element of a list asks for, their number, and the offset of the first; 0 elements if the
-// segment asks for none. `Asks`: the credential type that a field asks for, its number of signatures, and the offset just past the field.
+// The next segment. `Into`: a list, the type of the credential that each element asks for, and where they start; 0 elements if the segment asks for
+// none. `Asks`: a field that asks for a credential; `next` is the offset just past it.
 #[derive(Clone, Copy)]
 pub(crate) enum Begun {
-    Nothing,
-    Into(u64, u64, usize),
-    Asks(u64, u64, usize),
+    Into {
+        asks: u64,
+        count: u64,
+        start: usize,
+    },
+    Asks {
+        credential: u64,
+        signatures: u64,
+        next: usize,
+    },
 }
 
 // The credential wanted next: its type, its number of signatures, and the cursor just past what asks for it.
 #[derive(Clone, Copy)]
-pub enum Wanted {
-    Nothing,
-    Credential(u64, u64, Wanting),
+pub struct Wanted {
+    pub credential: u64,
+    pub signatures: u64,
+    pub next: Wanting,
 }

@@ -1,4 +1,5 @@
 -- What holds of bytes after the check has answered. Assumes nothing.
+use Rattle.std.specs.Prelude.{Ok, Err, Result}
 use mathlib.Core.Path.{◌≡◌, refl, sym, ap, ap₂, ◌∙◌}
 use mathlib.Core.Bool.{true, false}
 use mathlib.Core.List.{List}
@@ -6,7 +7,7 @@ use Prim.Native.Nat.{ℕ, ◌+◌, ◌-◌, ◌^◌, ◌≤◌, ◌<◌}
 use native.Mathlib.Omega.{arith}
 use lib.ListN.{length, take}
 use Rattle.wire.specs.Bytes.{between}
-use Rattle.wire.specs.Format.{Format, Result, on_result}
+use Rattle.wire.specs.Format.{Format, Parsed, on_result}
 use Rattle.wire.specs.declared.Refusal.{Refusal}
 use Rattle.wire.proofs.Bytes.{Slice, slice-bytes, found}
 use Rattle.transaction.specs.Slots.{Spaced}
@@ -16,8 +17,6 @@ use Rattle.transaction.specs.Family.{Unsigned, unsigned, wants}
 use Rattle.transaction.specs.Avm.{avm}
 use Rattle.transaction.specs.Answer.{layout, checked}
 use Rattle.transaction.specs.declared.Layout.{Layout}
-use Rattle.transaction.specs.declared.Checked.{Checked}
-use Rattle.transaction.specs.declared.Checked.TheVariants as C
 use Rattle.transaction.proofs.Signed.{parts-took, check-of, read-body, slots-eq, length-eq, spaced-slots, same-unsigned}
 use Rattle.transaction.proofs.Verdicts.{refused-check, checked-accepted, layout-credentials}
 use Rattle.draft_slots.specs.code.Scan.{scan_from}
@@ -53,7 +52,7 @@ module _ (most : ℕ) where
   unfolding wants
   layout-count u = refl
 
-  pub known : (s : List ℕ) → Slice s → (x : Checked) (w : Layout) (n : ℕ) → x ≡ checked most s → x ≡ C.Accepted w n → Known s w n
+  pub known : (s : List ℕ) → Slice s → (x : Result (Layout × ℕ) Refusal) (w : Layout) (n : ℕ) → x ≡ checked most s → x ≡ Ok (w, n) → Known s w n
   known s b x w n p q =
       let (v, e, l) = checked-accepted most s w n (found q p) in
       let r = parts-took U W s v n (slice-bytes s b) e in
@@ -75,10 +74,11 @@ module _ (most : ℕ) where
       }
 
   -- the first credential, just past the credential count, starts inside the bytes
-  pub start_fits : (s : List ℕ) → Slice s → (x : Checked) (w : Layout) (n : ℕ) → x ≡ checked most s → x ≡ C.Accepted w n → w.credentials_at + 4 < 2 ^ 64
+  pub start_fits : (s : List ℕ) → Slice s → (x : Result (Layout × ℕ) Refusal) (w : Layout) (n : ℕ) → x ≡ checked most s → x ≡ Ok (w, n)
+      → w.credentials_at + 4 < 2 ^ 64
   start_fits s b x w n p q = let d = known s b x w n p q in omega (arith, d.start, d.parts.short)
 
-  pub not-accepted : (s : List ℕ) (x : Checked) (e : Refusal) → x ≡ checked most s → x ≡ C.Refused e → avm_reader.accepts s ≡ false
+  pub not-accepted : (s : List ℕ) (x : Result (Layout × ℕ) Refusal) (e : Refusal) → x ≡ checked most s → x ≡ Err e → avm_reader.accepts s ≡ false
   not-accepted s x e p q = ap taken (refused-check most s e (found q p))
 
   -- the bytes before the credential count are the unsigned transaction
@@ -97,7 +97,7 @@ module _ (most : ℕ) where
       let one = sym (read-body U W e h.value k.signatures p) ∙ read-body U W e k.value k.signatures k.parts in
       let r : length (U.write h.value) ≡ length (U.write k.value) = ap end_of one in
       let c : length (W h.value) ≡ length (W k.value) =
-      ap (λ (o : Result (Unsigned (avm most))). on_result o (λ e. 0) (λ u n. length (W u))) one in (
+      ap (λ (o : Parsed (Unsigned (avm most))). on_result o (λ e. 0) (λ u n. length (W u))) one in (
         slots-eq U W e h.value k.signatures p ∙ sym (slots-eq U W d h.value h.signatures h.parts),
         length-eq U W e h.value k.signatures p ∙ sym (length-eq U W d h.value h.signatures h.parts),
         h.end ∙ r ∙ sym k.end,

@@ -1,5 +1,6 @@
 -- In a transaction the scan by the counts stored there finds exactly its slots. For any unsigned format and any credentials wanted.
 -- Assumes nothing.
+use Rattle.std.specs.Prelude.{Some, None, Option}
 use mathlib.Core.Path.{◌≡◌, refl, sym, ap, ◌∙◌, subst}
 use mathlib.Core.List.{List, [], ◌∷◌, ◌++◌, append_assoc, append-nil}
 use Prim.Native.Nat.{ℕ, zero, suc, ◌+◌, ◌*◌, ◌≤◌}
@@ -16,7 +17,6 @@ use Rattle.transaction.specs.Credentials.{Want, credential_code, Piece, signatur
 use Rattle.transaction.specs.Signed.{assemble, Parts}
 use Rattle.draft_slots.specs.code.Scan.{range_at, on_range, slot_range, scan_from}
 use Rattle.draft_slots.specs.declared.SlotRange.{SlotRange}
-use Rattle.draft_slots.specs.declared.SlotRange.TheVariants as R
 
 -- n signatures are a slot range, and the other slots follow it
 places-range : (n : ℕ) (ps : List Piece) (p : ℕ) → places p (signatures n ps) ≡ slot_range n p ++ places (p + 65 * n) ps
@@ -54,6 +54,9 @@ split (suc n) ps (b ∷ l) g =
 after-integer : (s : List ℕ) (q v : ℕ) (t : List ℕ) → drop q s ≡ (integer 4).write v ++ t → drop (q + 4) s ≡ t
 after-integer s q v t h = subst (λ (n : ℕ). drop (q + n) s ≡ t) (length-integer 4 v) (drop-step s q ((integer 4).write v) t h)
 
+abbrev pub slots : ℕ → ℕ → ℕ → Option SlotRange
+slots p n next = Some (record { first = p; count = n; next = next })
+
 -- the slots of the credential at offset q, and the bytes after them
 module _ (s : List ℕ) (q t n : ℕ) (x rest : List ℕ) (gt : (integer 4).Good t) (gn : (integer 4).Good n) (lx : length x ≡ 65 * n) (bx : Bytes x)
     (h : drop q s ≡ (integer 4).write t ++ ((integer 4).write n ++ (x ++ rest))) where
@@ -66,22 +69,22 @@ module _ (s : List ℕ) (q t n : ℕ) (x rest : List ℕ) (gt : (integer 4).Good
   pub after-signatures : drop (q + 4 + 4 + 65 * n) s ≡ rest
   after-signatures = subst (λ (i : ℕ). drop (q + 4 + 4 + i) s ≡ rest) lx (drop-step s (q + 4 + 4) x rest at-signatures)
 
-  pub range-there : range_at s q ≡ R.Slots (q + 4 + 4) n (q + 4 + 4 + 65 * n)
+  pub range-there : range_at s q ≡ slots (q + 4 + 4) n (q + 4 + 4 + 65 * n)
   unfolding blob
   range-there =
-      (blob 4).complete s q ((integer 4).write t) ((integer 4).write n ++ (x ++ rest)) (λ e. R.Nothing) (λ b i. counted i)
+      (blob 4).complete s q ((integer 4).write t) ((integer 4).write n ++ (x ++ rest)) (λ e. None) (λ b i. counted i)
       (length-integer 4 t, (integer 4).bytes t gt) h
       ∙ ap (λ (i : ℕ). counted (q + i)) (length-integer 4 t)
-      ∙ (integer 4).complete s (q + 4) n (x ++ rest) (λ e. R.Nothing) signed gn at_count
+      ∙ (integer 4).complete s (q + 4) n (x ++ rest) (λ e. None) signed gn at_count
       ∙ ap (λ (i : ℕ). signed n (q + 4 + i)) (length-integer 4 n)
-      ∙ (blob (65 * n)).complete s (q + 4 + 4) x rest (λ e. R.Nothing) (λ b next. R.Slots (q + 4 + 4) n next) (lx, bx) at-signatures
-      ∙ ap (λ (i : ℕ). R.Slots (q + 4 + 4) n (q + 4 + 4 + i)) lx
+      ∙ (blob (65 * n)).complete s (q + 4 + 4) x rest (λ e. None) (λ b next. slots (q + 4 + 4) n next) (lx, bx) at-signatures
+      ∙ ap (λ (i : ℕ). slots (q + 4 + 4) n (q + 4 + 4 + i)) lx
     where
-      signed : ℕ → ℕ → SlotRange
-      signed c first = (blob (65 * c)).parse s first (λ e. R.Nothing) (λ b next. R.Slots first c next)
+      signed : ℕ → ℕ → Option SlotRange
+      signed c first = (blob (65 * c)).parse s first (λ e. None) (λ b next. slots first c next)
 
-      counted : ℕ → SlotRange
-      counted i = (integer 4).parse s i (λ e. R.Nothing) signed
+      counted : ℕ → Option SlotRange
+      counted i = (integer 4).parse s i (λ e. None) signed
 
 -- three byte strings, one after the other, the third in two pieces
 pub regroup : (a b c x y rest : List ℕ) → c ≡ x ++ y → (a ++ (b ++ c)) ++ rest ≡ a ++ (b ++ (x ++ (y ++ rest)))
@@ -100,7 +103,7 @@ scan-each (w ∷ ws) l s q rest g h =
     let k : drop q s ≡ (integer 4).write t ++ ((integer 4).write n ++ (r.front ++ y)) =
     h ∙ regroup ((integer 4).write t) ((integer 4).write n) ((pieces (signatures n (each ws))).write l) r.front ((pieces (each ws)).write r.others) rest
     r.written in
-    ap (λ (u : SlotRange). on_range u [] (λ first c next. slot_range c first ++ scan_from (length ws) s next))
+    ap (λ (u : Option SlotRange). on_range u [] (λ first c next. slot_range c first ++ scan_from (length ws) s next))
     (range-there s q t n r.front y g.0.0 g.1.0.0 r.long r.bytes k)
     ∙ ap (λ (ps : List ℕ). slot_range n (q + 4 + 4) ++ ps)
     (scan-each ws r.others s (q + 4 + 4 + 65 * n) rest r.good (after-signatures s q t n r.front y g.0.0 g.1.0.0 r.long r.bytes k))

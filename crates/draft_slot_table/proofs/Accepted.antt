@@ -1,4 +1,5 @@
 -- In an accepted transaction the scan by the counts stored there finds its slots. Assumes nothing.
+use Rattle.std.specs.Prelude.{Option}
 use Prim.Native.Nat.{ℕ, zero, suc, ◌+◌, ◌*◌}
 use mathlib.Core.Path.{◌≡◌, refl, sym, ap, ap₂, ◌∙◌}
 use mathlib.Core.List.{List, [], ◌∷◌, ◌++◌, map}
@@ -39,7 +40,7 @@ scan-each k (w ∷ ws) l s q rest g h =
     h ∙ regroup ((integer 4).write t) ((integer 4).write n) ((pieces (signatures n (each ws))).write l) r.front
     ((pieces (each ws)).write r.others) rest r.written in
     let next : q + 4 + 4 + 65 * n ≡ q + size (credential w []) = omega (arith, size-signatures n) in
-    ap (λ (u : SlotRange). on_range u [] (λ first c m. slots_in k c first ++ scan_from (suc k) (length ws) s m))
+    ap (λ (u : Option SlotRange). on_range u [] (λ first c m. slots_in k c first ++ scan_from (suc k) (length ws) s m))
     (range-there s q t n r.front y g.0.0 g.1.0.0 r.long r.bytes there)
     ∙ ap₂ (λ (a b : List Slot). a ++ b) (range-places k n (q + 4 + 4))
     (scan-each (suc k) ws r.others s (q + 4 + 4 + 65 * n) rest r.good

@@ -1,12 +1,12 @@
 -- The rows describe the slots that merging and filling use: their offsets, and which are empty. Assumes nothing.
 use Prim.Native.Nat.{ℕ, zero, suc, ◌+◌, ◌*◌}
+use mir.Val.{bool_byte}
 use mathlib.Core.Path.{◌≡◌, refl, sym, ap, ◌∙◌}
-use mathlib.Core.Bool.{Bool, true, false, cond}
+use mathlib.Core.Bool.{Bool, true, false, not, cond}
 use mathlib.Core.List.{List, [], ◌∷◌, ◌++◌, append_assoc, map}
 use native.Mathlib.Omega.{arith}
 use lib.ListN.{length, length-append}
-use Rattle.wire.specs.Format.{Format, Result, took, refused, read}
-use Rattle.wire.proofs.Bytes.{found}
+use Rattle.wire.specs.Format.{Format, Parsed, took, refused, read}
 use Rattle.transaction.specs.Slots.{signature_width, blank, slot_at}
 use Rattle.transaction.specs.Credentials.{Want, Piece, signatures, credential, each, layout, places, size}
 use Rattle.transaction.specs.Signed as Signed
@@ -51,7 +51,7 @@ module _ {U : Type 0} (body : Format U) (wants : U → List Want) where
   unfolding layout places
   slot-places d = go (read body d 0)
     where
-      go : (o : Result U) → map (λ x. x.place) (slots_of wants o) ≡ Signed.slots_of wants o
+      go : (o : Parsed U) → map (λ x. x.place) (slots_of wants o) ≡ Signed.slots_of wants o
       go (took u m) = places-from 0 (m + 4) (wants u)
       go (refused e) = refl
 
@@ -80,15 +80,13 @@ module _ (d : List ℕ) (p : ℕ) where
 
 -- x is the slot, and r says whether it is empty
 module _ (d : List ℕ) (p : ℕ) (x : List ℕ) (r : Bool) (h : x ≡ slot_at d p) (g : r ≡ same x blank) where
-  pub blank-filled : r ≡ true → 0 ≡ filled_at d p
+  pub filling : (z : ℕ) → z ≡ bool_byte (not r) → z ≡ filled_at d p
   unfolding filled_at
-  blank-filled e = rw (← h, found g e)
-
-  pub signed-filled : r ≡ false → 1 ≡ filled_at d p
-  unfolding filled_at
-  signed-filled e = rw (← h, found g e)
-
-pub ruleset filling = (blank-filled, signed-filled)
+  filling z e = e ∙ go r ∙ ap (λ (b : Bool). cond b 0 1) (g ∙ ap (λ (y : List ℕ). same y blank) h)
+    where
+      go : (b : Bool) → bool_byte (not b) ≡ cond b 0 1
+      go true = refl
+      go false = refl
 
 -- ---- rows as integers, three each
 

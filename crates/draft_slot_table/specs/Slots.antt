@@ -1,7 +1,7 @@
 -- The slots of a transaction as rows of a table, from the credentials that it wants and where they are. For any unsigned format and any rule for
 -- the credentials that it wants, and so for any family. Assumes nothing.
 use Rattle.std.specs.Prelude.{ℕ, suc, ◌+◌, cond, List, [], ◌∷◌, ◌++◌, map}
-use Rattle.wire.specs.Format.{Format, Result, took, refused, read}
+use Rattle.wire.specs.Format.{Format, Parsed, took, refused, read}
 use Rattle.transaction.specs.Slots.{blank, slot_at}
 use Rattle.transaction.specs.Credentials.{Want, credential, places, size}
 use Rattle.draft_slots.specs.Joining.{same}
@@ -21,7 +21,7 @@ slots_from k p [] = []
 slots_from k p (w ∷ ws) = map (slot_in k) (places p (credential w [])) ++ slots_from (suc k) (p + size (credential w [])) ws
 
 -- the first credential follows the 4 bytes of the count
-abbrev pub slots_of : {U : Type 0} → (U → List Want) → Result U → List Slot
+abbrev pub slots_of : {U : Type 0} → (U → List Want) → Parsed U → List Slot
 slots_of wants (took u m) = slots_from 0 (m + 4) (wants u)
 slots_of wants (refused e) = []
 

@@ -1,8 +1,8 @@
 -- Slots compared and joined. Assumes nothing.
+use Rattle.std.specs.Prelude.{Option, None, Some}
 use mathlib.Core.Path.{◌≡◌, refl, sym, ap, ap₂, ◌∙◌, subst}
 use mathlib.Core.Logic.{◌⊎◌, inl, inr}
 use mathlib.Core.Bool.{Bool, true, false, not, cond, ◌&&◌, true≢false, false≢true}
-use mathlib.Core.Option.{Option, none, some}
 use mathlib.Core.List.{List, [], ◌∷◌}
 use Prim.Native.Nat.{ℕ, zero, suc, ◌+◌, ◌<◌, suc-le-suc}
 use native.Mathlib.Nat.{le_of_suc-le-suc, not-suc-le-zero, zero-lt-suc, add-zero, add-suc, suc-add}
@@ -123,27 +123,27 @@ pub record ClashFrom (j : ℕ) (ps d e : List ℕ) (n : ℕ) : Type 0 where
   pub here : Clash (slot_at d (get_or ps k 0)) (slot_at e (get_or ps k 0))
   pub before : (i : ℕ) → i < k → Clash (slot_at d (get_or ps i 0)) (slot_at e (get_or ps i 0)) → ⊥
 
-pub first-none : (j : ℕ) (ps d e : List ℕ) → first_clash j ps d e ≡ none → (k : ℕ) → k < length ps → ClashAt ps d e k → ⊥
+pub first-none : (j : ℕ) (ps d e : List ℕ) → first_clash j ps d e ≡ None → (k : ℕ) → k < length ps → ClashAt ps d e k → ⊥
 unfolding first_clash
 first-none j [] d e h k b c = absurd (not-suc-le-zero b)
 first-none j (p ∷ ps) d e h k b c = go (clashes (slot_at d p) (slot_at e p)) refl (first-none (suc j) ps d e) k b c
   where
     go : (t : Bool) → clashes (slot_at d p) (slot_at e p) ≡ t
-        → (first_clash (suc j) ps d e ≡ none → (k : ℕ) → k < length ps → ClashAt ps d e k → ⊥)
+        → (first_clash (suc j) ps d e ≡ None → (k : ℕ) → k < length ps → ClashAt ps d e k → ⊥)
         → (k : ℕ) → k < length (p ∷ ps) → ClashAt (p ∷ ps) d e k → ⊥
-    go true q ih k b c = let z : ◌≡◌ {A = Option ℕ} (some j) none = subst
-        (λ (t : Bool). cond t (some j) (first_clash (suc j) ps d e) ≡ none) q h in let y : ◌≡◌ {A = ℕ} 0 1 = cc in omega arith
+    go true q ih k b c = let z : ◌≡◌ {A = Option ℕ} (Some j) None = subst
+        (λ (t : Bool). cond t (Some j) (first_clash (suc j) ps d e) ≡ None) q h in let y : ◌≡◌ {A = ℕ} 0 1 = cc in omega arith
     go false q ih zero b c = clashes-no (slot_at d p) (slot_at e p) q c
-    go false q ih (suc k) b c = ih (subst (λ (t : Bool). cond t (some j) (first_clash (suc j) ps d e) ≡ none) q h) k (le_of_suc-le-suc b) c
+    go false q ih (suc k) b c = ih (subst (λ (t : Bool). cond t (Some j) (first_clash (suc j) ps d e) ≡ None) q h) k (le_of_suc-le-suc b) c
 
-pub first_some : (j : ℕ) (ps d e : List ℕ) (n : ℕ) → first_clash j ps d e ≡ some n → ClashFrom j ps d e n
+pub first_some : (j : ℕ) (ps d e : List ℕ) (n : ℕ) → first_clash j ps d e ≡ Some n → ClashFrom j ps d e n
 unfolding first_clash
 first_some j [] d e n h = let y : ◌≡◌ {A = ℕ} 0 1 = cc in absurd (omega arith)
 first_some j (p ∷ ps) d e n h = go (clashes (slot_at d p) (slot_at e p)) refl (first_some (suc j) ps d e n)
   where
-    go : (t : Bool) → clashes (slot_at d p) (slot_at e p) ≡ t → (first_clash (suc j) ps d e ≡ some n → ClashFrom (suc j) ps d e n) → ClashFrom j (p ∷ ps) d e n
+    go : (t : Bool) → clashes (slot_at d p) (slot_at e p) ≡ t → (first_clash (suc j) ps d e ≡ Some n → ClashFrom (suc j) ps d e n) → ClashFrom j (p ∷ ps) d e n
     go true q ih =
-        let z : ◌≡◌ {A = Option ℕ} (some j) (some n) = subst (λ (t : Bool). cond t (some j) (first_clash (suc j) ps d e) ≡ some n) q h in
+        let z : ◌≡◌ {A = Option ℕ} (Some j) (Some n) = subst (λ (t : Bool). cond t (Some j) (first_clash (suc j) ps d e) ≡ Some n) q h in
         let y : j ≡ n = cc in
         record {
           k = 0;
@@ -154,7 +154,7 @@ first_some j (p ∷ ps) d e n h = go (clashes (slot_at d p) (slot_at e p)) refl 
           before = λ i b c. not-suc-le-zero b;
         }
     go false q ih =
-        let r = ih (subst (λ (t : Bool). cond t (some j) (first_clash (suc j) ps d e) ≡ some n) q h) in
+        let r = ih (subst (λ (t : Bool). cond t (Some j) (first_clash (suc j) ps d e) ≡ Some n) q h) in
         record { k = suc r.k; at = add-suc j r.k ∙ sym (suc-add j r.k) ∙ r.at; k-in = suc-le-suc r.k-in; here = r.here; before = earlier r }
       where
         earlier : (r : ClashFrom (suc j) ps d e n) (i : ℕ) → i < suc r.k → ClashAt (p ∷ ps) d e i → ⊥

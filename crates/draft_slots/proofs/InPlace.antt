@@ -1,13 +1,11 @@
 -- Slots joined in place. Assumes nothing.
-use Prim.Native.Nat.{ℕ, zero, suc, ◌+◌, ◌-◌, ◌≤◌, ◌<◌}
-use mathlib.Core.Path.{◌≡◌, refl, sym, ap, ap₂, ◌∙◌, subst⁻¹}
+use Prim.Native.Nat.{ℕ, suc, ◌+◌, ◌-◌, ◌*◌, ◌≤◌, ◌<◌}
+use mathlib.Core.Path.{◌≡◌, refl, sym, ap, ◌∙◌, subst⁻¹}
 use mathlib.Core.Bool.{Bool, true, false, ◌&&◌}
-use mathlib.Core.List.{List, [], ◌∷◌, ◌++◌, append_assoc, append-nil}
+use mathlib.Core.List.{List, [], ◌∷◌, ◌++◌, append_assoc}
 use native.Mathlib.Omega.{arith}
-use native.Mathlib.Numerals.{sub-one}
-use native.Mathlib.Nat.{not-suc-le-zero}
-use lib.ListN.{length, take, drop, length-drop, drop_of_length-le}
-use lib.Seq.{take_all, drop-drop, length-take-le}
+use lib.ListN.{length, take, drop}
+use lib.Seq.{drop-drop}
 use lib.Dec.{eqb}
 use borrow.Author.Tests.{eqb-true, eq-eqb, ne_eqb}
 use Rattle.wire.specs.Bytes.{pick}
@@ -19,20 +17,11 @@ use Rattle.draft_slots.proofs.Comparing.{same-of-eq, same-no, dec-same, join-bla
 use Rattle.draft_slots.proofs.Putting.{spaced-le, put-own, length-put, put-slot-after}
 use Rattle.draft_slots.proofs.Blocks.{blank-fits}
 
--- ---- one slot
+-- one more turn of a loop that has run i times out of c
+pub one-more : (c i : ℕ) → i < c → c - i ≡ suc (c - (i + 1))
+one-more c i h = omega arith
 
--- the 65 bytes of a slot were lent and are now y, a copy of s: that is s put into the slot
-lent-slot : (d s y : List ℕ) (p n : ℕ) → y ≡ take (length (take n (drop p d))) s ++ drop (length s) (take n (drop p d)) → n ≡ 65 → length s ≡ 65
-    → p + 65 ≤ length d
-    → take p d ++ (y ++ drop n (drop p d)) ≡ put_slot p s d
-unfolding put_slot signature_width
-lent-slot d s y p n e h l f =
-    let w : length (take n (drop p d)) ≡ n = length-take-le n (drop p d) (omega (arith, length-drop p d)) in
-    let a : take (length (take n (drop p d))) s ≡ s = take_all (length (take n (drop p d))) s (omega arith) in
-    let b : drop (length s) (take n (drop p d)) ≡ [] = drop_of_length-le (take n (drop p d)) {i = length s} (omega arith) in
-    let q : y ≡ s = e ∙ ap₂ (λ (u v : List ℕ). u ++ v) a b ∙ append-nil s in
-    let r : drop n (drop p d) ≡ drop (p + 65) d = ap (λ (i : ℕ). drop i (drop p d)) h ∙ drop-drop 65 p d in
-    ap₂ (λ (u v : List ℕ). take p d ++ (u ++ v)) q r ∙ sym (append_assoc (take p d) s (drop (p + 65) d))
+-- ---- one slot
 
 module _ (p : ℕ) (s d : List ℕ) where
   pub joined-short : (length s ≡ 65 → ⊥) → d ≡ joined_at p s d
@@ -51,16 +40,14 @@ module _ (p : ℕ) (s d : List ℕ) where
         go true b h = rw h
         go false b h = refl
 
-    -- the slot was lent and is now y
-    pub joined-blank : (y : List ℕ) → y ≡ take (length (take (p + 65 - p) (drop p d))) s ++ drop (length s) (take (p + 65 - p) (drop p d)) → r ≡ true
-        → length s ≡ 65
-        → take p d ++ (y ++ drop (p + 65 - p) (drop p d)) ≡ joined_at p s d
-    unfolding joined_at
+    -- s was copied into the slot
+    pub joined-blank : (y : List ℕ) → y ≡ s → r ≡ true → length s ≡ 65 → take p d ++ (y ++ drop (p + 65 - p) (drop p d)) ≡ joined_at p s d
+    unfolding joined_at put_slot signature_width
     joined-blank y h q l =
-        lent-slot d s y p (p + 65 - p) h (omega arith) l (blank-fits d p x r w e q)
-        ∙ sym (rw (eq-eqb (length s) 65 l, test true q))
+        let n : p + 65 - p ≡ 65 = omega arith in
+        rw (h, n, drop-drop 65 p d) (sym (rw (eq-eqb (length s) 65 l, test true q) (append_assoc (take p d) s (drop (p + 65) d))))
 
-length-joined_at : (p : ℕ) (s d : List ℕ) → length (joined_at p s d) ≡ length d
+pub length-joined_at : (p : ℕ) (s d : List ℕ) → length (joined_at p s d) ≡ length d
 unfolding joined_at signature_width
 length-joined_at p s d = go (eqb (length s) 65) refl (same (slot_at d p) blank) refl
   where
@@ -82,20 +69,18 @@ module _ (e : List ℕ) where
   join-append [] qs d = refl
   join-append (p ∷ ps) qs d = join-append ps qs (joined_at p (slot_at e p) d)
 
-  -- joining the slots that are left gives y
-  module _ (p : ℕ) (d y : List ℕ) where
-    pub join-on : (n : ℕ) → join_all (slot_range n p) e d ≡ y → 0 < n → (s : List ℕ) → s ≡ slot_at e p → (z : List ℕ) → z ≡ joined_at p s d
-        → join_all (slot_range (n - 1) (p + 65)) e z ≡ y
+  -- after i of n slots: joining the slots that are left gives y
+  module _ (n i p : ℕ) (d y : List ℕ) (w : join_all (slot_range (n - i) (p + 65 * i)) e d ≡ y) where
+    pub join-on : i < n → (s : List ℕ) → s ≡ slot_at e (p + 65 * i) → (z : List ℕ) → z ≡ joined_at (p + 65 * i) s d
+        → join_all (slot_range (n - (i + 1)) (p + 65 * (i + 1))) e z ≡ y
     unfolding join_all slot_range
-    join-on zero w h s i z q = absurd (not-suc-le-zero h)
-    join-on (suc n) w h s i z q = rw (q, i, sub-one (suc n)) w
+    join-on l s h z q =
+        let o : p + 65 * (i + 1) ≡ p + 65 * i + 65 = omega arith in
+        rw (q, h, o) (rw (one-more n i l) at w)
 
-    pub join-end : (n : ℕ) → join_all (slot_range n p) e d ≡ y → n ≤ 0 → d ≡ y
+    pub join-end : n ≤ i → d ≡ y
     unfolding join_all slot_range
-    join-end zero w h = w
-    join-end (suc n) w h = absurd (not-suc-le-zero h)
-
-pub ruleset joining-slot = (joined-short, joined-filled, joined-blank)
+    join-end l = let j : n - i ≡ 0 = omega arith in (rw j at w)
 
 -- ---- joining in place, and joining as a whole
 

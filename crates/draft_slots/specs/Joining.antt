@@ -1,7 +1,6 @@
 -- What two slots hold, and what joining them gives (document 01, "Drafts, slots, merging"). A slot's content is a byte string; where the slots of
 -- a transaction are is defined in transaction/specs. Assumes nothing.
-use Rattle.std.specs.Prelude.{◌≡◌, Bool, true, false, not, cond, ◌&&◌, List, [], ◌∷◌, ℕ, suc, eqb}
-use Rattle.std.proofs.Math.Option.{Option, none, some}
+use Rattle.std.specs.Prelude.{◌≡◌, Bool, true, false, not, cond, ◌&&◌, List, [], ◌∷◌, ℕ, suc, eqb, Option, None, Some}
 use Rattle.transaction.specs.Slots.{blank, slot_at}
 
 -- are two byte strings equal?
@@ -34,5 +33,5 @@ join a b = cond (same a blank) b a
 -- the number of the first of these slots in which d and e hold different signatures; the slots are numbered from k
 unfoldable pub first_clash : ℕ → List ℕ → List ℕ → List ℕ → Option ℕ
 unfolding clashes
-first_clash k [] d e = none
-first_clash k (p ∷ ps) d e = cond (clashes (slot_at d p) (slot_at e p)) (some k) (first_clash (suc k) ps d e)
+first_clash k [] d e = None
+first_clash k (p ∷ ps) d e = cond (clashes (slot_at d p) (slot_at e p)) (Some k) (first_clash (suc k) ps d e)

@@ -11,10 +11,8 @@ fn same_block(a: &[u8], b: &[u8]) -> bool
     ensures { result ≡ same a.now b.now }
 {
     let mut all = true;
-    let mut i: usize = 0;
-    while i < a.len() {
-        all = all & (a[i] == b[i]);
-        i += 1;
+    for (x, y) in a.iter().zip(b) {
+        all &= x == y;
     }
     all
 }
@@ -26,50 +24,32 @@ pub fn same_bytes(a: &[u8], b: &[u8]) -> bool
     if a.len() != b.len() {
         return false;
     }
-    let mut i: usize = 0;
-    while BLOCK <= a.len() - i {
-        if same_block(&a[i..i + BLOCK], &b[i..i + BLOCK]) {
-            i += BLOCK;
-        } else {
+    for (x, y) in a.chunks(BLOCK).zip(b.chunks(BLOCK)) {
+        if !same_block(x, y) {
             return false;
         }
     }
-    same_block(&a[i..], &b[i..])
+    true
 }
 
 // The 65 bytes of the slot that starts at `at`, or as many of them as `s` has.
 pub fn slot_of(s: &[u8], at: usize) -> &[u8]
     ensures { result.now ≡ slot_at s.now at }
 {
-    if s.len() < at {
-        return &s[..0];
-    }
-    if s.len() - at < transaction::SIGNATURE_WIDTH {
-        return &s[at..];
-    }
-    &s[at..at + transaction::SIGNATURE_WIDTH]
+    let rest = s.get(at..).unwrap_or(&[]);
+    &rest[..rest.len().min(transaction::SIGNATURE_WIDTH)]
 }
 
 // Is `s` the content of an empty slot, 65 zero bytes?
 pub fn is_blank(s: &[u8]) -> bool
     ensures { result ≡ same s.now blank }
 {
-    let zeros = [0u8; transaction::SIGNATURE_WIDTH];
-    if s.len() != transaction::SIGNATURE_WIDTH {
-        return false;
-    }
-    same_block(s, &zeros)
+    s.len() == transaction::SIGNATURE_WIDTH && same_block(s, &[0; transaction::SIGNATURE_WIDTH])
 }
 
 // Do two slots hold different signatures?
 pub fn clash(a: &[u8], b: &[u8]) -> bool
     ensures { result ≡ clashes a.now b.now }
 {
-    if is_blank(a) {
-        return false;
-    }
-    if is_blank(b) {
-        return false;
-    }
-    !same_bytes(a, b)
+    !is_blank(a) && !is_blank(b) && !same_bytes(a, b)
 }

@@ -8,25 +8,21 @@ use crate::{SlotRange, compare, ranges};
 pub fn join_at(draft: &mut [u8], at: usize, other: &[u8])
     ensures { draft.new ≡ joined_at at other.now draft.old }
 {
-    if other.len() != transaction::SIGNATURE_WIDTH {
-        return;
-    }
-    if compare::is_blank(compare::slot_of(draft, at)) {
-        wire::put_bytes(&mut draft[at..at + transaction::SIGNATURE_WIDTH], other);
+    if other.len() == transaction::SIGNATURE_WIDTH
+        && compare::is_blank(compare::slot_of(draft, at))
+    {
+        draft[at..at + transaction::SIGNATURE_WIDTH].copy_from_slice(other);
     }
 }
 
-// Joins `count` slots from `at` on with those of the other draft.
-fn join_range(draft: &mut [u8], other: &[u8], at: usize, count: u64)
-    requires { at + 65 * count ≤ length other.now }
-    ensures { draft.new ≡ join_all (slot_range count at) other.now draft.old }
+// Joins the slots of one credential with those of the other draft.
+fn join_range(draft: &mut [u8], other: &[u8], range: SlotRange)
+    requires { range.first + 65 * range.count ≤ length other.now }
+    ensures { draft.new ≡ join_all (slot_range range.count range.first) other.now draft.old }
 {
-    let mut left = count;
-    let mut slot_at = at;
-    while 0 < left {
-        join_at(draft, slot_at, compare::slot_of(other, slot_at));
-        slot_at += transaction::SIGNATURE_WIDTH;
-        left -= 1;
+    for i in 0..range.count as usize {
+        let at = range.first + transaction::SIGNATURE_WIDTH * i;
+        join_at(draft, at, compare::slot_of(other, at));
     }
 }
 
@@ -34,14 +30,12 @@ fn join_range(draft: &mut [u8], other: &[u8], at: usize, count: u64)
 pub fn join_slots(draft: &mut [u8], other: &[u8], at: usize, credentials: u64)
     ensures { draft.new ≡ joined_with other.now credentials at draft.old }
 {
-    let mut left = credentials;
     let mut credential_at = at;
-    while 0 < left {
-        let SlotRange::Slots(slots_at, count, next) = ranges::range_at(other, credential_at) else {
+    for _ in 0..credentials {
+        let Some(range) = ranges::range_at(other, credential_at) else {
             return;
         };
-        join_range(draft, other, slots_at, count);
-        credential_at = next;
-        left -= 1;
+        join_range(draft, other, range);
+        credential_at = range.next;
     }
 }

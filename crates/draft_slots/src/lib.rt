@@ -7,14 +7,8 @@ pub mod ranges;
 
 // The slots of one credential: the offset of the first, how many there are, and the offset just past them.
 #[derive(Clone, Copy)]
-pub enum SlotRange {
-    Slots(usize, u64, usize),
-    Nothing,
-}
-
-// A slot's number or its offset, if there is such a slot.
-#[derive(Clone, Copy)]
-pub enum Found {
-    At(usize),
-    Nothing,
+pub struct SlotRange {
+    pub first: usize,
+    pub count: u64,
+    pub next: usize,
 }

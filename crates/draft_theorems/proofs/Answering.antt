@@ -1,8 +1,8 @@
 -- What every call of merge and fill guarantees, by the cases of its tests. Assumes nothing.
+use Rattle.std.specs.Prelude.{Option, None, Some}
 use mathlib.Core.Path.{refl}
 use mathlib.Core.Logic.{inl, inr}
 use mathlib.Core.Bool.{Bool, true, false}
-use mathlib.Core.Option.{Option, none, some}
 use mathlib.Core.List.{List}
 use Prim.Native.Nat.{ℕ}
 use lib.Dec.{leb, ltb, eqb}
@@ -17,9 +17,9 @@ merge-cases : (a b c : Bool) (o : Option ℕ) (r : Bool) (m out : List ℕ) → 
 merge-cases false b c o r m out = record { number = inr (inr (inl refl)); refused = λ h. refl; place = inr refl }
 merge-cases true false c o r m out = record { number = inr (inr (inr (inl refl))); refused = λ h. refl; place = inr refl }
 merge-cases true true false o r m out = record { number = inr (inr (inr (inr (inl refl)))); refused = λ h. refl; place = inr refl }
-merge-cases true true true (some k) r m out = record { number = inr (inr (inr (inr (inr (inl refl))))); refused = λ h. refl; place = inl (inr (inl refl)) }
-merge-cases true true true none false m out = record { number = inr (inl refl); refused = λ h. refl; place = inr refl }
-merge-cases true true true none true m out = record { number = inl refl; refused = λ h. absurd (h refl); place = inl (inl refl) }
+merge-cases true true true (Some k) r m out = record { number = inr (inr (inr (inr (inr (inl refl))))); refused = λ h. refl; place = inl (inr (inl refl)) }
+merge-cases true true true None false m out = record { number = inr (inl refl); refused = λ h. refl; place = inr refl }
+merge-cases true true true None true m out = record { number = inl refl; refused = λ h. absurd (h refl); place = inl (inl refl) }
 
 fill-cases : (a b l c : Bool) (k : ℕ) (m d : List ℕ) → Owes fill_numbers d (decide_fill a b l c k m d)
 fill-cases false b l c k m d = record { number = inr (inr (inl refl)); refused = λ h. refl; place = inr refl }

@@ -1,7 +1,7 @@
 -- The condition on which a call of merge or fill gives each answer. Assumes nothing but `Laws`.
+use Rattle.std.specs.Prelude.{Ok, Option, None, Some}
 use mathlib.Core.Path.{◌≡◌, refl, ap, ◌∙◌}
 use mathlib.Core.Bool.{true, false}
-use mathlib.Core.Option.{Option, none, some}
 use mathlib.Core.List.{List, ◌++◌}
 use Prim.Native.Nat.{ℕ, ◌≤◌, ◌<◌}
 use lib.ListN.{length, drop}
@@ -10,7 +10,6 @@ use Rattle.wire.specs.Numbers.{no_room, no_entry, first_not_accepted, second_not
 use Rattle.transaction.specs.Slots.{signature_width}
 use Rattle.draft_slots.specs.Joining.{first_clash}
 use Rattle.draft_slots.proofs.Comparing.{same-no, first_some}
-use Rattle.draft.specs.declared.Answer.TheVariants as A
 use Rattle.draft.specs.Reader.{Reader, Draft, body, slot_count}
 use Rattle.draft.specs.Calls.{refuse, merged, merge_call, fill_call}
 use Rattle.draft_theorems.specs.Demand.{FirstClash}
@@ -22,33 +21,33 @@ use Rattle.draft_theorems.proofs.Pairing.{first_one, le, call-is, no-first}
 -- ---- drafts of one unsigned transaction
 
 module _ (R : Reader) (L : Laws R) (d e out : List ℕ) (hd : Draft R d) (he : Draft R e) (same_body : body R d ≡ body R e) where
-  first-is : (j : ℕ) → first_clash 0 (R.slots d) d e ≡ some j → FirstClash R d e j
+  first-is : (j : ℕ) → first_clash 0 (R.slots d) d e ≡ Some j → FirstClash R d e j
   first-is j h = first-clash R L d hd d e (like-self R d hd) (le R L d e out hd he same_body) j (first_some 0 (R.slots d) d e j h)
 
   clash-refused : (k : ℕ) → FirstClash R d e k → merge_call R d e out ≡ (refuse conflict k, out)
   clash-refused k f = go (first_clash 0 (R.slots d) d e) refl
     where
       go : (o : Option ℕ) → first_clash 0 (R.slots d) d e ≡ o → merge_call R d e out ≡ (refuse conflict k, out)
-      go none h = absurd (no-first R L d e out hd he same_body h k f)
-      go (some j) h =
-          call-is R L d e out hd he same_body (some j) h ∙ ap (λ (i : ℕ). (refuse conflict i, out)) (first_one R d e j k (first-is j h) f)
+      go None h = absurd (no-first R L d e out hd he same_body h k f)
+      go (Some j) h =
+          call-is R L d e out hd he same_body (Some j) h ∙ ap (λ (i : ℕ). (refuse conflict i, out)) (first_one R d e j k (first-is j h) f)
 
   module _ (free : (k : ℕ) → FirstClash R d e k → ⊥) where
-    none_first : first_clash 0 (R.slots d) d e ≡ none
+    none_first : first_clash 0 (R.slots d) d e ≡ None
     none_first = go (first_clash 0 (R.slots d) d e) refl
       where
-        go : (o : Option ℕ) → first_clash 0 (R.slots d) d e ≡ o → first_clash 0 (R.slots d) d e ≡ none
-        go none h = h
-        go (some j) h = absurd (free j (first-is j h))
+        go : (o : Option ℕ) → first_clash 0 (R.slots d) d e ≡ o → first_clash 0 (R.slots d) d e ≡ None
+        go None h = h
+        go (Some j) h = absurd (free j (first-is j h))
 
     room-missing : length out < length d → merge_call R d e out ≡ (refuse no_room 0, out)
     room-missing h =
-        called R L d hd d e (like-self R d hd) (le R L d e out hd he same_body) none false out none_first (lt-leb (length d) (length out) h)
+        called R L d hd d e (like-self R d hd) (le R L d e out hd he same_body) None false out none_first (lt-leb (length d) (length out) h)
 
-    room-given : length d ≤ length out → merge_call R d e out ≡ (A.Done (length d), merged R d e ++ drop (length d) out)
+    room-given : length d ≤ length out → merge_call R d e out ≡ (Ok (length d), merged R d e ++ drop (length d) out)
     room-given h =
-        called R L d hd d e (like-self R d hd) (le R L d e out hd he same_body) none true out none_first (le-leb (length d) (length out) h)
-        ∙ ap (λ (n : ℕ). (A.Done n, merged R d e ++ drop n out)) (merged-like R L d hd d e (like-self R d hd) (le R L d e out hd he same_body)).frame.long
+        called R L d hd d e (like-self R d hd) (le R L d e out hd he same_body) None true out none_first (le-leb (length d) (length out) h)
+        ∙ ap (λ (n : ℕ). (Ok n, merged R d e ++ drop n out)) (merged-like R L d hd d e (like-self R d hd) (le R L d e out hd he same_body)).frame.long
 
 -- ---- inputs that are not accepted, or not of one unsigned transaction; a slot that does not exist; bytes that are no signature
 

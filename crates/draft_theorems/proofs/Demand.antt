@@ -1,7 +1,7 @@
 -- DEMAND 3 for any reader that has the laws. Assumes nothing but `Laws`.
+use Rattle.std.specs.Prelude.{Option, Some}
 use mathlib.Core.Path.{◌≡◌, sym, ap, ◌∙◌, subst}
 use mathlib.Core.Logic.{inl, inr, ⊎_elim}
-use mathlib.Core.Option.{Option, some}
 use mathlib.Core.List.{List}
 use Prim.Native.Nat.{ℕ, ◌<◌}
 use native.Mathlib.Omega.{arith}
@@ -88,9 +88,9 @@ module _ (R : Reader) (L : Laws R) (ds : List (List ℕ)) (D : Drafts R ds) wher
           conflict = (λ m. let z : ◌≡◌ {A = ℕ} 0 20 = sym (cs m.asked m.made).number ∙ m.answers in absurd (omega arith), λ c. absurd (nc c));
           no_other = λ n m. inl (sym m.answers ∙ (cs m.asked m.made).number);
           each-call = λ c w. inl (cs c w);
-          gives = λ q. e ∙ ap {B = Option (List ℕ)} some (result-is x j);
+          gives = λ q. e ∙ ap {B = Option (List ℕ)} Some (result-is x j);
           no_result = λ c. absurd (nc c);
-          ends = inl (e ∙ ap {B = Option (List ℕ)} some (result-is x j));
+          ends = inl (e ∙ ap {B = Option (List ℕ)} Some (result-is x j));
         }
     promise (stops e c m cs) =
         record {

@@ -1,4 +1,6 @@
 -- One call of fill, and successive calls over a blank draft. Assumes nothing but `Laws`.
+use Rattle.std.specs.Prelude.{Ok, Result}
+use Rattle.wire.specs.declared.Refusal.{Refusal}
 use mathlib.Core.Path.{◌≡◌, refl, sym, ap, ◌∙◌, subst, subst⁻¹}
 use mathlib.Core.Logic.{◌⊎◌, inl, inr}
 use mathlib.Core.Bool.{Bool, true, false}
@@ -17,8 +19,6 @@ use Rattle.draft_slots.specs.Joining.{Clash, clashes, join}
 use Rattle.draft_slots.proofs.Comparing.{dec-same, join-second, join-empty, length-join, bytes-join, clashes-of, clashes-none}
 use Rattle.draft_slots.proofs.Putting.{spaced-at, spaced-before, outside-at, by_slots, length-put, bytes-put, put-own, put-before, put-after}
 use Rattle.draft_slots.proofs.Putting.{put-slot, put-slot-before, put-slot-after}
-use Rattle.draft.specs.declared.Answer.{Answer}
-use Rattle.draft.specs.declared.Answer.TheVariants as A
 use Rattle.draft.specs.Reader.{Reader, Draft, slot_count, slot}
 use Rattle.draft.specs.Calls.{refuse, decide_fill, fill_call}
 use Rattle.draft_theorems.specs.Filling.{signatures, emptied, BlankOf, Fills, Leaves, Filling}
@@ -75,11 +75,11 @@ module _ (R : Reader) (L : Laws R) (d : List ℕ) (hd : Draft R d) (k : ℕ) (kb
     fill-refused c = fill_is true (clashes-of (slot R d k) s c)
 
     module _ (nc : Clash (slot R d k) s → ⊥) where
-      fill_done : fill_call R d k s ≡ (A.Done (length d), put_slot at-k (join (slot R d k) s) d)
+      fill_done : fill_call R d k s ≡ (Ok (length d), put_slot at-k (join (slot R d k) s) d)
       fill_done = fill_is false (clashes-none (slot R d k) s nc)
 
       after : (fill_call R d k s).1 ≡ put_slot at-k (join (slot R d k) s) d
-      after = ap (λ (a : Answer × List ℕ). a.1) fill_done
+      after = ap (λ (a : Result ℕ Refusal × List ℕ). a.1) fill_done
 
       fill-leaves : Bytes s → Leaves R d k s (fill_call R d k s).1
       unfolding at-k slot
@@ -134,7 +134,7 @@ module _ (R : Reader) (L : Laws R) (d : List ℕ) (hd : Draft R d) where
       let nc : Clash (slot R e k) (slot_at d p) → ⊥ = no-clash (slot R e k) (slot_at d p) (u.empty k (omega arith) b) in
       let l : Leaves R e k (slot_at d p) (fill_call R e k (slot_at d p)).1 =
       fill-leaves R L e u.like.draft k kb (slot_at d p) hs nc (bytes-slot_at d p hd.bytes) in (
-        ap (λ (a : Answer × List ℕ). a.0) (fill_done R L e u.like.draft k kb (slot_at d p) hs nc),
+        ap (λ (a : Result ℕ Refusal × List ℕ). a.0) (fill_done R L e u.like.draft k kb (slot_at d p) hs nc),
         fills-from ps (suc k) (fill_call R e k (slot_at d p)).1 hps
             (next k e (slot_at d p) (fill_call R e k (slot_at d p)).1 b u (ap (slot_at d) hp ∙ sym (slot-on R d d k refl)) l),
       )
@@ -180,7 +180,7 @@ pub filling : (R : Reader) → Laws R → Filling R
 filling R L =
     record {
       refused = λ d hd k b s hs c. fill-refused R L d hd k b s hs c;
-      done = λ d hd k b s hs nc. ap (λ (a : Answer × List ℕ). a.0) (fill_done R L d hd k b s hs nc);
+      done = λ d hd k b s hs nc. ap (λ (a : Result ℕ Refusal × List ℕ). a.0) (fill_done R L d hd k b s hs nc);
       leaves = λ d hd k b s hs nc bs. fill-leaves R L d hd k b s hs nc bs;
       fills = λ d hd b B. fills-blank R L d hd b B;
       blank = λ d hd. blank-emptied R L d hd;

@@ -1,7 +1,7 @@
 -- One call of merge over two drafts of one unsigned transaction: it joins them, or meets the conflict refusal. Assumes nothing but `Laws`.
+use Rattle.std.specs.Prelude.{Ok, Option, None, Some}
 use mathlib.Core.Path.{◌≡◌, refl, sym, ap, ◌∙◌, subst, subst⁻¹}
 use mathlib.Core.Bool.{Bool, true}
-use mathlib.Core.Option.{Option, none, some}
 use mathlib.Core.List.{List, ◌++◌}
 use Prim.Native.Nat.{ℕ, ◌≤◌, ◌<◌}
 use native.Mathlib.Nat.{zero-add}
@@ -16,7 +16,6 @@ use Rattle.transaction.proofs.Slots.{bytes-slot_at}
 use Rattle.draft_slots.specs.Joining.{same, Clash, join, first_clash}
 use Rattle.draft_slots.proofs.Comparing.{same-of-eq, ClashFrom, first-none, first_some, length-join, bytes-join}
 use Rattle.draft_slots.proofs.Putting.{Long}
-use Rattle.draft.specs.declared.Answer.TheVariants as A
 use Rattle.draft.specs.Reader.{Reader, Draft, body, slot_count, slot}
 use Rattle.draft.specs.Calls.{refuse, merged, decide_merge, merge_call}
 use Rattle.draft_theorems.specs.Demand.{FirstClash}
@@ -29,7 +28,7 @@ decided a b c o p r t m out ha hb hc ho hr = rw (ha, hb, hc, ho, hr)
 -- how a call of merge ends if there is room
 pub data Ends (R : Reader) (d x y out : List ℕ) : Type 0 where
   joins : ((k : ℕ) → k < length (R.slots d) → Clash (on R d x k) (on R d y k) → ⊥)
-      → merge_call R x y out ≡ (A.Done (length (merged R x y)), merged R x y ++ drop (length (merged R x y)) out)
+      → merge_call R x y out ≡ (Ok (length (merged R x y)), merged R x y ++ drop (length (merged R x y)) out)
       → Ends R d x y out
   clash : (k : ℕ) → FirstClash R x y k → k < length (R.slots d) → Clash (on R d x k) (on R d y k)
       → merge_call R x y out ≡ (refuse conflict k, out)
@@ -90,13 +89,13 @@ module _ (R : Reader) (L : Laws R) (d : List ℕ) (hd : Draft R d) (x y : List �
   ends out room = go (first_clash 0 (R.slots d) x y) refl
     where
       go : (o : Option ℕ) → first_clash 0 (R.slots d) x y ≡ o → Ends R d x y out
-      go none e =
+      go None e =
           joins (first-none 0 (R.slots d) x y e)
-          (called none true out e (le-leb (length x) (length out) (omega (arith, lx.frame.long))))
-      go (some k) e =
+          (called None true out e (le-leb (length x) (length out) (omega (arith, lx.frame.long))))
+      go (Some k) e =
           let c = first_some 0 (R.slots d) x y k e in
           let q : c.k ≡ k = sym (zero-add c.k) ∙ c.at in
           clash k (first-clash k c)
           (subst (λ (n : ℕ). n < length (R.slots d)) q c.k-in)
           (subst (λ (n : ℕ). Clash (on R d x n) (on R d y n)) q c.here)
-          (called (some k) (leb (length x) (length out)) out e refl)
+          (called (Some k) (leb (length x) (length out)) out e refl)

@@ -1,7 +1,8 @@
 -- Neither order, nor grouping, nor repetition matters. Assumes nothing but demand 3.
+use Rattle.std.specs.Prelude.{IsSome, Option, None, Some}
+use mathlib.Core.Bool.{false≢true}
 use mathlib.Core.Path.{◌≡◌, refl, sym, ap, ◌∙◌, subst, subst⁻¹}
 use mathlib.Core.Logic.{◌⊎◌, ◌↔◌, inl, inr, ⊎_elim}
-use mathlib.Core.Option.{Option, none, some, IsSome}
 use mathlib.Core.List.{List, [], ◌∷◌}
 use Prim.Native.Nat.{ℕ, zero, suc, ◌≤◌, ◌<◌}
 use native.Mathlib.Nat.{le_of_suc-le-suc, not-suc-le-zero}
@@ -94,7 +95,7 @@ within-self ds i b = (i, b, refl)
 -- ---- the claims
 
 module _ (R : Reader) (T : Demand3 R) where
-  never : {x : List ℕ} → none ≡ some x → ⊥
+  never : {x : List ℕ} → None ≡ Some x → ⊥
   never p = let y : ◌≡◌ {A = ℕ} 0 1 = cc in omega arith
 
   module _ (ds es : List (List ℕ)) (D : Drafts R ds) (w : Within ds es) (v : Within es ds)
@@ -112,13 +113,13 @@ module _ (R : Reader) (T : Demand3 R) where
     groupings-alike : Alike R ds g es h
     groupings-alike = go of-g.ends of-h.ends
       where
-        free : result R ds g ≡ some (merge_of R ds) → Conflict R ds → ⊥
+        free : result R ds g ≡ Some (merge_of R ds) → Conflict R ds → ⊥
         free e c = never (sym (of-g.no_result c) ∙ e)
 
-        go : (result R ds g ≡ some (merge_of R ds)) ⊎ Meets R ds g 20 → (result R es h ≡ some (merge_of R es)) ⊎ Meets R es h 20 → Alike R ds g es h
+        go : (result R ds g ≡ Some (merge_of R ds)) ⊎ Meets R ds g 20 → (result R es h ≡ Some (merge_of R es)) ⊎ Meets R es h 20 → Alike R ds g es h
         go (inl e) (inl f) =
             let M : IsMerge R es (merge_of R ds) = merge-within R ds es w v (merge_of R ds) ((T.merges ds D).merge (free e)) in
-            inl (merge_of R ds, e, f ∙ ap {B = Option (List ℕ)} some (sym ((T.merges es drafts-es).one (merge_of R ds) M)))
+            inl (merge_of R ds, e, f ∙ ap {B = Option (List ℕ)} Some (sym ((T.merges es drafts-es).one (merge_of R ds) M)))
         go (inl e) (inr m) = absurd (free e (conflict-within R es ds v (of-h.conflict.0 m)))
         go (inr m) q = inr (m, of-h.conflict.1 (conflict-within R ds es w (of-g.conflict.0 m)))
 
@@ -143,9 +144,9 @@ module _ (R : Reader) (T : Demand3 R) where
 
       go : Conflict R ds → ((n : ℕ) × (n ≡ 0 → ⊥) × Answers R cs n) ⊎ IsSome (result R ds g) → Answers R cs 20
       go q (inl (n, z, a)) = ⊎_elim (λ e. absurd (z e)) (λ e. subst (Answers R cs) e a) (P.no_other n (met n cs r.made a))
-      go q (inr i) = absurd (subst IsSome (P.no_result q) i)
+      go q (inr i) = absurd (false≢true (subst IsSome (P.no_result q) i))
 
-  idempotent : (d out : List ℕ) → Draft R d → length d ≤ length out → result_of (merge_call R d d out) ≡ some d
+  idempotent : (d out : List ℕ) → Draft R d → length d ≤ length out → result_of (merge_call R d d out) ≡ Some d
   unfolding result
   idempotent d out hd room =
       let ds : List (List ℕ) = d ∷ [] in
@@ -172,7 +173,7 @@ module _ (R : Reader) (T : Demand3 R) where
 
   associative : (d e f o₁ o₂ o₃ o₄ : List ℕ) → Draft R d → Of R d e → Of R d f
       → length d ≤ length o₁ → length d ≤ length o₂ → length d ≤ length o₃ → length d ≤ length o₄
-      → above R (result_of (merge_call R d e o₁)) (some f) o₂ ≡ above R (some d) (result_of (merge_call R e f o₃)) o₄
+      → above R (result_of (merge_call R d e o₁)) (Some f) o₂ ≡ above R (Some d) (result_of (merge_call R e f o₃)) o₄
   unfolding result
   associative d e f o₁ o₂ o₃ o₄ hd he hf r₁ r₂ r₃ r₄ =
       let ds : List (List ℕ) = f ∷ e ∷ d ∷ [] in

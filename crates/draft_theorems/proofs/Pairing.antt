@@ -1,8 +1,8 @@
 -- One pair of drafts: when it meets the conflict refusal. Assumes nothing but `Laws`.
+use Rattle.std.specs.Prelude.{Option, None, Some}
 use mathlib.Core.Path.{◌≡◌, refl, sym, ap, ◌∙◌, subst}
 use mathlib.Core.Logic.{◌↔◌}
 use mathlib.Core.Bool.{Bool, true, false}
-use mathlib.Core.Option.{Option, none, some}
 use mathlib.Core.List.{List}
 use Prim.Native.Nat.{ℕ, ◌<◌}
 use native.Mathlib.Decide.{dec_lt}
@@ -26,7 +26,7 @@ first_one R d e j k a b = go (dec_lt j k) (dec_lt k j)
     go (no h) (no t) = omega arith
 
 -- without a clash the number is 0 or 14
-never-20 : (t : Bool) (m out : List ℕ) → answer_number (decide_merge true true true none t m out).0 ≡ 20 → ⊥
+never-20 : (t : Bool) (m out : List ℕ) → answer_number (decide_merge true true true None t m out).0 ≡ 20 → ⊥
 never-20 true m out h = omega arith
 never-20 false m out h = omega arith
 
@@ -39,7 +39,7 @@ module _ (R : Reader) (L : Laws R) (d e out : List ℕ) (hd : Draft R d) (he : D
         → merge_call R d e out ≡ decide_merge true true true o (leb (length d) (length out)) (merged R d e) out
     call-is o h = called R L d hd d e (like-self R d hd) le o (leb (length d) (length out)) out h refl
 
-    pub no-first : first_clash 0 (R.slots d) d e ≡ none → (k : ℕ) → FirstClash R d e k → ⊥
+    pub no-first : first_clash 0 (R.slots d) d e ≡ None → (k : ℕ) → FirstClash R d e k → ⊥
     unfolding slot_count slot
     no-first h k f =
         first-none 0 (R.slots d) d e h k f.k-in
@@ -50,12 +50,12 @@ module _ (R : Reader) (L : Laws R) (d e out : List ℕ) (hd : Draft R d) (he : D
       where
         go : (o : Option ℕ) → first_clash 0 (R.slots d) d e ≡ o
             → ((answer_number (merge_call R d e out).0 ≡ 20) × (answer_place (merge_call R d e out).0 ≡ k)) ↔ FirstClash R d e k
-        go none h = (
-          λ w. absurd (never-20 (leb (length d) (length out)) (merged R d e) out (sym (ap (λ a. answer_number a.0) (call-is none h)) ∙ w.0)),
+        go None h = (
+          λ w. absurd (never-20 (leb (length d) (length out)) (merged R d e) out (sym (ap (λ a. answer_number a.0) (call-is None h)) ∙ w.0)),
           λ f. absurd (no-first h k f),
         )
-        go (some j) h =
-            let c : merge_call R d e out ≡ decide_merge true true true (some j) (leb (length d) (length out)) (merged R d e) out = call-is (some j) h in
+        go (Some j) h =
+            let c : merge_call R d e out ≡ decide_merge true true true (Some j) (leb (length d) (length out)) (merged R d e) out = call-is (Some j) h in
             let f : FirstClash R d e j = first-clash R L d hd d e (like-self R d hd) le j (first_some 0 (R.slots d) d e j h) in (
               λ w. subst (FirstClash R d e) (sym (ap (λ a. answer_place a.0) c) ∙ w.1) f,
               λ g. (ap (λ a. answer_number a.0) c, ap (λ a. answer_place a.0) c ∙ first_one R d e j k f g),

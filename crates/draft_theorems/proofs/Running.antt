@@ -1,8 +1,9 @@
 -- How a grouping ends, by induction over it: its result carries each draft used (`upper`) and holds no signature that no draft holds (`lower`); or
 -- a call of it met the conflict refusal, and two drafts of the list conflict. Assumes nothing but `Laws`.
+use Rattle.std.specs.Prelude.{Ok, Option, Result, IsSome, None, Some}
+use Rattle.wire.specs.declared.Refusal.{Refusal}
 use mathlib.Core.Path.{◌≡◌, refl, sym, ap, ap₂, ◌∙◌, subst⁻¹}
 use mathlib.Core.Logic.{◌⊎◌, inl, inr, ⊎_elim}
-use mathlib.Core.Option.{Option, none, some, IsSome}
 use mathlib.Core.List.{List, ◌++◌}
 use Prim.Native.Nat.{ℕ, ◌≤◌, ◌<◌}
 use native.Mathlib.Omega.{arith}
@@ -12,8 +13,6 @@ use Rattle.wire.specs.Numbers.{conflict}
 use Rattle.transaction.specs.Slots.{slot_at}
 use Rattle.draft_slots.specs.Joining.{Filled, Clash, join}
 use Rattle.draft_slots.proofs.Comparing.{join-filled, join_one, join-second}
-use Rattle.draft.specs.declared.Answer.{Answer}
-use Rattle.draft.specs.declared.Answer.TheVariants as A
 use Rattle.draft.specs.Reader.{Reader, Draft, slot_count, slot}
 use Rattle.draft.specs.Calls.{answer_number, answer_place, merged, refuse}
 use Rattle.draft_theorems.specs.Groupings.{at, Drafts, Sides, first_before, second_before, both_anyway, Grouping, draft, call, Uses, Fits, Call}
@@ -57,7 +56,7 @@ module _ (R : Reader) (ds : List (List ℕ)) where
   meets-either both_anyway out g h n a b = record { asked = a.asked; made = inl a.made; answers = a.answers }
 
   -- the call above is on the sides' results
-  above-is : (g h : Grouping) (out x y : List ℕ) (c : Call) → result R ds g ≡ some x → result R ds h ≡ some y
+  above-is : (g h : Grouping) (out x y : List ℕ) (c : Call) → result R ds g ≡ Some x → result R ds h ≡ Some y
       → Above R ds out g h c → c ≡ record { first = x; second = y; out = out }
   above-is g h out x y c ex ey m =
       let e₁ : c.first ≡ x = cc in
@@ -74,8 +73,8 @@ pub record Joined (R : Reader) (ds : List (List ℕ)) (g : Grouping) (x : List �
       → (i : ℕ) × (i < length ds) × (on R (at ds 0) (at ds i) k ≡ on R (at ds 0) x k)
 
 pub data Ended (R : Reader) (ds : List (List ℕ)) (g : Grouping) : Type 0 where
-  gives : (x : List ℕ) → result R ds g ≡ some x → Joined R ds g x → ((c : Call) → Made R ds g c → Done R ds c) → Ended R ds g
-  stops : result R ds g ≡ none → Conflict R ds → Meets R ds g 20 → ((c : Call) → Made R ds g c → Done R ds c ⊎ Refused R c) → Ended R ds g
+  gives : (x : List ℕ) → result R ds g ≡ Some x → Joined R ds g x → ((c : Call) → Made R ds g c → Done R ds c) → Ended R ds g
+  stops : result R ds g ≡ None → Conflict R ds → Meets R ds g 20 → ((c : Call) → Made R ds g c → Done R ds c ⊎ Refused R c) → Ended R ds g
 
 module _ (R : Reader) (L : Laws R) (ds : List (List ℕ)) (D : Drafts R ds) where
   pub first-draft : Draft R (at ds 0)
@@ -112,7 +111,7 @@ module _ (R : Reader) (L : Laws R) (ds : List (List ℕ)) (D : Drafts R ds) wher
 
   -- ---- the call above two results
 
-  module _ (o : Sides) (out : List ℕ) (g h : Grouping) (x y : List ℕ) (ex : result R ds g ≡ some x) (ey : result R ds h ≡ some y)
+  module _ (o : Sides) (out : List ℕ) (g h : Grouping) (x y : List ℕ) (ex : result R ds g ≡ Some x) (ey : result R ds h ≡ Some y)
       (jx : Joined R ds g x) (jy : Joined R ds h y) where
     joined : ((k : ℕ) → k < length (R.slots (at ds 0)) → Clash (on R (at ds 0) x k) (on R (at ds 0) y k) → ⊥)
         → Joined R ds (call o out g h) (merged R x y)
@@ -149,24 +148,24 @@ module _ (R : Reader) (L : Laws R) (ds : List (List ℕ)) (D : Drafts R ds) wher
     me : Call
     me = record { first = x; second = y; out = out }
 
-    result-me : result R ds (call o out g h) ≡ above R (some x) (some y) out
+    result-me : result R ds (call o out g h) ≡ above R (Some x) (Some y) out
     unfolding result
     result-me = ap₂ (λ (s t : Option (List ℕ)). above R s t out) ex ey
 
-    result-joined : answered R me ≡ (A.Done (length (merged R x y)), merged R x y ++ drop (length (merged R x y)) out)
-        → above R (some x) (some y) out ≡ some (merged R x y)
+    result-joined : answered R me ≡ (Ok (length (merged R x y)), merged R x y ++ drop (length (merged R x y)) out)
+        → above R (Some x) (Some y) out ≡ Some (merged R x y)
     unfolding me
-    result-joined e = ap result_of e ∙ ap {B = Option (List ℕ)} some (take-append_seam (merged R x y) (drop (length (merged R x y)) out))
+    result-joined e = ap result_of e ∙ ap {B = Option (List ℕ)} Some (take-append_seam (merged R x y) (drop (length (merged R x y)) out))
 
-    done-me : length (at ds 0) ≤ length out → answered R me ≡ (A.Done (length (merged R x y)), merged R x y ++ drop (length (merged R x y)) out) → Done R ds me
+    done-me : length (at ds 0) ≤ length out → answered R me ≡ (Ok (length (merged R x y)), merged R x y ++ drop (length (merged R x y)) out) → Done R ds me
     unfolding me
     done-me room e =
         let m : List ℕ = merged R x y in
         let lm : length m ≡ length (at ds 0) = (merged-like R L (at ds 0) first-draft x y jx.like jy.like).frame.long in
-        let p : answer_place (answered R me).0 ≡ length m = ap (λ (a : Answer × List ℕ). answer_place a.0) e in
-        let b : (answered R me).1 ≡ m ++ drop (length m) out = ap (λ (a : Answer × List ℕ). a.1) e in
+        let p : answer_place (answered R me).0 ≡ length m = ap (λ (a : Result ℕ Refusal × List ℕ). answer_place a.0) e in
+        let b : (answered R me).1 ≡ m ++ drop (length m) out = ap (λ (a : Result ℕ Refusal × List ℕ). a.1) e in
         record {
-          number = ap (λ (a : Answer × List ℕ). answer_number a.0) e;
+          number = ap (λ (a : Result ℕ Refusal × List ℕ). answer_number a.0) e;
           place = λ i bi. p ∙ lm ∙ sym (like_at i bi).frame.long;
           long = ap length b ∙ omega (arith, length-append m (drop (length m) out), length-drop (length m) out);
           after = ap₂ (λ (n : ℕ) (s : List ℕ). drop n s) p b ∙ drop-append_seam m (drop (length m) out) ∙ ap (λ (n : ℕ). drop n out) (sym p);
@@ -176,9 +175,9 @@ module _ (R : Reader) (L : Laws R) (ds : List (List ℕ)) (D : Drafts R ds) wher
     unfolding me
     refused-me k f e =
         record {
-          number = ap (λ (a : Answer × List ℕ). answer_number a.0) e;
-          place = subst⁻¹ (FirstClash R x y) (ap (λ (a : Answer × List ℕ). answer_place a.0) e) f;
-          buffer = ap (λ (a : Answer × List ℕ). a.1) e;
+          number = ap (λ (a : Result ℕ Refusal × List ℕ). answer_number a.0) e;
+          place = subst⁻¹ (FirstClash R x y) (ap (λ (a : Result ℕ Refusal × List ℕ). answer_place a.0) e) f;
+          buffer = ap (λ (a : Result ℕ Refusal × List ℕ). a.1) e;
         }
 
     node : length (at ds 0) ≤ length out → ((c : Call) → Made R ds g c → Done R ds c) → ((c : Call) → Made R ds h c → Done R ds c)
@@ -189,27 +188,27 @@ module _ (R : Reader) (L : Laws R) (ds : List (List ℕ)) (D : Drafts R ds) wher
         (λ c w. ⊎_elim (cx c) (⊎_elim (cy c) (λ a. subst⁻¹ (Done R ds) (above-is R ds g h out x y c ex ey a) (done-me room e))) (parts R ds o out g h c w))
     node room cx cy (clash k f b c e) =
         stops (result-me ∙ ap result_of e) (collide k b c)
-        (record { asked = me; made = made-above R ds o out g h me (ex, ey, refl); answers = ap (λ (a : Answer × List ℕ). answer_number a.0) e })
+        (record { asked = me; made = made-above R ds o out g h me (ex, ey, refl); answers = ap (λ (a : Result ℕ Refusal × List ℕ). answer_number a.0) e })
         (λ q w. ⊎_elim (λ u. inl (cx q u))
         (⊎_elim (λ u. inl (cy q u)) (λ a. inr (subst⁻¹ (Refused R) (above-is R ds g h out x y q ex ey a) (refused-me k f e)))) (parts R ds o out g h q w))
 
   -- ---- if a side has no result, the call above is not made
 
-  never-above : (out : List ℕ) (g h : Grouping) → (result R ds g ≡ none) ⊎ (result R ds h ≡ none)
+  never-above : (out : List ℕ) (g h : Grouping) → (result R ds g ≡ None) ⊎ (result R ds h ≡ None)
       → ((c : Call) → Made R ds g c → Done R ds c ⊎ Refused R c) → ((c : Call) → Made R ds h c → Done R ds c ⊎ Refused R c)
       → (o : Sides) (c : Call) → Made R ds (call o out g h) c → Done R ds c ⊎ Refused R c
   never-above out g h e cg ch o c w = ⊎_elim (cg c) (⊎_elim (ch c) (λ a. absurd (go e a))) (parts R ds o out g h c w)
     where
-      never : {x : List ℕ} → none ≡ some x → ⊥
+      never : {x : List ℕ} → None ≡ Some x → ⊥
       never p = let y : ◌≡◌ {A = ℕ} 0 1 = cc in omega arith
 
-      go : (result R ds g ≡ none) ⊎ (result R ds h ≡ none) → Above R ds out g h c → ⊥
+      go : (result R ds g ≡ None) ⊎ (result R ds h ≡ None) → Above R ds out g h c → ⊥
       go (inl e) a = never (sym e ∙ a.0)
       go (inr e) a = never (sym e ∙ a.1)
 
-  none-second : (s : Option (List ℕ)) (out : List ℕ) → above R s none out ≡ none
-  none-second none out = refl
-  none-second (some x) out = refl
+  none-second : (s : Option (List ℕ)) (out : List ℕ) → above R s None out ≡ None
+  none-second None out = refl
+  none-second (Some x) out = refl
 
   step : (o : Sides) (out : List ℕ) (g h : Grouping) → length (at ds 0) ≤ length out → Ended R ds g → Ended R ds h → Ended R ds (call o out g h)
   unfolding result
@@ -217,11 +216,11 @@ module _ (R : Reader) (L : Laws R) (ds : List (List ℕ)) (D : Drafts R ds) wher
       node o out g h x y ex ey jx jy room cx cy (ends R L (at ds 0) first-draft x y jx.like jy.like out room)
   step o out g h room (gives x ex jx cx) (stops e q m cs) =
       stops (ap (λ (s : Option (List ℕ)). above R (result R ds g) s out) e ∙ none-second (result R ds g) out) q
-      (record { asked = m.asked; made = made-second R ds o out g h m.asked (subst⁻¹ IsSome ex tt) m.made; answers = m.answers })
+      (record { asked = m.asked; made = made-second R ds o out g h m.asked (subst⁻¹ IsSome ex refl) m.made; answers = m.answers })
       (never-above out g h (inr e) (λ c w. inl (cx c w)) cs o)
   step o out g h room (stops e q m cs) (gives y ey jy cy) =
       stops (ap (λ (s : Option (List ℕ)). above R s (result R ds h) out) e) q
-      (record { asked = m.asked; made = made-first R ds o out g h m.asked (subst⁻¹ IsSome ey tt) m.made; answers = m.answers })
+      (record { asked = m.asked; made = made-first R ds o out g h m.asked (subst⁻¹ IsSome ey refl) m.made; answers = m.answers })
       (never-above out g h (inl e) cs (λ c w. inl (cy c w)) o)
   step o out g h room (stops e q m cs) (stops e₂ q₂ m₂ cs₂) =
       stops (ap (λ (s : Option (List ℕ)). above R s (result R ds h) out) e) q (meets-either R ds o out g h 20 m m₂) (never-above out g h (inl e) cs cs₂ o)

@@ -1,11 +1,10 @@
 -- Demand 1 of document 00, for merge and fill: whatever bytes and numbers they are handed, the answer has a number of the table, a refusal changes
 -- no lent byte, and each refusal has its condition. For any reader. Assumes nothing.
-use Rattle.std.specs.Prelude.{◌≡◌, ◌⊎◌, true, false, List, [], ◌∷◌, ◌++◌, ℕ, ◌≤◌, ◌<◌, length, drop}
+use Rattle.wire.specs.declared.Refusal.{Refusal}
+use Rattle.std.specs.Prelude.{◌≡◌, ◌⊎◌, true, false, List, [], ◌∷◌, ◌++◌, ℕ, ◌≤◌, ◌<◌, length, drop, Ok, Result}
 use Rattle.wire.specs.Numbers.{no_room, no_entry, first_not_accepted, second_not_accepted, drafts_differ, conflict, not_a_signature}
 use Rattle.wire.specs.Orders.{OneOf}
 use Rattle.transaction.specs.Slots.{signature_width}
-use Rattle.draft.specs.declared.Answer.{Answer}
-use Rattle.draft.specs.declared.Answer.TheVariants as A
 use Rattle.draft.specs.Reader.{Reader, Draft, body, slot_count}
 use Rattle.draft.specs.Calls.{answer_number, answer_place, refuse, merged, merge_call, fill_call}
 use Rattle.draft_theorems.specs.Demand.{FirstClash}
@@ -18,7 +17,7 @@ abbrev pub fill_numbers : List ℕ
 fill_numbers = 0 ∷ 15 ∷ 17 ∷ 20 ∷ 21 ∷ []
 
 -- what one call guarantees, by the lent bytes before it, and its answer with the lent bytes afterwards
-pub record Owes (numbers before : List ℕ) (a : Answer × List ℕ) : Type 0 where
+pub record Owes (numbers before : List ℕ) (a : Result ℕ Refusal × List ℕ) : Type 0 where
   pub number : OneOf (answer_number a.0) numbers
   -- a refusal leaves every byte as it was
   pub refused : (answer_number a.0 ≡ 0 → ⊥) → a.1 ≡ before
@@ -41,7 +40,7 @@ pub record CallsDecide (R : Reader) : Type 0 where
   pub no_room : (d e out : List ℕ) → Draft R d → Draft R e → body R d ≡ body R e → ((k : ℕ) → FirstClash R d e k → ⊥)
       → length out < length d → merge_call R d e out ≡ (refuse no_room 0, out)
   pub done : (d e out : List ℕ) → Draft R d → Draft R e → body R d ≡ body R e → ((k : ℕ) → FirstClash R d e k → ⊥)
-      → length d ≤ length out → merge_call R d e out ≡ (A.Done (length d), merged R d e ++ drop (length d) out)
+      → length d ≤ length out → merge_call R d e out ≡ (Ok (length d), merged R d e ++ drop (length d) out)
   -- fill: "17, 15, 21, then 20"; `refused` and `done` of specs/Filling state when it answers 20 and when it is done
   pub fill-refused : (d : List ℕ) (k : ℕ) (s : List ℕ) → R.accepts d ≡ false → fill_call R d k s ≡ (refuse first_not_accepted 0, d)
   pub no_slot : (d : List ℕ) (k : ℕ) (s : List ℕ) → R.accepts d ≡ true → slot_count R d ≤ k → fill_call R d k s ≡ (refuse no_entry 0, d)

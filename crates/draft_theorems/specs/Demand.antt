@@ -1,7 +1,6 @@
 -- DEMAND 3 of document 00, as document 01 ("Drafts, slots, merging") spells it out: one claim about every list of drafts and every grouping over it
 -- that uses each. Its calls are those that merge's contract cites, its slots those of demand 2's reading (specs/Slots). Assumes nothing.
-use Rattle.std.specs.Prelude.{◌≡◌, ◌⊎◌, ◌↔◌, List, [], ◌∷◌, ℕ, ◌<◌, length, drop, get_or}
-use Rattle.std.proofs.Math.Option.{none, some}
+use Rattle.std.specs.Prelude.{◌≡◌, ◌⊎◌, ◌↔◌, List, [], ◌∷◌, ℕ, ◌<◌, length, drop, get_or, None, Some}
 use Rattle.transaction.specs.Slots.{blank, slot_at, put_all, Outside}
 use Rattle.draft_slots.specs.Joining.{Filled, Clash, join}
 use Rattle.draft.specs.Reader.{Reader, Draft, body, slot_count, slot}
@@ -89,11 +88,11 @@ pub record Promise (R : Reader) (ds : List (List ℕ)) (g : Grouping) : Type 0 w
   -- how each call that is made ends
   pub each-call : (c : Call) → Made R ds g c → Done R ds c ⊎ Refused R c
   -- "every such order and grouping gives the same bytes, the merge of the list"
-  pub gives : (Conflict R ds → ⊥) → result R ds g ≡ some (merge_of R ds)
+  pub gives : (Conflict R ds → ⊥) → result R ds g ≡ Some (merge_of R ds)
   -- "a call that is refused ends the grouping .. and there is no result"
-  pub no_result : Conflict R ds → result R ds g ≡ none
+  pub no_result : Conflict R ds → result R ds g ≡ None
   -- a grouping always ends in one of the two: the merge as its result, or the conflict refusal
-  pub ends : (result R ds g ≡ some (merge_of R ds)) ⊎ Meets R ds g 20
+  pub ends : (result R ds g ≡ Some (merge_of R ds)) ⊎ Meets R ds g 20
 
 -- ---- one pair
 

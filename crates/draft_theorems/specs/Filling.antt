@@ -1,6 +1,6 @@
 -- What a call of fill does and leaves, and a transaction made from its blank draft by such calls (demand 2, "then filling in its signatures").
 -- Assumes nothing.
-use Rattle.std.specs.Prelude.{◌≡◌, List, [], ◌∷◌, map, ℕ, suc, ◌<◌, length}
+use Rattle.std.specs.Prelude.{◌≡◌, List, [], ◌∷◌, map, ℕ, suc, ◌<◌, length, Ok}
 use Rattle.wire.specs.Bytes.{Bytes}
 use Rattle.wire.specs.Numbers.{conflict}
 use Rattle.wire.specs.Format.{took}
@@ -9,7 +9,6 @@ use Rattle.transaction.specs.Credentials.{layout, blanks}
 use Rattle.transaction.specs.Signed as AnySigned
 use Rattle.transaction.specs.Family.{Family, Signed, unsigned, wants, check}
 use Rattle.draft_slots.specs.Joining.{Filled, Clash}
-use Rattle.draft.specs.declared.Answer.TheVariants as A
 use Rattle.draft.specs.Reader.{Reader, reader, Draft, body, slot_count, slot}
 use Rattle.draft.specs.Calls.{refuse, fill_call}
 use Rattle.draft_theorems.specs.Demand.{Frame}
@@ -31,7 +30,7 @@ pub record BlankOf (R : Reader) (d b : List ℕ) : Type 0 where
 -- calls of fill from slot k on, each over what the last one left: each is done, with the draft's length, and the last one leaves e
 abbrev pub Fills : Reader → ℕ → List (List ℕ) → List ℕ → List ℕ → Type 0
 Fills R k [] d e = d ≡ e
-Fills R k (s ∷ ss) d e = ((fill_call R d k s).0 ≡ A.Done (length d)) × Fills R (suc k) ss (fill_call R d k s).1 e
+Fills R k (s ∷ ss) d e = ((fill_call R d k s).0 ≡ Ok (length d)) × Fills R (suc k) ss (fill_call R d k s).1 e
 
 -- what a call of fill over d, with slot k and signature s, leaves in e if it is done
 pub record Leaves (R : Reader) (d : List ℕ) (k : ℕ) (s e : List ℕ) : Type 0 where
@@ -50,7 +49,7 @@ pub record Filling (R : Reader) : Type 0 where
   pub refused : (d : List ℕ) → Draft R d → (k : ℕ) → k < slot_count R d → (s : List ℕ) → length s ≡ signature_width → Clash (slot R d k) s
       → fill_call R d k s ≡ (refuse conflict k, d)
   pub done : (d : List ℕ) → Draft R d → (k : ℕ) → k < slot_count R d → (s : List ℕ) → length s ≡ signature_width → (Clash (slot R d k) s → ⊥)
-      → (fill_call R d k s).0 ≡ A.Done (length d)
+      → (fill_call R d k s).0 ≡ Ok (length d)
   pub leaves : (d : List ℕ) → Draft R d → (k : ℕ) → k < slot_count R d → (s : List ℕ) → length s ≡ signature_width → (Clash (slot R d k) s → ⊥)
       → Bytes s → Leaves R d k s (fill_call R d k s).1
   -- every transaction is its blank draft with its signatures filled in, call by call

@@ -1,7 +1,6 @@
 -- Lists of drafts, and groupings of merge calls over them (document 01, "Drafts, slots, merging"). Assumes nothing.
-use Rattle.std.specs.Prelude.{◌≡◌, ◌⊎◌, cond, List, [], ℕ, ◌≤◌, ◌<◌, eqb, length, take, get_or}
-use Rattle.std.proofs.Math.Option.{Option, none, some, IsSome}
-use Rattle.draft.specs.declared.Answer.{Answer}
+use Rattle.wire.specs.declared.Refusal.{Refusal}
+use Rattle.std.specs.Prelude.{◌≡◌, ◌⊎◌, cond, List, [], ℕ, ◌≤◌, ◌<◌, eqb, length, take, get_or, Option, Result, IsSome, None, Some}
 use Rattle.draft.specs.Reader.{Reader, Draft, body}
 use Rattle.draft.specs.Calls.{answer_number, answer_place, merge_call}
 
@@ -53,7 +52,7 @@ pub record Call : Type 0 where
   pub out : List ℕ
 
 -- what merge's contract promises of a call: the answer, and the output buffer afterwards
-abbrev pub answered : Reader → Call → Answer × List ℕ
+abbrev pub answered : Reader → Call → Result ℕ Refusal × List ℕ
 answered R c = merge_call R c.first c.second c.out
 
 abbrev pub call_number : Reader → Call → ℕ
@@ -66,23 +65,23 @@ abbrev pub call_buffer : Reader → Call → List ℕ
 call_buffer R c = (answered R c).1
 
 -- the result of a call that answers 0 is the front of its output buffer, as many bytes as its place says; a refused call has none
-abbrev pub result_of : Answer × List ℕ → Option (List ℕ)
-result_of (a, out) = cond (eqb (answer_number a) 0) (some (take (answer_place a) out)) none
+abbrev pub result_of : Result ℕ Refusal × List ℕ → Option (List ℕ)
+result_of (a, out) = cond (eqb (answer_number a) 0) (Some (take (answer_place a) out)) None
 
 -- the call above two groupings, made if both have a result
 abbrev pub above : Reader → Option (List ℕ) → Option (List ℕ) → List ℕ → Option (List ℕ)
-above R none y out = none
-above R (some d) none out = none
-above R (some d) (some e) out = result_of (merge_call R d e out)
+above R None y out = None
+above R (Some d) None out = None
+above R (Some d) (Some e) out = result_of (merge_call R d e out)
 
 unfoldable pub result : Reader → List (List ℕ) → Grouping → Option (List ℕ)
 unfolding merge_call
-result R ds (draft i) = some (at ds i)
+result R ds (draft i) = Some (at ds i)
 result R ds (call o out g h) = above R (result R ds g) (result R ds h) out
 
 -- c is the call above g and h
 abbrev pub Above : Reader → List (List ℕ) → List ℕ → Grouping → Grouping → Call → Type 0
-Above R ds out g h c = (result R ds g ≡ some c.first) × (result R ds h ≡ some c.second) × (c.out ≡ out)
+Above R ds out g h c = (result R ds g ≡ Some c.first) × (result R ds h ≡ Some c.second) × (c.out ≡ out)
 
 -- c is made: a call that is refused ends the grouping, and the calls above it are not made
 abbrev pub Made : Reader → List (List ℕ) → Grouping → Call → Type 0

@@ -1,7 +1,6 @@
 -- Neither the order of the drafts, nor the grouping, nor repetition matters: what follows from demand 3 for two lists, and for calls of merge.
 -- Assumes nothing.
-use Rattle.std.specs.Prelude.{◌≡◌, ◌⊎◌, ◌↔◌, List, [], ◌∷◌, ℕ, ◌≤◌, ◌<◌, length}
-use Rattle.std.proofs.Math.Option.{some, IsSome}
+use Rattle.std.specs.Prelude.{◌≡◌, ◌⊎◌, ◌↔◌, List, [], ◌∷◌, ℕ, ◌≤◌, ◌<◌, length, IsSome, Some}
 use Rattle.draft.specs.Reader.{Reader, Draft, body}
 use Rattle.draft.specs.Calls.{merge_call}
 use Rattle.draft_theorems.specs.Groupings.{at, Drafts, Grouping, Uses, Fits, Call, call_number, result_of, above, result, Made, Meets}
@@ -14,7 +13,7 @@ Within ds es = (i : ℕ) → i < length ds → (j : ℕ) × (j < length es) × (
 -- both have a result, the same bytes; or both meet the conflict refusal
 abbrev pub Alike : Reader → List (List ℕ) → Grouping → List (List ℕ) → Grouping → Type 0
 Alike R ds g es h =
-    ((m : List ℕ) × (result R ds g ≡ some m) × (result R es h ≡ some m))
+    ((m : List ℕ) × (result R ds g ≡ Some m) × (result R es h ≡ Some m))
     ⊎ (Meets R ds g 20 × Meets R es h 20)
 
 -- calls of g, in the order in which they were made
@@ -47,11 +46,11 @@ pub record Orders (R : Reader) : Type 0 where
   pub runs : (ds : List (List ℕ)) → Drafts R ds → (g : Grouping) → Fits ds g → ((i : ℕ) → i < length ds → Uses g i)
       → (cs : List Call) → Evaluation R ds g cs → Answers R cs 20 ↔ Conflict R ds
   -- one draft merged with itself
-  pub idempotent : (d out : List ℕ) → Draft R d → length d ≤ length out → result_of (merge_call R d d out) ≡ some d
+  pub idempotent : (d out : List ℕ) → Draft R d → length d ≤ length out → result_of (merge_call R d d out) ≡ Some d
   -- two drafts, either first, whatever the buffers hold
   pub commutative : (d e o₁ o₂ : List ℕ) → Draft R d → Of R d e → length d ≤ length o₁ → length d ≤ length o₂
       → result_of (merge_call R d e o₁) ≡ result_of (merge_call R e d o₂)
   -- three drafts
   pub associative : (d e f o₁ o₂ o₃ o₄ : List ℕ) → Draft R d → Of R d e → Of R d f
       → length d ≤ length o₁ → length d ≤ length o₂ → length d ≤ length o₃ → length d ≤ length o₄
-      → above R (result_of (merge_call R d e o₁)) (some f) o₂ ≡ above R (some d) (result_of (merge_call R e f o₃)) o₄
+      → above R (result_of (merge_call R d e o₁)) (Some f) o₂ ≡ above R (Some d) (result_of (merge_call R e f o₃)) o₄

@@ -1,15 +1,17 @@
 -- Laws for the readers of this crate, in the form of those of wire's proofs/Reading: each law of the form z ≡ (the parse) goes one step into a
 -- format's parser, by what the code has found. The proofs of the functions use `search` over the rulesets.
 --   answers          what the answer of a reader says of its format's parser, stated once for any answer
---   order            what the code compares, and what the format compares
+--   order            what the code compares, and what the format compares; a key
 --   lists            the rest of a list, by what the code keeps of the element before
 --   outputs .. initial states    for each element: how the parser of what holds it continues from the reader's answer (`on-..`,
 --                    `on-..-refused`)
 --   rulesets         a chain that ends in a refusal or in an answer that is returned
 -- Assumes nothing.
-use Prim.Native.Nat.{ℕ, zero, suc, ◌^◌, ◌≤◌, ◌<◌}
+use Rattle.std.specs.Prelude.{Ok, Err, Result, Option, Some, None}
+use Prim.Native.Nat.{ℕ, zero, suc, ◌+◌, ◌-◌, ◌^◌, ◌≤◌, ◌<◌}
 use mathlib.Core.Path.{◌≡◌, refl, sym, ap, ◌∙◌}
 use mathlib.Core.Bool.{Bool, true, false, not}
+use mathlib.Core.Logic.{◌⊎◌, inl, inr}
 use mathlib.Core.List.{List, [], ◌∷◌, ◌++◌}
 use native.Mathlib.Omega.{arith}
 use lib.ListN.{length, take, length-append}
@@ -17,43 +19,40 @@ use lib.Seq.{take_at}
 use lib.Dec.{ltb, eqb}
 use borrow.Author.Tests.{ltb-true, ltb-false, eq-eqb, ne_eqb}
 use Rattle.wire.specs.declared.Refusal.{Refusal}
-use Rattle.wire.specs.declared.End.{End}
-use Rattle.wire.specs.declared.End.TheVariants as P
-use Rattle.wire.specs.declared.Integer.{Integer}
-use Rattle.wire.specs.declared.Integer.TheVariants as N
 use Rattle.wire.specs.Bytes.{Bytes, digits, below, pick, between}
 use Rattle.wire.specs.laws.Bytes.{length_digits}
-use Rattle.wire.specs.Format.{Format, Result, took, refused, on_result, read, Stands}
+use Rattle.wire.specs.Format.{Format, Parsed, took, refused, on_result, read}
 use Rattle.wire.proofs.Format.{stands-part, parse-alike-read}
 use Rattle.wire.specs.Numbers.{by, cut_at, unknown_type, out_of_order}
 use Rattle.wire.specs.Fields.{blob, integer}
 use Rattle.wire.specs.laws.Sizes.{length-integer}
 use Rattle.wire.specs.Sequence.{guard, tag, items}
-use Rattle.wire.specs.Series.{left, not_below, series}
+use Rattle.wire.specs.Series.{left, not_below, series, series_from, nondecreasing}
 use Rattle.wire.specs.Parsers.{list_parse}
-use Rattle.wire.specs.code.Order.{key_below}
 use Rattle.wire.specs.code.Answer.{ended, valued, whole_at}
 use Rattle.wire.proofs.Bytes.{Slice, slice-bytes, found, below-digits, key_below_lem}
 use Rattle.wire.proofs.Orders.{empty-below}
+use Rattle.wire.proofs.Trying.{passed-on, same-parts}
 use Rattle.wire.proofs.Reading as W
 use Rattle.string.proofs.Reading as S
 use Rattle.owners.specs.Owners.{owners}
 use Rattle.owners.proofs.Reading.{on-owners, on-owners-refused}
-use Rattle.element.specs.Outputs.{amount, output}
+use Rattle.element.specs.Outputs.{amount}
 use Rattle.element.specs.Inputs.{key, Input, spend, input_after, input}
 use Rattle.element.specs.Operations.{OperationType, mint_nft, transfer_nft, operation_code, operation_type, operation_type-code, operation_owners}
-use Rattle.element.specs.Operations.{terms, operation, Fx, secp_fx, nft_fx, fx_code, fx_of, fx_of-code, fx_outputs, fx_id, state_outputs, InitialState}
+use Rattle.element.specs.Operations.{terms, operation, Fx, secp_fx, nft_fx, fx_code, fx_of, fx_of-code, fx_id, state_outputs, InitialState}
 use Rattle.element.specs.Operations.{initial_state_after, initial_state}
-use Rattle.element.specs.code.Answer.{in_order}
+use Rattle.element.specs.declared.inputs.Key.{Key}
+use Rattle.element.specs.code.Answer.{and_next, in_order, ordered, integer_follows, key_follows, keyed}
 
 -- ---- answers: what an answer with one case for a value and one for a refusal says about the parse
 
-pub took_of : {A T : Type 0} (o : Result A) (stop : Refusal → T) (whole : A → ℕ → T) (y : T) → on_result o stop whole ≡ y → ((e : Refusal) → stop e ≡ y → ⊥)
+pub took_of : {A T : Type 0} (o : Parsed A) (stop : Refusal → T) (whole : A → ℕ → T) (y : T) → on_result o stop whole ≡ y → ((e : Refusal) → stop e ≡ y → ⊥)
     → (v : A) × (m : ℕ) × (o ≡ took v m) × (whole v m ≡ y)
 took_of (took v m) stop whole y q n = (v, m, refl, q)
 took_of (refused e) stop whole y q n = absurd (n e q)
 
-pub refused-of : {A T : Type 0} (o : Result A) (stop : Refusal → T) (whole : A → ℕ → T) (y : T) → on_result o stop whole ≡ y
+pub refused-of : {A T : Type 0} (o : Parsed A) (stop : Refusal → T) (whole : A → ℕ → T) (y : T) → on_result o stop whole ≡ y
     → ((v : A) (m : ℕ) → whole v m ≡ y → ⊥)
     → (e : Refusal) × (o ≡ refused e) × (stop e ≡ y)
 refused-of (took v m) stop whole y q n = absurd (n v m q)
@@ -87,61 +86,78 @@ module _ {A T R : Type 0} (F : Format A) (no : Refusal → T) (whole : A → ℕ
       let (d, t, i) = answer-refused F s at no whole x p (no e) q (λ v m j. let k : ◌≡◌ {A = ℕ} 0 1 = never v m j in omega arith) in
       r ∙ ap stop (sym (same d i)) ∙ sym (W.parse-refused F s at stop go d t)
 
--- ---- order: the code keeps the element before, and whether there is one; the format keeps its bytes, [] before the first
-
-pub follows-any : (t : Bool) (x y : Bool) → t ≡ true → y ≡ x → y ≡ pick t x true
-follows-any t x y h e = rw h e
-
-pub follows-none : (t : Bool) (x : Bool) → t ≡ false → true ≡ pick t x true
-follows-none t x h = rw h
-
-pub ruleset follows = (follows-any, follows-none)
-
--- with [] before the first element, the format's test has the answer of the code's test, t
-first_below : (any : Bool) (p a : List ℕ) (t : Bool) → t ≡ pick any (below p a) true → 0 < length a → below (pick any p []) a ≡ t
-first_below true p a t e h = sym e
-first_below false p a t e h = empty-below a h ∙ sym e
-
--- bytes returned by value are the bytes w at `at`
-whole_is : (k : ℕ) (s : List ℕ) (at n : ℕ) (a w : List ℕ) (x : End) → Stands s at w n → a ≡ whole_at k s at → x ≡ ended (blob k) s at → x ≡ P.At n → a ≡ w
-whole_is k s at n a w x h ha p q = W.whole-next k s at a x n ha p q ∙ sym (stands-part s at w n h)
-
-pub id-length : (k : ℕ) (s : List ℕ) (at : ℕ) (a : List ℕ) → a ≡ whole_at k s at → length a ≡ k
-id-length k s at a h = ap length h ∙ W.whole_length k s at
+-- ---- order: the code keeps the element before, if there is one; the format keeps its bytes, [] before the first
 
 -- integers, such as indices
-module _ {R : Type 0} (any : Bool) (prev v : ℕ) (t : Bool) (z X Y : R) (e : t ≡ pick any (ltb prev v) true) (small : prev < 256 ^ 4) where
-  integer-test : v < 256 ^ 4 → below (pick any (digits 4 prev) []) (digits 4 v) ≡ t
-  integer-test h = first_below any (digits 4 prev) (digits 4 v) t (rw (below-digits 4 prev v small h) e) (omega (arith, length_digits 4 v))
+abbrev pub Small : Option ℕ → Type 0
+Small None = Unit {0}
+Small (Some n) = n < 256 ^ 4
 
-  pub if-integer-follows : t ≡ true → v < 256 ^ 4 → z ≡ X → z ≡ pick (below (pick any (digits 4 prev) []) (digits 4 v)) X Y
-  if-integer-follows h i j = rw (integer-test i, h) j
+abbrev pub integer_before : Option ℕ → List ℕ
+integer_before None = []
+integer_before (Some n) = (integer 4).write n
 
-  pub if-integer-not : t ≡ false → v < 256 ^ 4 → z ≡ Y → z ≡ pick (below (pick any (digits 4 prev) []) (digits 4 v)) X Y
-  if-integer-not h i j = rw (integer-test i, h) j
+integer-below : (prev : Option ℕ) (v : ℕ) → Small prev → v < 256 ^ 4 → below (integer_before prev) ((integer 4).write v) ≡ integer_follows prev v
+unfolding integer
+integer-below None v h i = empty-below (digits 4 v) (omega (arith, length_digits 4 v))
+integer-below (Some p) v h i = below-digits 4 p v h i
 
--- keys, an identifier and an index: w is what the format writes for the identifier
-module _ (s : List ℕ) (at n : ℕ) (id w : List ℕ) (x : End) (h : Stands s at w n) (ha : id ≡ whole_at 32 s at) (p : x ≡ ended (blob 32) s at)
-    (q : x ≡ P.At n) where
-  module _ {R : Type 0} (any : Bool) (prev : List ℕ) (last index : ℕ) (t : Bool) (z X Y : R) (e : t ≡ pick any (key_below prev last id index) true)
-      (hp : length prev ≡ 32) (hl : last < 256 ^ 4) where
-    key-test : index < 256 ^ 4 → below (pick any (prev ++ (integer 4).write last) []) (w ++ (integer 4).write index) ≡ t
-    unfolding integer
-    key-test hx =
-        let hi : length id ≡ 32 = id-length 32 s at id ha in
-        rw (← (whole_is 32 s at n id w x h ha p q))
-        (first_below any (prev ++ digits 4 last) (id ++ digits 4 index) t (rw (key_below_lem prev id last index (hp ∙ sym hi) hl hx) e)
-        (omega (arith, length-append id (digits 4 index))))
+module _ {R : Type 0} (prev : Option ℕ) (v : ℕ) (t : Bool) (z X Y : R) (e : t ≡ integer_follows prev v) (h : Small prev) where
+  pub if-integer-follows : t ≡ true → v < 256 ^ 4 → z ≡ X → z ≡ pick (below (integer_before prev) ((integer 4).write v)) X Y
+  if-integer-follows q i j = rw (integer-below prev v h i, found e q) j
 
-    pub if-key-follows : index < 256 ^ 4 → t ≡ true → z ≡ X → z ≡ pick (below (pick any (prev ++ (integer 4).write last) []) (w ++ (integer 4).write index)) X Y
-    if-key-follows hx i j = rw (key-test hx, i) j
+  pub if-integer-not : t ≡ false → v < 256 ^ 4 → z ≡ Y → z ≡ pick (below (integer_before prev) ((integer 4).write v)) X Y
+  if-integer-not q i j = rw (integer-below prev v h i, found e q) j
 
-    pub if-key-not : index < 256 ^ 4 → t ≡ false → z ≡ Y → z ≡ pick (below (pick any (prev ++ (integer 4).write last) []) (w ++ (integer 4).write index)) X Y
-    if-key-not hx i j = rw (key-test hx, i) j
+-- keys, an identifier and an index
+abbrev pub GoodBefore : Option Key → Type 0
+GoodBefore None = Unit {0}
+GoodBefore (Some k) = key.Good (k.id, k.index)
 
-  pub key-again : {A R : Type 0} (E : List ℕ → Format A) (step : List ℕ → A → List ℕ) (u : List ℕ) (m k : ℕ) (stop : Refusal → R) (go : List A → ℕ → R)
-      → (items E step (id ++ u) m).parse s k stop go ≡ (items E step (w ++ u) m).parse s k stop go
-  key-again E step u m k stop go = rw (whole_is 32 s at n id w x h ha p q)
+abbrev pub key_before : Option Key → List ℕ
+key_before None = []
+key_before (Some k) = key.write (k.id, k.index)
+
+key-below : (prev : Option Key) (k : Key) → GoodBefore prev → key.Good (k.id, k.index)
+    → below (key_before prev) (key.write (k.id, k.index)) ≡ key_follows prev k
+unfolding key integer blob
+key-below None k h i = empty-below (k.id ++ digits 4 k.index) (omega (arith, length-append k.id (digits 4 k.index), length_digits 4 k.index))
+key-below (Some p) k h i = key_below_lem p.id k.id p.index k.index (h.0.0 ∙ sym i.0.0) h.1 i.1
+
+module _ {R : Type 0} (prev : Option Key) (k : Key) (t : Bool) (z X Y : R) (e : t ≡ key_follows prev k) (h : GoodBefore prev) where
+  pub if-key-follows : t ≡ true → key.Good (k.id, k.index) → z ≡ X → z ≡ pick (below (key_before prev) (key.write (k.id, k.index))) X Y
+  if-key-follows q i j = rw (key-below prev k h i, found e q) j
+
+  pub if-key-not : t ≡ false → key.Good (k.id, k.index) → z ≡ Y → z ≡ pick (below (key_before prev) (key.write (k.id, k.index))) X Y
+  if-key-not q i j = rw (key-below prev k h i, found e q) j
+
+-- the identifier is read by value
+pub on-id : {R : Type 0} (k : ℕ) (s : List ℕ) (at : ℕ) (z : R) (stop : Refusal → R) (go : List ℕ → ℕ → R) (x : Result ℕ Refusal) (n : ℕ) (id : List ℕ)
+    → x ≡ ended (blob k) s at → x ≡ Ok n → id ≡ whole_at k s at → z ≡ go id n → z ≡ (blob k).parse s at stop go
+on-id k s at z stop go x n id p q h e = W.on-part k s at z stop go x n p q (e ∙ ap (λ b. go b n) (W.whole-next k s at id x n h p q))
+
+same_key : (v : List ℕ × ℕ) (m n : ℕ) (k : Key) → ◌≡◌ {A = Result (Key × ℕ) Refusal} (Ok (record { id = v.0; index = v.1 }, m)) (Ok (k, n))
+    → (v ≡ (k.id, k.index)) × (m ≡ n)
+same_key v m n k e = let (i, j) = same-parts e in (ap (λ (k : Key). (k.id, k.index)) i, j)
+
+module _ (s : List ℕ) (at : ℕ) (x : Result (Key × ℕ) Refusal) (p : x ≡ keyed s at) where
+  key-took : (k : Key) (n : ℕ) → x ≡ Ok (k, n) → read key s at ≡ took (k.id, k.index) n
+  key-took k n q =
+      let (v, m, t, i) = answer-took key s at Err (λ v n. Ok (record { id = v.0; index = v.1 }, n)) x p (Ok (k, n)) q
+      (λ e j. let z : ◌≡◌ {A = ℕ} 0 1 = cc in omega arith) in
+      let (ev, em) = same_key v m n k i in
+      t ∙ rw (ev, em) refl
+
+  pub key_read : (k : Key) (n : ℕ) → x ≡ Ok (k, n) → Slice s → key.Good (k.id, k.index)
+  key_read k n q b = (key.sound s at (k.id, k.index) n (slice-bytes s b) (key-took k n q)).0
+
+  module _ {R : Type 0} (z : R) (stop : Refusal → R) (go : List ℕ × ℕ → ℕ → R) where
+    pub on-key : (k : Key) (n : ℕ) → x ≡ Ok (k, n) → z ≡ go (k.id, k.index) n → z ≡ key.parse s at stop go
+    on-key k n q e = e ∙ sym (W.parse-took key s at stop go (k.id, k.index) n (key-took k n q))
+
+    pub on-key-refused : (e : Refusal) → x ≡ Err e → z ≡ stop e → z ≡ key.parse s at stop go
+    on-key-refused e q r =
+        on-refused key Err (λ v n. Ok (record { id = v.0; index = v.1 }, n)) s at z stop go x p e q (λ v m j. cc) (λ d j. cc) r
 
 -- ---- lists: what is left of one, given what the code keeps of the element before
 
@@ -166,56 +182,79 @@ on-amount = W.ends amount
 pub on-amount-refused : W.Stops amount
 on-amount-refused = W.stops amount
 
+-- the types are compared one by one; the code found the one after this
+pub if-another : {R : Type 0} (a b v : ℕ) (z x y : R) → v ≡ b → eqb b a ≡ false → z ≡ y → z ≡ pick (eqb v a) x y
+if-another a b v z x y h i e = rw (h, i) e
+
 -- the code's answer for an element that must not be below the one before is that of the format of such an element
 ordered-is : {A : Type 0} (F : Format A) (s : List ℕ) (prev at : ℕ) → Slice s → in_order s prev at (ended F s at) ≡ ended (not_below F (between prev at s)) s at
 unfolding guard
 ordered-is {A = A} F s prev at b =
-    ap (in_order s prev at) (F.same s at P.Refused (λ v n. P.At n))
+    ap (in_order s prev at) (F.same s at Err (λ v n. Ok n))
     ∙ cases (read F s at) refl
-    ∙ sym (F.same s at P.Refused (λ v n. pick (not (below (F.write v) (between prev at s))) (P.At n) (P.Refused (by out_of_order at))))
+    ∙ sym (F.same s at Err (λ v n. pick (not (below (F.write v) (between prev at s))) (Ok n) (Err (by out_of_order at))))
   where
-    turned : (t : Bool) (x y : End) → pick t x y ≡ pick (not t) y x
+    turned : (t : Bool) (x y : Result ℕ Refusal) → pick t x y ≡ pick (not t) y x
     turned true x y = refl
     turned false x y = refl
 
-    cases : (o : Result A) → read F s at ≡ o
-        → in_order s prev at (on_result o P.Refused (λ v n. P.At n))
-        ≡ on_result o P.Refused (λ v n. pick (not (below (F.write v) (between prev at s))) (P.At n) (P.Refused (by out_of_order at)))
+    cases : (o : Parsed A) → read F s at ≡ o
+        → in_order s prev at (on_result o Err (λ v n. Ok n))
+        ≡ on_result o Err (λ v n. pick (not (below (F.write v) (between prev at s))) (Ok n) (Err (by out_of_order at)))
     cases (took v n) e =
         rw (stands-part s at (F.write v) n (F.sound s at v n (slice-bytes s b) e).1)
-        (turned (below (between at n s) (between prev at s)) (P.Refused (by out_of_order at)) (P.At n))
+        (turned (below (between at n s) (between prev at s)) (Err (by out_of_order at)) (Ok n))
     cases (refused e) q = refl
 
--- an element that must not be below the one before: x is the answer of reading F, y is that answer after the order was checked
-module _ {A R : Type 0} (F : Format A) (s : List ℕ) (prev at : ℕ) (z : R) (stop : Refusal → R) (go : A → ℕ → R) (x y : End)
-    (p : x ≡ ended F s at) (q : y ≡ in_order s prev at x) (b : Slice s) where
-  ordered-ended : y ≡ ended (not_below F (between prev at s)) s at
-  ordered-ended = q ∙ ap (in_order s prev at) p ∙ ordered-is F s prev at b
+-- a list of such elements: what the code makes of the answers `ended F s`, one after another
+pub ordered-list : {A : Type 0} (F : Format A) (s : List ℕ) → Slice s → (n prev at : ℕ)
+    → ordered (λ k. ended F s k) s prev at n ≡ ended (series_from (not_below F) (between prev at s) n) s at
+unfolding items list_parse
+ordered-list F s b zero prev at = refl
+ordered-list {A = A} F s b (suc n) prev at =
+    ap (λ r. and_next r (λ m. ordered (λ k. ended F s k) s at m n)) (ordered-is F s prev at b)
+    ∙ cases (read G s at) _ _ _ (G.same s at Err (λ v m. Ok m)) (G.same s at Err (λ v m. ordered (λ k. ended F s k) s at m n))
+    ∙ parse-alike-read G s at Err _ _ (λ v m t.
+    ordered-list F s b n at m
+    ∙ ap (λ (w : List ℕ). ended (series_from (not_below F) w n) s m) (sym (stands-part s at (G.write v) m (G.sound s at v m (slice-bytes s b) t).1)))
+  where
+    G : Format A
+    G = not_below F (between prev at s)
 
-  pub on-ordered : (n : ℕ) → y ≡ P.At n → ((v : A) → Stands s at ((not_below F (between prev at s)).write v) n → z ≡ go v n)
-      → z ≡ (not_below F (between prev at s)).parse s at stop go
-  on-ordered n h e =
-      let (v, t) = W.next-took (not_below F (between prev at s)) s at y n ordered-ended h in
-      e v ((not_below F (between prev at s)).sound s at v n (slice-bytes s b) t).1 ∙ sym (W.parse-took (not_below F (between prev at s)) s at stop go v n t)
+    cases : (o : Parsed A) (x y : Result ℕ Refusal) (go : ℕ → Result ℕ Refusal) → x ≡ on_result o Err (λ v m. Ok m)
+        → y ≡ on_result o Err (λ v m. go m) → and_next x go ≡ y
+    cases (took v m) x y go p q = rw p (sym q)
+    cases (refused e) x y go p q = rw p (sym q)
 
-  pub on-disordered : (e : Refusal) → y ≡ P.Refused e → z ≡ stop e → z ≡ (not_below F (between prev at s)).parse s at stop go
-  on-disordered e h r = W.stops (not_below F (between prev at s)) R s at z stop go y e ordered-ended h r
+pub ordered-start : {A : Type 0} (F : Format A) (s : List ℕ) → Slice s → (n at : ℕ) → ordered (λ k. ended F s k) s at at n ≡ ended (nondecreasing F n) s at
+ordered-start F s b n at = ordered-list F s b n at at ∙ W.list-start (not_below F) (left (not_below F)) s n at Err (λ l k. Ok k) at
 
--- r is the answer of reading the element, before the order is checked
-module _ (s : List ℕ) (prev at : ℕ) (r : End) (z : End) where
-  pub not-read : (e : Refusal) → r ≡ P.Refused e → z ≡ P.Refused e → z ≡ in_order s prev at r
-  not-read e h k = k ∙ sym (ap (in_order s prev at) h)
+-- one turn: r is the answer of reading the element at `at`, number i of c
+module _ (f : ℕ → Result ℕ Refusal) (s : List ℕ) (prev at c i : ℕ) (y : Result ℕ Refusal) (o : ordered f s prev at (c - i) ≡ y) where
+  pub ordered-end : c ≤ i → Ok at ≡ y
+  ordered-end h = none (c - i) (omega arith) o
+    where
+      none : (n : ℕ) → n ≤ 0 → ordered f s prev at n ≡ y → Ok at ≡ y
+      none zero h k = k
+      none (suc n) h k = absurd (omega arith)
 
-  module _ (n : ℕ) (h : r ≡ P.At n) (t : Bool) (p : t ≡ below (between at n s) (between prev at s)) where
-    pub read_below : t ≡ true → z ≡ P.Refused (by out_of_order at) → z ≡ in_order s prev at r
-    read_below q k = rw (h, found p q) k
+  module _ (h : i < c) (r : Result ℕ Refusal) (p : r ≡ f at) where
+    ordered-next : and_next (in_order s prev at r) (λ m. ordered f s at m (c - (i + 1))) ≡ y
+    ordered-next = rw p (some (c - i) (c - (i + 1)) (omega arith) o)
+      where
+        some : (n k : ℕ) → n ≡ k + 1 → ordered f s prev at n ≡ y → and_next (in_order s prev at (f at)) (λ m. ordered f s at m k) ≡ y
+        some zero k e j = absurd (omega arith)
+        some (suc n) k e j = let d : n ≡ k = omega arith in rw (← d) j
 
-    pub read-not-below : t ≡ false → z ≡ P.At n → z ≡ in_order s prev at r
-    read-not-below q k = rw (h, found p q) k
+    pub ordered-refused : (e : Refusal) (z : Result ℕ Refusal) → r ≡ Err e → z ≡ Err e → z ≡ y
+    ordered-refused e z q k = k ∙ rw q at ordered-next
 
-pub ruleset comparing = (not-read, read_below, read-not-below)
+    module _ (m : ℕ) (q : r ≡ Ok m) (t : Bool) (d : t ≡ below (between at m s) (between prev at s)) where
+      pub ordered-on : t ≡ false → ordered f s at m (c - (i + 1)) ≡ y
+      ordered-on k = rw (q, found d k) at ordered-next
 
-pub ruleset ordering = (W.list_on, W.list-again, on-ordered, on-disordered)
+      pub ordered-below : t ≡ true → (g : Refusal) → g ≡ by out_of_order at → Err g ≡ y
+      ordered-below k g u = ap Err u ∙ rw (q, found d k) at ordered-next
 
 -- ---- inputs
 
@@ -241,8 +280,10 @@ input-front b i g = take_at (input_key i) (spend.write (i.asset, (tt, (i.amount,
 abbrev pub inputs_after : List ℕ → ℕ → Format (List Input)
 inputs_after before n = items input_after (λ b i. input_key i) before n
 
-pub inputs_are : (s : List ℕ) → Slice s → (n at : ℕ) → ended (inputs_after [] n) s at ≡ ended (series input n) s at
-inputs_are s b n at = items-viewed input_after 36 input_key input-front s (slice-bytes s b) n [] at P.Refused (λ l k. P.At k)
+pub inputs_are : (s : List ℕ) → Slice s → (n at : ℕ) → ended (inputs_after [] (n - 0)) s at ≡ ended (series input n) s at
+inputs_are s b n at =
+    ap (λ (k : ℕ). ended (inputs_after [] k) s at) (omega arith)
+    ∙ items-viewed input_after 36 input_key input-front s (slice-bytes s b) n [] at Err (λ l k. Ok k)
 
 -- ---- operations
 
@@ -253,7 +294,7 @@ pub on-terms-refused : W.Stops terms
 on-terms-refused = W.stops terms
 
 -- after the terms: the owners that the type has
-module _ (type_id : ℕ) (s : List ℕ) (at : ℕ) (z : End) where
+module _ (type_id : ℕ) (s : List ℕ) (at : ℕ) (z : Result ℕ Refusal) where
   pub if-mint : type_id ≡ 12 → z ≡ ended (operation_owners mint_nft) s at → z ≡ ended (operation_owners (operation_type type_id)) s at
   if-mint h e = rw h e
 
@@ -275,24 +316,25 @@ none_of c d v h i = rw (ne_eqb v c h, ne_eqb v d i)
 abbrev operation_tag : Format OperationType
 operation_tag = tag operation_code operation_type operation_type-code (integer 4) (mint_nft ∷ transfer_nft ∷ []) unknown_type
 
-module _ {R : Type 0} (s : List ℕ) (at : ℕ) (z : R) (stop : Refusal → R) (go : OperationType → ℕ → R) (x : Integer) (p : x ≡ valued (integer 4) s at) where
-  pub on-operation-type : (v n : ℕ) → x ≡ N.Value v n → 12 ≤ v → v ≤ 13 → z ≡ go (operation_type v) n → z ≡ operation_tag.parse s at stop go
-  on-operation-type v n q h i =
-      W.on-tag operation_code operation_type operation_type-code 4 (mint_nft ∷ transfer_nft ∷ []) unknown_type s at z stop go x p v n q
-      (one_of 12 13 v refl h i)
+module _ {R : Type 0} (s : List ℕ) (at : ℕ) (z : R) (stop : Refusal → R) (go : OperationType → ℕ → R) (x : Result (ℕ × ℕ) Refusal)
+    (p : x ≡ valued (integer 4) s at) where
+  pub on-operation-type : (v n : ℕ) → x ≡ Ok (v, n) → ((v ≡ 12 → ⊥) × (v ≡ 13)) ⊎ (v ≡ 12) → z ≡ go (operation_type v) n
+      → z ≡ operation_tag.parse s at stop go
+  on-operation-type v n q h =
+      W.on-tag operation_code operation_type operation_type-code 4 (mint_nft ∷ transfer_nft ∷ []) unknown_type s at z stop go x p v n q (listed-type h)
+    where
+      listed-type : ((v ≡ 12 → ⊥) × (v ≡ 13)) ⊎ (v ≡ 12) → pick (eqb v 12) true (pick (eqb v 13) true false) ≡ true
+      listed-type (inr i) = rw (eq-eqb v 12 i)
+      listed-type (inl (i, j)) = rw (ne_eqb v 12 i, eq-eqb v 13 j)
 
-  pub on-operation-type-below : (v n : ℕ) → x ≡ N.Value v n → v < 12 → z ≡ stop (by unknown_type at) → z ≡ operation_tag.parse s at stop go
-  on-operation-type-below v n q h =
+  pub on-operation-type-unknown : (v n : ℕ) → x ≡ Ok (v, n) → (v ≡ 12 → ⊥) → (v ≡ 13 → ⊥) → z ≡ stop (by unknown_type at) → z ≡ operation_tag.parse s at stop go
+  on-operation-type-unknown v n q h i =
       W.on-tag-unknown operation_code operation_type operation_type-code 4 (mint_nft ∷ transfer_nft ∷ []) unknown_type s at z stop go x p v n q
-      (none_of 12 13 v (λ i. omega arith) (λ i. omega arith))
+      (none_of 12 13 v h i)
 
-  pub on-operation-type-above : (v n : ℕ) → x ≡ N.Value v n → 13 < v → z ≡ stop (by unknown_type at) → z ≡ operation_tag.parse s at stop go
-  on-operation-type-above v n q h =
-      W.on-tag-unknown operation_code operation_type operation_type-code 4 (mint_nft ∷ transfer_nft ∷ []) unknown_type s at z stop go x p v n q
-      (none_of 12 13 v (λ i. omega arith) (λ i. omega arith))
-
-  pub on-operation-type-short : (e : Refusal) → x ≡ N.Refused e → (f : Refusal) → f ≡ cut_at 4 s at → z ≡ stop f → z ≡ operation_tag.parse s at stop go
-  on-operation-type-short = W.on-tag-short operation_code operation_type operation_type-code 4 (mint_nft ∷ transfer_nft ∷ []) unknown_type s at z stop go x p
+  pub on-operation-type-refused : (e : Refusal) → x ≡ Err e → z ≡ stop e → z ≡ operation_tag.parse s at stop go
+  unfolding tag
+  on-operation-type-refused e q r = W.on-integer-refused 4 s at z stop _ x e p q r
 
 pub on-operation : W.Ends operation
 on-operation = W.ends operation
@@ -302,46 +344,38 @@ on-operation-refused = W.stops operation
 
 -- ---- initial states
 
--- which outputs an FxID allows; the code compares it with 0
-module _ (fx : ℕ) (s : List ℕ) (at : ℕ) (z : End) where
-  pub under-secp : fx ≡ 0 → z ≡ ended (output (fx_outputs secp_fx)) s at → z ≡ ended (output (fx_outputs (fx_of fx))) s at
-  under-secp h e = rw h e
-
-  pub under-nft : (fx ≡ 0 → ⊥) → z ≡ ended (output (fx_outputs nft_fx)) s at → z ≡ ended (output (fx_outputs (fx_of fx))) s at
-  under-nft h e = rw (ne_eqb fx 0 h) e
-
 pub fx_of-write : (n : ℕ) → n ≤ 1 → fx_id.write (fx_of n) ≡ (integer 4).write n
 unfolding fx_id
 fx_of-write zero h = refl
 fx_of-write (suc zero) h = refl
 fx_of-write (suc (suc n)) h = absurd (omega arith)
 
-module _ {R : Type 0} (s : List ℕ) (at : ℕ) (z : R) (stop : Refusal → R) (go : Fx → ℕ → R) (x : Integer) (p : x ≡ valued (integer 4) s at) where
-  pub on-fx : (v n : ℕ) → x ≡ N.Value v n → v ≤ 1 → z ≡ go (fx_of v) n → z ≡ fx_id.parse s at stop go
+module _ {R : Type 0} (s : List ℕ) (at : ℕ) (z : R) (stop : Refusal → R) (go : Fx → ℕ → R) (x : Result (ℕ × ℕ) Refusal) (p : x ≡ valued (integer 4) s at) where
+  pub on-fx : (v n : ℕ) → x ≡ Ok (v, n) → v ≤ 1 → z ≡ go (fx_of v) n → z ≡ fx_id.parse s at stop go
   unfolding fx_id
   on-fx v n q h = W.on-tag fx_code fx_of fx_of-code 4 (secp_fx ∷ nft_fx ∷ []) unknown_type s at z stop go x p v n q (one_of 0 1 v refl (omega arith) h)
 
-  pub on-fx-unknown : (v n : ℕ) → x ≡ N.Value v n → 1 < v → z ≡ stop (by unknown_type at) → z ≡ fx_id.parse s at stop go
+  pub on-fx-unknown : (v n : ℕ) → x ≡ Ok (v, n) → 1 < v → z ≡ stop (by unknown_type at) → z ≡ fx_id.parse s at stop go
   unfolding fx_id
   on-fx-unknown v n q h =
       W.on-tag-unknown fx_code fx_of fx_of-code 4 (secp_fx ∷ nft_fx ∷ []) unknown_type s at z stop go x p v n q
       (none_of 0 1 v (λ i. omega arith) (λ i. omega arith))
 
-  pub on-fx-short : (e : Refusal) → x ≡ N.Refused e → (f : Refusal) → f ≡ cut_at 4 s at → z ≡ stop f → z ≡ fx_id.parse s at stop go
+  pub on-fx-refused : (e : Refusal) → x ≡ Err e → z ≡ stop e → z ≡ fx_id.parse s at stop go
+  unfolding fx_id tag
+  on-fx-refused e q r = W.on-integer-refused 4 s at z stop _ x e p q r
+
+  pub on-fx-short : (e : Refusal) → x ≡ Err e → (f : Refusal) → f ≡ cut_at 4 s at → z ≡ stop f → z ≡ fx_id.parse s at stop go
   unfolding fx_id
   on-fx-short = W.on-tag-short fx_code fx_of fx_of-code 4 (secp_fx ∷ nft_fx ∷ []) unknown_type s at z stop go x p
 
 module _ (fx : ℕ) (small : fx ≤ 1) where
-  module _ {R : Type 0} (any : Bool) (last : ℕ) (t : Bool) (z X Y : R) (e : t ≡ pick any (ltb last fx) true) (hl : last ≤ 1) where
-    fx-test : below (pick any ((integer 4).write last) []) (fx_id.write (fx_of fx)) ≡ t
-    unfolding integer
-    fx-test = rw (fx_of-write fx small) (integer-test any last fx t t t t e (omega arith) (omega arith))
+  module _ {R : Type 0} (prev : Option ℕ) (t : Bool) (z X Y : R) (e : t ≡ integer_follows prev fx) (h : Small prev) where
+    pub if-fx-follows : t ≡ true → z ≡ X → z ≡ pick (below (integer_before prev) (fx_id.write (fx_of fx))) X Y
+    if-fx-follows q i = rw (fx_of-write fx small) (if-integer-follows prev fx t z X Y e h q (omega arith) i)
 
-    pub if-fx-follows : t ≡ true → z ≡ X → z ≡ pick (below (pick any ((integer 4).write last) []) (fx_id.write (fx_of fx))) X Y
-    if-fx-follows i j = rw (fx-test, i) j
-
-    pub if-fx-not : t ≡ false → z ≡ Y → z ≡ pick (below (pick any ((integer 4).write last) []) (fx_id.write (fx_of fx))) X Y
-    if-fx-not i j = rw (fx-test, i) j
+    pub if-fx-not : t ≡ false → z ≡ Y → z ≡ pick (below (integer_before prev) (fx_id.write (fx_of fx))) X Y
+    if-fx-not q i = rw (fx_of-write fx small) (if-integer-not prev fx t z X Y e h q (omega arith) i)
 
   pub fx-again : {A R : Type 0} (E : List ℕ → Format A) (step : List ℕ → A → List ℕ) (s : List ℕ) (m k : ℕ) (stop : Refusal → R) (go : List A → ℕ → R)
       → (items E step ((integer 4).write fx) m).parse s k stop go ≡ (items E step (fx_id.write (fx_of fx)) m).parse s k stop go
@@ -358,8 +392,10 @@ state-front b v g = take_at (state_key v) ((state_outputs v.fx).write v.outputs)
 abbrev pub states_after : List ℕ → ℕ → Format (List InitialState)
 states_after before n = items initial_state_after (λ b v. state_key v) before n
 
-pub states-are : (s : List ℕ) → Slice s → (n at : ℕ) → ended (states_after [] n) s at ≡ ended (series initial_state n) s at
-states-are s b n at = items-viewed initial_state_after 4 state_key state-front s (slice-bytes s b) n [] at P.Refused (λ l k. P.At k)
+pub states-are : (s : List ℕ) → Slice s → (n at : ℕ) → ended (states_after [] (n - 0)) s at ≡ ended (series initial_state n) s at
+states-are s b n at =
+    ap (λ (k : ℕ). ended (states_after [] k) s at) (omega arith)
+    ∙ items-viewed initial_state_after 4 state_key state-front s (slice-bytes s b) n [] at Err (λ l k. Ok k)
 
 pub on-state-outputs : (k : Fx) → W.Ends (state_outputs k)
 on-state-outputs k = W.ends (state_outputs k)
@@ -369,15 +405,11 @@ on-state-outputs-refused k = W.stops (state_outputs k)
 
 -- ---- rulesets: a chain that ends in a refusal or in an answer that is returned
 
-pub ruleset reading = (W.reading, S.on-string, S.on-string-refused, on-owners, on-owners-refused, on-amount, on-amount-refused)
+pub ruleset reading = (W.reading, passed-on, S.on-string, S.on-string-refused, on-owners, on-owners-refused, on-amount, on-amount-refused)
 
 -- an operation after its pairs
 pub ruleset acting =
-    (on-operation-type, on-operation-type-below, on-operation-type-above, on-operation-type-short, on-terms, on-terms-refused, W.part-made)
+    (on-operation-type, on-operation-type-unknown, on-operation-type-refused, on-terms, on-terms-refused, passed-on, W.part-made)
 
--- an element that starts with a key: the key is cut short, is above that of the one before, or is not above it
-pub ruleset key-cut = (W.list_on, W.on-part-there, W.on-cut, W.on_value, W.on-short)
-
-pub ruleset key_above = (W.list_on, W.on-part-there, W.on_value, W.value-small, if-key-follows)
-
-pub ruleset key-not-above = (W.list_on, W.on-part-there, W.on_value, W.value-small, if-key-not, W.part-made)
+-- an element that starts with a key
+pub ruleset keys = (W.for_on, on-key, on-key-refused, key_read, if-key-follows, if-key-not, passed-on, W.part-made)

@@ -8,7 +8,7 @@ pub mod outputs;
 
 use owners::OwnersFields;
 
-// The types of outputs.
+// The types of outputs. They are the format's numbers, matched where they are read; an enum would be matched a second time.
 pub const SECP_MINT: u64 = 6;
 
 pub const SECP_TRANSFER: u64 = 7;

@@ -1,7 +1,8 @@
 -- Laws for functions that skip an element: its bytes, as the fields that the code steps over. A contract is entered by a law `..-passed` or
 -- `..-answered`; the laws `..-next`, `..-refused` and `..-whole` continue after a call, as those of wire's proofs/Passing do.
 -- Assumes nothing.
-use Prim.Native.Nat.{ℕ, ◌+◌, ◌-◌, ◌*◌, ◌^◌, ◌≤◌, ◌<◌}
+use Rattle.std.specs.Prelude.{Ok, Err, Result}
+use Prim.Native.Nat.{ℕ, ◌+◌, ◌*◌, ◌^◌, ◌<◌}
 use mathlib.Core.Path.{◌≡◌, refl, sym, ap, subst}
 use mathlib.Core.Bool.{Bool, true, false}
 use mathlib.Core.List.{List, [], ◌∷◌, ◌++◌, append_assoc}
@@ -10,13 +11,9 @@ use lib.ListN.{length, length-append}
 use lib.Dec.{eqb}
 use borrow.Author.Tests.{ne_eqb}
 use Rattle.wire.specs.declared.Refusal.{Refusal}
-use Rattle.wire.specs.declared.End.{End}
-use Rattle.wire.specs.declared.End.TheVariants as P
-use Rattle.wire.specs.declared.Integer.{Integer}
-use Rattle.wire.specs.declared.Integer.TheVariants as N
 use Rattle.wire.specs.Bytes.{pick}
 use Rattle.wire.specs.Numbers.{unknown_type}
-use Rattle.wire.specs.Format.{Format, Result, took, refused}
+use Rattle.wire.specs.Format.{Format, Parsed, took, refused}
 use Rattle.wire.specs.Fields.{blob, integer, constant}
 use Rattle.wire.specs.laws.Sizes.{length-integer}
 use Rattle.wire.specs.Sequence.{and_then, guard, tag, items}
@@ -29,7 +26,7 @@ use Rattle.wire.proofs.Reading.{wide-chain, blob-wide, blob-ends, part-ends, val
 use Rattle.wire.proofs.Passing as W
 use Rattle.wire.proofs.Passing.{Yields, Leads, next, answered, passes, leads, tells, Covers, reread, leads-covered, Wide, wide-covers, passes-wide}
 use Rattle.wire.proofs.Passing.{yields-parse, yields-end, parse-whole, parse-next, parse-refused, answered-whole, answered-next, answered-refused}
-use Rattle.wire.proofs.Passing.{value-next, value-short, tag-next, tag-short, Each, Onward}
+use Rattle.wire.proofs.Passing.{value-next, value-short, tag-next, tag-short, Each}
 use Rattle.string.specs.Strings.{payload}
 use Rattle.string.proofs.Passing as S
 use Rattle.owners.specs.Owners.{Owners, owners}
@@ -40,7 +37,8 @@ use Rattle.element.specs.Operations.{OperationType, mint_nft, transfer_nft, oper
 use Rattle.element.specs.Operations.{OperationOwners, operation_owners, terms, action, operation}
 use Rattle.element.specs.Operations.{Fx, secp_fx, fx_code, fx_outputs, fx_id, state_outputs, initial_state_after, initial_state}
 use Rattle.element.specs.code.Answer.{Terms, Action}
-use Rattle.element_lengths.specs.code.Lengths.{by_count}
+use Rattle.element_lengths.specs.code.Lengths.{by_count, Repeated}
+use Rattle.element_lengths.proofs.Repeating.{repeats}
 use Rattle.element.proofs.Reading.{key-wide}
 
 -- ---- widths
@@ -63,7 +61,7 @@ then-wide F G j k f h v g = omega (arith, length-append (F.write v.0) (G.write v
 
 -- ---- the same bytes as other fields
 
-covered : {A B : Type 0} (F : Format A) (G : Format B) (f : A → B) → Covers F G f → (s : List ℕ) (at : ℕ) → Slice s → (z : End)
+covered : {A B : Type 0} (F : Format A) (G : Format B) (f : A → B) → Covers F G f → (s : List ℕ) (at : ℕ) → Slice s → (z : Result ℕ Refusal)
     → Passes G s at z → Passes F s at z
 covered F G f c s at b z p v n e = p (f v) n (reread F G f c s at b v n e)
 
@@ -87,16 +85,16 @@ module _ {A : Type 0} (F : Format A) (k : ℕ) (wide : Wide F k) where
   list-covers l g = ((g.0, (wide-chain F k wide [] l g.1.1, list-bytes (above F) (left (above F)) [] l g.1.1)), refl)
 
 module _ (w : ℕ) (s : List ℕ) (at : ℕ) where
-  pub list-answered : (z : Integer) → Leads (by_count w) s at (answered (λ v. v.0)) z → Tells (by_count w) (λ v. v.0) s at z
+  pub list-answered : (z : Result (ℕ × ℕ) Refusal) → Leads (by_count w) s at (answered (λ v. v.0)) z → Tells (by_count w) (λ v. v.0) s at z
   list-answered = tells (by_count w) s at (λ v. v.0)
 
   -- after a call of `list_past`, whose answer is x
-  module _ {B R : Type 0} (k : ℕ × List ℕ → ℕ → Result B) (go : B → ℕ → R) (z : R) (x : Integer) where
-    pub list-next : (c m : ℕ) → x ≡ N.Value c m → Tells (by_count w) (λ v. v.0) s at x → ((v : ℕ × List ℕ) → c ≡ v.0 → Yields (k v m) go z)
+  module _ {B R : Type 0} (k : ℕ × List ℕ → ℕ → Parsed B) (go : B → ℕ → R) (z : R) (x : Result (ℕ × ℕ) Refusal) where
+    pub list-next : (c m : ℕ) → x ≡ Ok (c, m) → Tells (by_count w) (λ v. v.0) s at x → ((v : ℕ × List ℕ) → c ≡ v.0 → Yields (k v m) go z)
         → Yields ((by_count w).parse s at refused k) go z
     list-next c m q p = answered-next (by_count w) s at k go z (λ v. v.0) x p c m q
 
-    pub list-refused : (e : Refusal) → x ≡ N.Refused e → Tells (by_count w) (λ v. v.0) s at x → Yields ((by_count w).parse s at refused k) go z
+    pub list-refused : (e : Refusal) → x ≡ Err e → Tells (by_count w) (λ v. v.0) s at x → Yields ((by_count w).parse s at refused k) go z
     list-refused e q p = answered-refused (by_count w) s at k go z (λ v. v.0) x p e q
 
 -- ---- owners
@@ -118,19 +116,19 @@ owners-covers o g = (
   simp append_assoc,
 )
 
-pub owners-passed : (s : List ℕ) (at : ℕ) → Slice s → (z : End) → Leads owners_passed s at next z → Passes owners s at z
+pub owners-passed : (s : List ℕ) (at : ℕ) → Slice s → (z : Result ℕ Refusal) → Leads owners_passed s at next z → Passes owners s at z
 owners-passed s at b z h = covered owners owners_passed _ owners-covers s at b z (passes owners_passed s at z h)
 
 -- after a call of `owners_past`, whose answer is z
-pub owners-whole : {B : Type 0} (s : List ℕ) (at : ℕ) (k : Owners → ℕ → Result B) (go : B → ℕ → End) (z : End) → Passes owners s at z
-    → ((v : Owners) (n : ℕ) → z ≡ P.At n → Yields (k v n) go z) → Yields (owners.parse s at refused k) go z
+pub owners-whole : {B : Type 0} (s : List ℕ) (at : ℕ) (k : Owners → ℕ → Parsed B) (go : B → ℕ → Result ℕ Refusal) (z : Result ℕ Refusal) → Passes owners s at z
+    → ((v : Owners) (n : ℕ) → z ≡ Ok n → Yields (k v n) go z) → Yields (owners.parse s at refused k) go z
 owners-whole s at k go z p = parse-whole owners s at k go z z p
 
 -- owners after a field of w bytes
 abbrev after_passed : ℕ → Format (List ℕ × Owners)
 after_passed w = and_then (blob w) (λ field. owners)
 
-pub after-passed : (w : ℕ) (s : List ℕ) (at : ℕ) (z : End) → Leads (after_passed w) s at next z → Passes (after_passed w) s at z
+pub after-passed : (w : ℕ) (s : List ℕ) (at : ℕ) (z : Result ℕ Refusal) → Leads (after_passed w) s at next z → Passes (after_passed w) s at z
 after-passed w s at z = passes (after_passed w) s at z
 
 -- ---- outputs
@@ -142,11 +140,11 @@ transfer-covers = front-covers amount 8 owners amount-wide
 abbrev payload_passed : Format (List ℕ × (List ℕ × Owners))
 payload_passed = and_then (blob 4) (λ group. and_then payload (λ p. owners))
 
-pub payload-passed : (s : List ℕ) (at : ℕ) (z : End) → Leads payload_passed s at next z → Passes payload_passed s at z
+pub payload-passed : (s : List ℕ) (at : ℕ) (z : Result ℕ Refusal) → Leads payload_passed s at next z → Passes payload_passed s at z
 payload-passed s at z = passes payload_passed s at z
 
 -- the body, after the code has compared the type
-module _ (s : List ℕ) (at : ℕ) (b : Slice s) (z : End) (type_id : ℕ) where
+module _ (s : List ℕ) (at : ℕ) (b : Slice s) (z : Result ℕ Refusal) (type_id : ℕ) where
   body-transfer : type_id ≡ 7 → Passes (after_passed 8) s at z → Passes (output_body (output_type type_id)) s at z
   body-transfer h p = rw h (covered transfer_body (after_passed 8) _ transfer-covers s at b z p)
 
@@ -161,11 +159,11 @@ module _ (s : List ℕ) (at : ℕ) (b : Slice s) (z : End) (type_id : ℕ) where
       (front-covers (integer 4) 4 (and_then payload (λ p. owners)) (integer-wide 4)) s at b z p)
 
 -- an output after its type
-abbrev type_then : List ℕ → OutputType → ℕ → Result Output
+abbrev type_then : List ℕ → OutputType → ℕ → Parsed Output
 type_then s k m = (output_body k).parse s m refused (λ o n. took (k, o) n)
 
-module _ (s : List ℕ) (at : ℕ) (b : Slice s) (z : End) (x : Integer) (p : x ≡ valued (integer 4) s at) where
-  module _ (type_id m : ℕ) (q : x ≡ N.Value type_id m) where
+module _ (s : List ℕ) (at : ℕ) (b : Slice s) (z : Result ℕ Refusal) (x : Result (ℕ × ℕ) Refusal) (p : x ≡ valued (integer 4) s at) where
+  module _ (type_id m : ℕ) (q : x ≡ Ok (type_id, m)) where
     output-typed : Passes (output_body (output_type type_id)) s m z → (fx : Fx) → Passes (output (fx_outputs fx)) s at z
     unfolding output
     output-typed h fx =
@@ -186,15 +184,15 @@ module _ (s : List ℕ) (at : ℕ) (b : Slice s) (z : End) (x : Integer) (p : x 
         → Passes (output (fx_outputs fx)) s at z
     output-nft-transfer h i j r = output-typed (body-nft-transfer s m b z type_id h i j r)
 
-  pub output-short : (e : Refusal) → x ≡ N.Refused e → (fx : Fx) → Passes (output (fx_outputs fx)) s at z
+  pub output-short : (e : Refusal) → x ≡ Err e → (fx : Fx) → Passes (output (fx_outputs fx)) s at z
   unfolding output
   output-short e q fx =
       passes (output (fx_outputs fx)) s at z
       (tag-short output_code output_type output_type-code 4 (fx_outputs fx) unknown_type s at (type_then s) next z x p e q)
 
 -- after a call of `output_past`, for the output types of FxID 0
-pub output-whole : {B : Type 0} (s : List ℕ) (at : ℕ) (k : Output → ℕ → Result B) (go : B → ℕ → End) (z : End)
-    → ((fx : Fx) → Passes (output (fx_outputs fx)) s at z) → ((v : Output) (n : ℕ) → z ≡ P.At n → Yields (k v n) go z)
+pub output-whole : {B : Type 0} (s : List ℕ) (at : ℕ) (k : Output → ℕ → Parsed B) (go : B → ℕ → Result ℕ Refusal) (z : Result ℕ Refusal)
+    → ((fx : Fx) → Passes (output (fx_outputs fx)) s at z) → ((v : Output) (n : ℕ) → z ≡ Ok n → Yields (k v n) go z)
     → Yields ((output (fx_outputs secp_fx)).parse s at refused k) go z
 output-whole s at k go z p = parse-whole (output (fx_outputs secp_fx)) s at k go z z (p secp_fx)
 
@@ -210,7 +208,7 @@ transferable-covers prev o g = ((g.0.0, ((g.0.1.0.0, more (eqb (output_code o.ou
     more true h = refl
     more false h = h
 
-pub transferable-passed : (s : List ℕ) (at : ℕ) → Slice s → (z : End) → Leads transferable_passed s at next z
+pub transferable-passed : (s : List ℕ) (at : ℕ) → Slice s → (z : Result ℕ Refusal) → Leads transferable_passed s at next z
     → (prev : List ℕ) → Passes (not_below transferable_output prev) s at z
 transferable-passed s at b z h prev =
     covered (not_below transferable_output prev) transferable_passed _ (transferable-covers prev) s at b z (passes transferable_passed s at z h)
@@ -259,7 +257,7 @@ input-covers prev v g =
     regrouped : (a b c d e f h : List ℕ) → (a ++ b) ++ (c ++ (d ++ (e ++ (f ++ h)))) ≡ (((a ++ b) ++ (c ++ (d ++ e))) ++ f) ++ h
     regrouped a b c d e f h = simp append_assoc
 
-pub input-answered : (s : List ℕ) (at : ℕ) → Slice s → (z : Integer) → Leads input_passed s at (answered (λ v. v.0.1)) z
+pub input-answered : (s : List ℕ) (at : ℕ) → Slice s → (z : Result (ℕ × ℕ) Refusal) → Leads input_passed s at (answered (λ v. v.0.1)) z
     → (prev : List ℕ) → Tells (input prev) (λ v. length v.indices) s at z
 input-answered s at b z h prev =
     tells (input prev) s at (λ v. length v.indices) z (leads-covered (input prev) input_passed _ (input-covers prev) s at b (answered (λ v. v.0.1)) z h)
@@ -268,27 +266,27 @@ pub indices-fit : (c : ℕ) → c < 256 ^ 4 → 4 * c < 2 ^ 64
 indices-fit c = product-fits 4 c (omega arith)
 
 -- x is the answer of the one test for the whole front; y is that of reading the count
-pub front_fits : (s : List ℕ) (at : ℕ) (x : End) (m : ℕ) → x ≡ ended (blob 84) s at → x ≡ P.At m → m < 2 ^ 64 → at + 80 < 2 ^ 64
+pub front_fits : (s : List ℕ) (at : ℕ) (x : Result ℕ Refusal) (m : ℕ) → x ≡ ended (blob 84) s at → x ≡ Ok m → m < 2 ^ 64 → at + 80 < 2 ^ 64
 front_fits s at x m p q h = omega (arith, part-ends 84 s at x m p q)
 
-module _ {B R : Type 0} (s : List ℕ) (at : ℕ) (k : List ℕ × ℕ → ℕ → Result B) (go : B → ℕ → R) (z : R) where
+module _ {B R : Type 0} (s : List ℕ) (at : ℕ) (k : List ℕ × ℕ → ℕ → Parsed B) (go : B → ℕ → R) (z : R) where
   front-count : ((f : List ℕ) → Yields ((integer 4).parse s (at + 80) refused (λ c n. k (f, c) n)) go z) → Yields (input_front.parse s at refused k) go z
   unfolding input_front
   front-count h =
       yields-parse (blob 80) s at _ go z (λ f j e.
       subst (λ (i : ℕ). Yields ((integer 4).parse s i refused (λ c n. k (f, c) n)) go z) (sym (blob-ends 80 s at f j e)) (h f))
 
-  module _ (b : Slice s) (x : End) (p : x ≡ ended (blob 84) s at) where
-    pub front-refused : (e : Refusal) → x ≡ P.Refused e → Yields (input_front.parse s at refused k) go z
+  module _ (b : Slice s) (x : Result ℕ Refusal) (p : x ≡ ended (blob 84) s at) where
+    pub front-refused : (e : Refusal) → x ≡ Err e → Yields (input_front.parse s at refused k) go z
     front-refused = parse-refused input_front s at k go z x (passes-wide input_front 84 input-front-wide s at b x p)
 
-    pub front-next : (m : ℕ) → x ≡ P.At m → (y : Integer) (c n : ℕ) → y ≡ valued (integer 4) s (at + 80) → y ≡ N.Value c n
+    pub front-next : (m : ℕ) → x ≡ Ok m → (y : Result (ℕ × ℕ) Refusal) (c n : ℕ) → y ≡ valued (integer 4) s (at + 80) → y ≡ Ok (c, n)
         → ((f : List ℕ) → Yields (k (f, c) m) go z) → Yields (input_front.parse s at refused k) go z
     front-next m q y c n r i h =
         let e : m ≡ n = omega (arith, part-ends 84 s at x m p q, value-ends 4 s (at + 80) y c n r i b) in
         front-count (λ f. value-next s (at + 80) go z 4 (λ c n. k (f, c) n) y r c n i (subst (λ (j : ℕ). Yields (k (f, c) j) go z) e (h f)))
 
-  pub front-short : (y : Integer) (e : Refusal) → y ≡ valued (integer 4) s (at + 80) → y ≡ N.Refused e → Yields (input_front.parse s at refused k) go z
+  pub front-short : (y : Result (ℕ × ℕ) Refusal) (e : Refusal) → y ≡ valued (integer 4) s (at + 80) → y ≡ Err e → Yields (input_front.parse s at refused k) go z
   front-short y e r i = front-count (λ f. value-short s (at + 80) go z 4 (λ c n. k (f, c) n) y r e i)
 
 -- ---- operations
@@ -314,7 +312,7 @@ operation-covers : Covers operation operation_passed (λ v. (v.asset, (passed ke
 unfolding operation blob items by_count
 operation-covers v g = ((g.0, ((list-covers key 36 key-wide v.outputs g.1.0).0, g.1.1)), refl)
 
-module _ (s : List ℕ) (at : ℕ) (b : Slice s) (z : Integer) where
+module _ (s : List ℕ) (at : ℕ) (b : Slice s) (z : Result (ℕ × ℕ) Refusal) where
   pub terms-answered : Leads terms_passed s at (answered (λ v. v.0.0)) z → Tells terms (λ v. length v.0) s at z
   terms-answered h = tells terms s at (λ v. length v.0) z (leads-covered terms terms_passed _ terms-covers s at b (answered (λ v. v.0.0)) z h)
 
@@ -328,46 +326,47 @@ module _ (s : List ℕ) (at : ℕ) (b : Slice s) (z : Integer) where
       (leads-covered operation operation_passed _ operation-covers s at b (answered (λ v. length v.1.1.1.0.0)) z h)
 
 -- the type of an operation
-module _ {B : Type 0} (s : List ℕ) (at : ℕ) (k : OperationType → ℕ → Result B) (go : B → ℕ → Integer) (z : Integer) (x : Integer)
+module _ {B : Type 0} (s : List ℕ) (at : ℕ) (k : OperationType → ℕ → Parsed B) (go : B → ℕ → Result (ℕ × ℕ) Refusal) (z : Result (ℕ × ℕ) Refusal)
+    (x : Result (ℕ × ℕ) Refusal)
     (p : x ≡ valued (integer 4) s at) where
-  pub type-next : (c m : ℕ) → x ≡ N.Value c m → Yields (k (operation_type c) m) go z
+  pub type-next : (c m : ℕ) → x ≡ Ok (c, m) → Yields (k (operation_type c) m) go z
       → Yields ((tag operation_code operation_type operation_type-code (integer 4) (mint_nft ∷ transfer_nft ∷ []) unknown_type).parse s at refused k) go z
   type-next = tag-next operation_code operation_type operation_type-code 4 (mint_nft ∷ transfer_nft ∷ []) unknown_type s at k go z x p
 
-  pub type-short : (e : Refusal) → x ≡ N.Refused e
+  pub type-short : (e : Refusal) → x ≡ Err e
       → Yields ((tag operation_code operation_type operation_type-code (integer 4) (mint_nft ∷ transfer_nft ∷ []) unknown_type).parse s at refused k) go z
   type-short = tag-short operation_code operation_type operation_type-code 4 (mint_nft ∷ transfer_nft ∷ []) unknown_type s at k go z x p
 
 -- after calls of `terms_past`, `recipients_past` and `action_past`
 module _ {B R : Type 0} (s : List ℕ) (at : ℕ) (go : B → ℕ → R) (z : R) where
-  module _ (k : Terms → ℕ → Result B) (x : Integer) where
-    pub terms-next : (c m : ℕ) → x ≡ N.Value c m → Tells terms (λ v. length v.0) s at x → ((v : Terms) → c ≡ length v.0 → Yields (k v m) go z)
+  module _ (k : Terms → ℕ → Parsed B) (x : Result (ℕ × ℕ) Refusal) where
+    pub terms-next : (c m : ℕ) → x ≡ Ok (c, m) → Tells terms (λ v. length v.0) s at x → ((v : Terms) → c ≡ length v.0 → Yields (k v m) go z)
         → Yields (terms.parse s at refused k) go z
     terms-next c m q p = answered-next terms s at k go z (λ v. length v.0) x p c m q
 
-    pub terms-refused : (e : Refusal) → x ≡ N.Refused e → Tells terms (λ v. length v.0) s at x → Yields (terms.parse s at refused k) go z
+    pub terms-refused : (e : Refusal) → x ≡ Err e → Tells terms (λ v. length v.0) s at x → Yields (terms.parse s at refused k) go z
     terms-refused e q p = answered-refused terms s at k go z (λ v. length v.0) x p e q
 
-  module _ (type : OperationType) (k : OperationOwners type → ℕ → Result B) (x : End) where
-    pub recipients-next : (m : ℕ) → x ≡ P.At m → Passes (operation_owners type) s at x → ((v : OperationOwners type) → Yields (k v m) go z)
+  module _ (type : OperationType) (k : OperationOwners type → ℕ → Parsed B) (x : Result ℕ Refusal) where
+    pub recipients-next : (m : ℕ) → x ≡ Ok m → Passes (operation_owners type) s at x → ((v : OperationOwners type) → Yields (k v m) go z)
         → Yields ((operation_owners type).parse s at refused k) go z
     recipients-next m q p = parse-next (operation_owners type) s at k go z x p m q
 
-    pub recipients-refused : (e : Refusal) → x ≡ P.Refused e → Passes (operation_owners type) s at x
+    pub recipients-refused : (e : Refusal) → x ≡ Err e → Passes (operation_owners type) s at x
         → Yields ((operation_owners type).parse s at refused k) go z
     recipients-refused e q p = parse-refused (operation_owners type) s at k go z x p e q
 
-pub action-whole : {B : Type 0} (s : List ℕ) (at : ℕ) (k : Action → ℕ → Result B) (go : B → ℕ → Integer) (z : Integer)
-    → Tells action (λ v. length v.1.0.0) s at z → ((v : Action) (n : ℕ) → z ≡ N.Value (length v.1.0.0) n → Yields (k v n) go z)
+pub action-whole : {B : Type 0} (s : List ℕ) (at : ℕ) (k : Action → ℕ → Parsed B) (go : B → ℕ → Result (ℕ × ℕ) Refusal) (z : Result (ℕ × ℕ) Refusal)
+    → Tells action (λ v. length v.1.0.0) s at z → ((v : Action) (n : ℕ) → z ≡ Ok (length v.1.0.0, n) → Yields (k v n) go z)
     → Yields (action.parse s at refused k) go z
 action-whole s at k go z p = answered-whole action s at k go z (λ v. length v.1.0.0) z p
 
 -- after the terms: the owners that the type has
-module _ (s : List ℕ) (at : ℕ) (b : Slice s) (z : End) (type_id : ℕ) where
+module _ (s : List ℕ) (at : ℕ) (b : Slice s) (z : Result ℕ Refusal) (type_id : ℕ) where
   pub transfer-passed : (type_id ≡ 12 → ⊥) → Passes owners s at z → Passes (operation_owners (operation_type type_id)) s at z
   transfer-passed h p = rw (ne_eqb type_id 12 h) p
 
-  module _ (h : type_id ≡ 12) (x : Integer) (p : x ≡ valued (integer 4) s at) where
+  module _ (h : type_id ≡ 12) (x : Result (ℕ × ℕ) Refusal) (p : x ≡ valued (integer 4) s at) where
     mint-passed : Leads (and_then (integer 4) (unordered owners)) s at next z → Passes (operation_owners (operation_type type_id)) s at z
     unfolding count_prefixed
     mint-passed q =
@@ -375,14 +374,14 @@ module _ (s : List ℕ) (at : ℕ) (b : Slice s) (z : End) (type_id : ℕ) where
         (covered (operation_owners mint_nft) (and_then (integer 4) (unordered owners)) (λ l. (length l, l)) (λ l g. (g, refl)) s at b z
         (passes (and_then (integer 4) (unordered owners)) s at z q))
 
-    pub mint-list : (c m : ℕ) → x ≡ N.Value c m → Passes (unordered owners c) s m z → Passes (operation_owners (operation_type type_id)) s at z
+    pub mint-list : (c m : ℕ) → x ≡ Ok (c, m) → Passes (unordered owners c) s m z → Passes (operation_owners (operation_type type_id)) s at z
     unfolding and_then
     mint-list c m q r =
         mint-passed
         (value-next s at next z 4 _ x p c m q
         (parse-whole (unordered owners c) s m (λ l n. took (c, l) n) next z z r (λ v n e. yields-end _ n next z e)))
 
-    pub mint-short : (e : Refusal) → x ≡ N.Refused e → Passes (operation_owners (operation_type type_id)) s at z
+    pub mint-short : (e : Refusal) → x ≡ Err e → Passes (operation_owners (operation_type type_id)) s at z
     unfolding and_then
     mint-short e q = mint-passed (value-short s at next z 4 _ x p e q)
 
@@ -395,72 +394,56 @@ state-covers : (prev : List ℕ) → Covers (initial_state prev) state_passed (�
 unfolding initial_state_after guard state_outputs
 state-covers prev v g = ((g.0.0, g.1), refl)
 
-pub state-passed : (s : List ℕ) (at : ℕ) → Slice s → (z : End) → Leads state_passed s at next z → (prev : List ℕ) → Passes (initial_state prev) s at z
+pub state-passed : (s : List ℕ) (at : ℕ) → Slice s → (z : Result ℕ Refusal) → Leads state_passed s at next z → (prev : List ℕ)
+    → Passes (initial_state prev) s at z
 state-passed s at b z h prev = covered (initial_state prev) state_passed _ (state-covers prev) s at b z (passes state_passed s at z h)
 
 -- the FxID, skipped as 4 bytes
-module _ {B R : Type 0} (s : List ℕ) (at : ℕ) (k : Fx → ℕ → Result B) (go : B → ℕ → R) (z : R) (b : Slice s) (x : End) (p : x ≡ ended (blob 4) s at) where
-  pub fx-next : (m : ℕ) → x ≡ P.At m → ((v : Fx) → Yields (k v m) go z) → Yields (fx_id.parse s at refused k) go z
+module _ {B R : Type 0} (s : List ℕ) (at : ℕ) (k : Fx → ℕ → Parsed B) (go : B → ℕ → R) (z : R) (b : Slice s) (x : Result ℕ Refusal)
+    (p : x ≡ ended (blob 4) s at) where
+  pub fx-next : (m : ℕ) → x ≡ Ok m → ((v : Fx) → Yields (k v m) go z) → Yields (fx_id.parse s at refused k) go z
   fx-next = parse-next fx_id s at k go z x (passes-wide fx_id 4 fx-wide s at b x p)
 
-  pub fx-refused : (e : Refusal) → x ≡ P.Refused e → Yields (fx_id.parse s at refused k) go z
+  pub fx-refused : (e : Refusal) → x ≡ Err e → Yields (fx_id.parse s at refused k) go z
   fx-refused = parse-refused fx_id s at k go z x (passes-wide fx_id 4 fx-wide s at b x p)
 
 -- after a call of `outputs_past`, whose answer is z
-pub outputs-whole : {B : Type 0} (fx : Fx) (c : ℕ) (s : List ℕ) (at : ℕ) (k : List Output → ℕ → Result B) (go : B → ℕ → End) (z : End)
-    → ((fx : Fx) → Passes (nondecreasing (output (fx_outputs fx)) c) s at z) → ((v : List Output) (n : ℕ) → z ≡ P.At n → Yields (k v n) go z)
+pub outputs-whole : {B : Type 0} (fx : Fx) (c : ℕ) (s : List ℕ) (at : ℕ) (k : List Output → ℕ → Parsed B) (go : B → ℕ → Result ℕ Refusal) (z : Result ℕ Refusal)
+    → ((fx : Fx) → Passes (nondecreasing (output (fx_outputs fx)) c) s at z) → ((v : List Output) (n : ℕ) → z ≡ Ok n → Yields (k v n) go z)
     → Yields ((nondecreasing (output (fx_outputs fx)) c).parse s at refused k) go z
 outputs-whole fx c s at k go z p = parse-whole (nondecreasing (output (fx_outputs fx)) c) s at k go z z (p fx)
 
 -- ---- the integer that is returned
 
-pub value_made : (c d n : ℕ) → c ≡ d → N.Value c n ≡ N.Value d n
+pub value_made : (c d n : ℕ) → c ≡ d → ◌≡◌ {A = Result (ℕ × ℕ) Refusal} (Ok (c, n)) (Ok (d, n))
 value_made c d n e = rw e
 
--- ---- the elements of lists
+-- ---- lists, whose elements are skipped by a step that is repeated
 
-module _ (s : List ℕ) (at : ℕ) (x : End) where
-  pub each-owners : (step : List ℕ → Owners → List ℕ) → Passes owners s at x → Each (λ prev. owners) step s at x
-  unfolding Each
-  each-owners step p prev = leads owners s at x p
-
-  each-output : Slice s → (step : List ℕ → Output → List ℕ) (fx : Fx) → ((fx : Fx) → Passes (output (fx_outputs fx)) s at x)
-      → Each (not_below (output (fx_outputs fx))) step s at x
-  unfolding Each guard
-  each-output b step fx p prev =
-      leads (not_below (output (fx_outputs fx)) prev) s at x
-      (covered (not_below (output (fx_outputs fx)) prev) (output (fx_outputs fx)) (λ v. v) (λ v g. (g.0, refl)) s at b x (p fx))
-
--- the outputs of an initial state: the code that skips them does not know the FxID, so each law is for any FxID
+-- the outputs of an initial state: the code that skips them does not know the FxID, so the law is for any FxID
 abbrev Outputs : Fx → List ℕ → Format Output
 Outputs fx = not_below (output (fx_outputs fx))
 
-module _ (s : List ℕ) where
-  -- what skips the n outputs that are left, from `at` on, skips all c outputs from `start`
-  unfoldable pub OutputsOnward : ℕ → ℕ → ℕ → ℕ → Type 0
-  OutputsOnward n at c start = (fx : Fx) → Onward (Outputs fx) (left (Outputs fx)) s n at c start
+module _ (Step : ℕ → Result ℕ Refusal → Type 0) (c : ℕ) (s : List ℕ) (at : ℕ) (z : Result ℕ Refusal) (r : Repeated Step c at z) where
+  pub owners-repeated : ((at : ℕ) (x : Result ℕ Refusal) → Step at x → Passes owners s at x) → Passes (unordered owners c) s at z
+  unfolding Each
+  owners-repeated each = passes (unordered owners c) s at z (repeats (λ prev. owners) (left (λ prev. owners)) s Step one c at z r [])
+    where
+      one : (at : ℕ) (x : Result ℕ Refusal) → Step at x → Each (λ prev. owners) (left (λ prev. owners)) s at x
+      one at x p prev = leads owners s at x (each at x p)
 
-  pub outputs-start : (c start : ℕ) → OutputsOnward c start c start
-  unfolding OutputsOnward
-  outputs-start c start fx = W.onward-start (Outputs fx) (left (Outputs fx)) s c start
+  pub outputs-repeated : Slice s → ((at : ℕ) (x : Result ℕ Refusal) → Step at x → (fx : Fx) → Passes (output (fx_outputs fx)) s at x)
+      → (fx : Fx) → Passes (nondecreasing (output (fx_outputs fx)) c) s at z
+  unfolding Each guard
+  outputs-repeated b each fx =
+      passes (nondecreasing (output (fx_outputs fx)) c) s at z (repeats (Outputs fx) (left (Outputs fx)) s Step one c at z r [])
+    where
+      one : (at : ℕ) (x : Result ℕ Refusal) → Step at x → Each (Outputs fx) (left (Outputs fx)) s at x
+      one at x p prev =
+          leads (Outputs fx prev) s at x
+          (covered (Outputs fx prev) (output (fx_outputs fx)) (λ v. v) (λ v g. (g.0, refl)) s at b x (each at x p fx))
 
-  module _ (n at c start : ℕ) (o : OutputsOnward n at c start) where
-    module _ (b : Slice s) (x : End) (p : (fx : Fx) → Passes (output (fx_outputs fx)) s at x) (l : 0 < n) where
-      pub outputs-turn : (m : ℕ) → x ≡ P.At m → OutputsOnward (n - 1) m c start
-      unfolding OutputsOnward
-      outputs-turn m q fx =
-          W.onward-turn (Outputs fx) (left (Outputs fx)) s n at c start (o fx) x m l q (each-output s at x b (left (Outputs fx)) fx p)
-
-      pub outputs-refused : (e : Refusal) → x ≡ P.Refused e → (fx : Fx) (z : End) → Leads (nondecreasing (output (fx_outputs fx)) c) s start next z
-      unfolding OutputsOnward
-      outputs-refused e q fx z =
-          W.onward-refused (Outputs fx) (left (Outputs fx)) s n at c start (o fx) x e l q (each-output s at x b (left (Outputs fx)) fx p) [] z
-
-    pub outputs-end : n ≤ 0 → (fx : Fx) → Leads (nondecreasing (output (fx_outputs fx)) c) s start next (P.At at)
-    unfolding OutputsOnward
-    outputs-end l fx = W.onward-end (Outputs fx) (left (Outputs fx)) s n at c start (o fx) l []
-
--- ---- rulesets: along the fields of an element, by its type, and over a list
+-- ---- rulesets: along the fields of an element, and by its type
 
 pub ruleset calls = (S.string-next, S.string-refused, list-next, list-refused, owners-whole, output-whole, outputs-whole)
 
@@ -469,7 +452,3 @@ pub ruleset acting = (type-next, type-short, terms-next, terms-refused, recipien
 pub ruleset passing = (W.passing, calls, acting, front-next, front-refused, front-short, fx-next, fx-refused, value_made)
 
 pub ruleset typed = (output-mint, output-transfer, output-nft-mint, output-nft-transfer, output-short, mint-list, mint-short, transfer-passed)
-
-pub ruleset looping = (W.looping, each-owners)
-
-pub ruleset looping-outputs = (outputs-start, outputs-turn, outputs-refused, outputs-end)

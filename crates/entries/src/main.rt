@@ -3,7 +3,6 @@
 
 ghost use Rattle.std.specs.Prelude.{◌≡◌, ◌≤◌, length, take, IfOk, IfSome};
 
-use entry_table::Tabled;
 use std::env::{Env, FillError};
 use std::fs::Files;
 use std::io::Read;
@@ -24,6 +23,7 @@ fn read_start<F: Read + Drop>(mut file: F, buf: &mut [u8]) -> io::Result<usize>
     ensures within { IfOk result (λ n. n ≤ length buf.new) }
     ensures start { IfOk result (λ n. IfSome (F.remaining file) (λ whole. take n buf.new ≡ take (length buf.new) whole)) }
 {
+    // Not a `for`: each read says how far it came.
     let mut at = 0;
     while at < buf.len() {
         let got = file.read(&mut buf[at..])?;
@@ -56,7 +56,7 @@ fn print_rows(rt: &impl Print, rows: &[u32], count: usize) -> io::Result<()> {
 
 fn print_refusal(rt: &impl Print, refusal: Refusal) -> io::Result<()> {
     let place = refusal.place;
-    let number = wire::number_of(refusal.rule);
+    let number = u32::from(refusal.rule);
     println!(rt; "{number} {place}")
 }
 
@@ -64,8 +64,8 @@ fn print_refusal(rt: &impl Print, refusal: Refusal) -> io::Result<()> {
 fn print_entries(rt: &impl Print, bytes: &[u8]) -> io::Result<()> {
     let mut rows = [0u32; TABLE_NUMBERS];
     match entry_table::rows::check_table(bytes, &mut rows) {
-        Tabled::Listed(count, _) => print_rows(rt, &rows, count),
-        Tabled::Refused(refusal) => print_refusal(rt, refusal),
+        Ok((count, _)) => print_rows(rt, &rows, count),
+        Err(refusal) => print_refusal(rt, refusal),
     }
 }
 

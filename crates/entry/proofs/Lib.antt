@@ -1,4 +1,3 @@
 -- What is proved of entry n
-pub mod Typing
 pub mod Standing
 pub mod Entering

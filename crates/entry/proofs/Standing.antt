@@ -1,4 +1,6 @@
 -- In an accepted transaction, the typed fields at an entry's row are that entry. Assumes nothing.
+use Rattle.std.specs.Prelude.{Some, None}
+use Rattle.std.specs.Option.{option_map}
 use Prim.Native.Nat.{ℕ, ◌+◌}
 use mathlib.Core.Path.{◌≡◌, refl, sym, ap, ◌∙◌, subst}
 use mathlib.Core.Bool.{Bool, not}
@@ -17,8 +19,6 @@ use Rattle.wire.proofs.Reading as W
 use Rattle.element.specs.Outputs.{amount, secp_transfer, Output, output, TransferableOutput, transferable_output, output_fields}
 use Rattle.element.specs.Inputs.{key, key_width, indices, spend, Input, input_after, input, input_fields}
 use Rattle.element.specs.Operations.{action, Operation, operation, InitialState, Fx, fx_outputs, initial_state}
-use Rattle.element.specs.declared.OutputFields.{OutputFields}
-use Rattle.transaction.specs.declared.Entry.{Entry}
 use Rattle.transaction.specs.declared.Entry.TheVariants as E
 use Rattle.transaction.specs.Entries.{EntryAt, entry_kind, no_id, output_entry, exported_entry, input_entry, imported_entry, operation_entry, credential_entry}
 use Rattle.transaction.specs.Entries.{state_output_entry, state_entries, entries_from}
@@ -30,13 +30,9 @@ use Rattle.transaction.proofs.Reading.{written_next}
 use Rattle.entry_walk.specs.code.Walk.{start, Ahead}
 use Rattle.entry_walk.proofs.Advancing.{state-of, Leading}
 use Rattle.entry_walk.proofs.Each.{Each, rest-each, plan-each}
-use Rattle.entry_fields.specs.code.Found.{output_found, input_found}
-use Rattle.entry_fields.specs.declared.OutputFound.{OutputFound}
-use Rattle.entry_fields.specs.declared.InputFound.{InputFound}
-use Rattle.entry_fields.specs.declared.InputFound.TheVariants as I
+use Rattle.entry_fields.specs.code.Found.{input_found}
 use Rattle.entry_fields.proofs.Finding.{output-found, input-found, operation-found}
-use Rattle.entry.specs.code.Typed.{on_output, on_input, on_operation, typed_at, after_key, asset_at, txid_at}
-use Rattle.entry.specs.declared.Typed.TheVariants as T
+use Rattle.entry.specs.code.Typed.{output_after, typed_at, after_key, asset_at, txid_at}
 
 operation-asset : (s : List ℕ) (at : ℕ) (v : Operation) (m : ℕ) → read operation s at ≡ took v m → whole_at 32 s at ≡ v.asset
 unfolding operation named and_then
@@ -62,7 +58,7 @@ spend-asset s at w m h =
 -- ---- the fields at the row of an entry are the entry
 
 pub record Standing (s : List ℕ) (e : EntryAt) : Type 0 where
-  pub typed : typed_at (entry_kind e.fields) s e.start ≡ T.Entry e.fields
+  pub typed : typed_at (entry_kind e.fields) s e.start ≡ Some e.fields
   pub asset : asset_at (entry_kind e.fields) s e.start ≡ e.asset
   pub txid : txid_at (entry_kind e.fields) s e.start ≡ e.txid
 
@@ -80,48 +76,47 @@ module _ (s : List ℕ) (b : Slice s) where
 
   -- ---- outputs
 
-  output-stands : (make : OutputFields → Entry) (at : ℕ) (v : TransferableOutput) (m : ℕ) → read transferable_output s at ≡ took v m
-      → ((blob 32).parse s at (λ e. T.Missing) (λ asset o. on_output (output_found s o) make) ≡ T.Entry (make (output_fields (at + 32) m v.output)))
+  output-stands : (at : ℕ) (v : TransferableOutput) (m : ℕ) → read transferable_output s at ≡ took v m
+      → (output_after s at ≡ Some (output_fields (at + 32) m v.output))
       × (whole_at 32 s at ≡ v.asset)
   unfolding transferable_output named and_then
-  output-stands make at v m h =
+  output-stands at v m h =
       let (x, i, ex, e₁) = parse-inv (blob 32) s at _ v m h in
       let (o, k, eo, e₂) = parse-inv (output (secp_transfer ∷ [])) s i (λ out n. took record { asset = x; output = out } n) v m e₁ in
       let after : i ≡ at + 32 =
       written_next (blob 32) s at x i b ex ∙ ap (λ (j : ℕ). at + j) (W.blob-wide 32 x ((blob 32).sound s at x i (slice-bytes s b) ex).0) in (
         moved
-            (λ w j. (blob 32).parse s at (λ e. T.Missing) (λ asset o. on_output (output_found s o) make) ≡ T.Entry
-            (make (output_fields (at + 32) j w.output))) e₂
-            (W.parse-took (blob 32) s at (λ e. T.Missing) _ x i ex ∙ ap (λ (f : OutputFound). on_output f make) (output-found s b (secp_transfer ∷ []) i o k eo)
-            ∙ ap (λ (j : ℕ). T.Entry (make (output_fields j k o))) after),
+            (λ w j. output_after s at ≡ Some (output_fields (at + 32) j w.output)) e₂
+            (W.parse-took (blob 32) s at (λ e. None) _ x i ex ∙ output-found s b (secp_transfer ∷ []) i o k eo
+            ∙ ap (λ (j : ℕ). Some (output_fields j k o)) after),
         moved (λ w j. whole_at 32 s at ≡ w.asset) e₂ (W.whole_part 32 s at x i ex),
       )
 
   outputs-stand : (prev : List ℕ) (at : ℕ) (v : TransferableOutput) (m : ℕ) → read (not_below transferable_output prev) s at ≡ took v m
       → All (output_entry at m v)
   outputs-stand prev at v m h =
-      let (f, a) = output-stands E.Output at v m
+      let (f, a) = output-stands at v m
       (guarded-inv transferable_output (λ a. not (below (transferable_output.write a) prev)) out_of_order at v m h) in
-      (record { typed = f; asset = a; txid = refl }, tt)
+      (record { typed = ap (option_map E.Output) f; asset = a; txid = refl }, tt)
 
   exported-stand : (prev : List ℕ) (at : ℕ) (v : TransferableOutput) (m : ℕ) → read (not_below transferable_output prev) s at ≡ took v m
       → All (exported_entry at m v)
   exported-stand prev at v m h =
       let r = guarded-inv transferable_output (λ a. not (below (transferable_output.write a) prev)) out_of_order at v m h in
-      let (f, a) = output-stands E.ExportedOutput at v m r in
-      (record { typed = f; asset = a; txid = refl }, tt)
+      let (f, a) = output-stands at v m r in
+      (record { typed = ap (option_map E.ExportedOutput) f; asset = a; txid = refl }, tt)
 
   -- ---- inputs
 
   input-stands : (prev : List ℕ) (at : ℕ) (v : Input) (m : ℕ) → read (input prev) s at ≡ took v m
-      → (input_found s at ≡ I.Fields (input_fields m v)) × (after_key s at ≡ v.asset) × (whole_at 32 s at ≡ v.txid)
+      → (input_found s at ≡ Some (input_fields m v)) × (after_key s at ≡ v.asset) × (whole_at 32 s at ≡ v.txid)
   unfolding input_after named and_then guard key
   input-stands prev at v m h =
       let (id, i, ei, e₁) = parse-inv (blob 32) s at _ v m h in
       let (index, k, ek, e₂) = parse-inv (integer 4) s i _ v m e₁ in
       let (_, e₃) = pick_inv (below (take key_width prev) (key.write (id, index))) (by out_of_order at) _ v m e₂ in
       let (w, j, ew, e₄) = parse-inv spend s k (λ w n. took (spent id index w) n) v m e₃ in (
-        moved (λ x n. input_found s at ≡ I.Fields (input_fields n x)) e₄ (input-found s b at id i index k w j ei ek ew),
+        moved (λ x n. input_found s at ≡ Some (input_fields n x)) e₄ (input-found s b at id i index k w j ei ek ew),
         moved (λ x n. after_key s at ≡ x.asset) e₄
             (W.parse-took (blob 32) s at (λ e. no_id) _ id i ei ∙ W.parse-took (integer 4) s i (λ e. no_id) _ index k ek ∙ spend-asset s k w j ew),
         moved (λ x n. whole_at 32 s at ≡ x.txid) e₄ (W.whole_part 32 s at id i ei),
@@ -130,17 +125,25 @@ module _ (s : List ℕ) (b : Slice s) where
   inputs-stand : (prev : List ℕ) (at : ℕ) (v : Input) (m : ℕ) → read (input prev) s at ≡ took v m → All (input_entry at m v)
   inputs-stand prev at v m h =
       let (f, a, t) = input-stands prev at v m h in
-      (record { typed = ap (λ (x : InputFound). on_input x E.Input) f; asset = a; txid = t }, tt)
+      (record { typed = ap (option_map E.Input) f; asset = a; txid = t }, tt)
 
   imported-stand : (prev : List ℕ) (at : ℕ) (v : Input) (m : ℕ) → read (input prev) s at ≡ took v m → All (imported_entry at m v)
   imported-stand prev at v m h =
       let (f, a, t) = input-stands prev at v m h in
-      (record { typed = ap (λ (x : InputFound). on_input x E.ImportedInput) f; asset = a; txid = t }, tt)
+      (record { typed = ap (option_map E.ImportedInput) f; asset = a; txid = t }, tt)
 
   -- ---- operations
 
   operations-stand : (prev : List ℕ) (at : ℕ) (v : Operation) (m : ℕ) → read operation s at ≡ took v m → All (operation_entry at m v)
-  operations-stand prev at v m h = (record { typed = ap on_operation (operation-found s b at v m h); asset = operation-asset s at v m h; txid = refl }, tt)
+  operations-stand prev at v m h = (
+    record {
+      typed = ap (option_map E.Operation)
+          (operation-found s b at v m h);
+      asset = operation-asset s at v m h;
+      txid = refl;
+    },
+    tt,
+  )
 
   -- ---- outputs of initial states
 
@@ -148,7 +151,7 @@ module _ (s : List ℕ) (b : Slice s) where
       → All (state_output_entry at m v)
   state-outputs-stand k prev at v m h =
       let r = guarded-inv (output (fx_outputs k)) (λ a. not (below ((output (fx_outputs k)).write a) prev)) out_of_order at v m h in
-      (record { typed = ap (λ (f : OutputFound). on_output f E.InitialStateOutput) (output-found s b (fx_outputs k) at v m r); asset = refl; txid = refl }, tt)
+      (record { typed = ap (option_map E.InitialStateOutput) (output-found s b (fx_outputs k) at v m r); asset = refl; txid = refl }, tt)
 
   states-stand : (prev : List ℕ) (at : ℕ) (v : InitialState) (m : ℕ) → read (initial_state prev) s at ≡ took v m → All (state_entries at m v)
   states-stand prev at v m h =
@@ -181,8 +184,9 @@ module _ (s : List ℕ) (b : Slice s) where
   credential-stands w ws at m f =
       record {
         typed =
-            W.parse-took (integer 4) s at (λ e. T.Missing) _ (credential_code w.type) (at + 4) f.type
-            ∙ W.parse-took (integer 4) s (at + 4) (λ e. T.Missing) _ w.signatures (at + 8) f.count;
+            ap (option_map E.Credential)
+            (W.parse-took (integer 4) s at (λ e. None) _ (credential_code w.type) (at + 4) f.type
+            ∙ W.parse-took (integer 4) s (at + 4) (λ e. None) _ w.signatures (at + 8) f.count);
         asset = refl;
         txid = refl;
       }

@@ -1,4 +1,8 @@
 -- The fields of owners, outputs, inputs and operations that were read are found again by their offsets. Assumes nothing.
+use Rattle.std.specs.Prelude.{Some, None, Option}
+use Rattle.element.specs.declared.Recipients.{Recipients}
+use Rattle.element.specs.declared.InputFields.{InputFields}
+use Rattle.element.specs.declared.TermsFields.{TermsFields}
 use Prim.Native.Nat.{ℕ, ◌+◌, ◌-◌, ◌*◌, ◌≤◌}
 use mathlib.Core.Path.{◌≡◌, sym, ap, ap₂, ◌∙◌, subst}
 use mathlib.Core.List.{List, [], ◌∷◌}
@@ -35,15 +39,6 @@ use Rattle.transaction.proofs.Reading.{written_next}
 use Rattle.entry_fields.specs.code.Found.{on_terms, on_recipients, operation_of, action_found}
 use Rattle.entry_fields.specs.code.Found.{operation_found, owners_found, output_of, body_found, output_found}
 use Rattle.entry_fields.specs.code.Found.{input_found, terms_found, transfer_to, recipients_found}
-use Rattle.entry_fields.specs.declared.OwnersFound.{OwnersFound}
-use Rattle.entry_fields.specs.declared.OwnersFound.TheVariants as W
-use Rattle.entry_fields.specs.declared.OutputFound.TheVariants as O
-use Rattle.entry_fields.specs.declared.InputFound.TheVariants as I
-use Rattle.entry_fields.specs.declared.TermsFound.{TermsFound}
-use Rattle.entry_fields.specs.declared.TermsFound.TheVariants as M
-use Rattle.entry_fields.specs.declared.RecipientsFound.{RecipientsFound}
-use Rattle.entry_fields.specs.declared.RecipientsFound.TheVariants as R
-use Rattle.entry_fields.specs.declared.OperationFound.TheVariants as Y
 
 -- the fields of what follows the pairs, from `at` up to `end`
 abbrev action_fields : ℕ → ℕ → ℕ → ℕ → Action → OperationFields
@@ -70,7 +65,7 @@ module _ (s : List ℕ) (b : Slice s) where
 
   -- ---- owners
 
-  owners-found : (at : ℕ) (v : Owners) (m : ℕ) → read owners s at ≡ took v m → owners_found s at ≡ W.Fields (owners_fields m v)
+  owners-found : (at : ℕ) (v : Owners) (m : ℕ) → read owners s at ≡ took v m → owners_found s at ≡ Some (owners_fields m v)
   unfolding owners named and_then guard
   owners-found at v m h =
       let (l, t, el, e₁) = parse-inv (integer 8) s at _ v m h in
@@ -79,12 +74,12 @@ module _ (s : List ℕ) (b : Slice s) where
       let (_, e₄) = pick_inv (threshold_fits r c) (by bad_threshold t) _ v m e₃ in
       let (list, k, ek, e₅) = parse-inv (increasing (blob address_width) c) s f
       (λ list k. took record { locktime = l; threshold = r; addresses = list } k) v m e₄ in
-      moved (λ x j. owners_found s at ≡ W.Fields (owners_fields j x)) e₅
-      (L.parse-took (integer 8) s at (λ e. W.Missing) _ l t el ∙ L.parse-took (integer 4) s t (λ e. W.Missing) _ r n er
-      ∙ L.parse-took (integer 4) s n (λ e. W.Missing) _ c f ec ∙ made l r c f list k ek)
+      moved (λ x j. owners_found s at ≡ Some (owners_fields j x)) e₅
+      (L.parse-took (integer 8) s at (λ e. None) _ l t el ∙ L.parse-took (integer 4) s t (λ e. None) _ r n er
+      ∙ L.parse-took (integer 4) s n (λ e. None) _ c f ec ∙ made l r c f list k ek)
     where
       made : (l r c f : ℕ) (list : List (List ℕ)) (k : ℕ) → read (increasing (blob address_width) c) s f ≡ took list k
-          → W.Fields record { locktime = l; threshold = r; addresses_at = f; addresses_count = c } ≡ W.Fields
+          → Some record { locktime = l; threshold = r; addresses_at = f; addresses_count = c } ≡ Some
           (owners_fields k record { locktime = l; threshold = r; addresses = list })
       made l r c f list k h =
           let (size, ends) = L.wide-took (blob address_width) address_width (L.blob-wide address_width) c s f list k b h in
@@ -95,23 +90,23 @@ module _ (s : List ℕ) (b : Slice s) where
 
   -- an output whose last field is its owners: `make` adds them to the other fields
   output-made : (at : ℕ) (v : Owners) (m : ℕ) (make : OwnersFields → OutputFields) → read owners s at ≡ took v m
-      → output_of (owners_found s at) make ≡ O.Fields (make (owners_fields m v))
-  output-made at v m make h = ap (λ (x : OwnersFound). output_of x make) (owners-found at v m h)
+      → output_of (owners_found s at) make ≡ Some (make (owners_fields m v))
+  output-made at v m make h = ap (λ (x : Option OwnersFields). output_of x make) (owners-found at v m h)
 
   body-found : (k : OutputType) (at i : ℕ) → i ≡ at + 4 → (v : OutputBody k) (m : ℕ) → read (output_body k) s i ≡ took v m
-      → body_found (output_code k) s i ≡ O.Fields (output_fields at m (k, v))
+      → body_found (output_code k) s i ≡ Some (output_fields at m (k, v))
   unfolding transfer_body amount and_then guard string named
   body-found secp_mint at i p v m h = output-made i v m F.SecpMint h
   body-found secp_transfer at i p v m h =
       let (n, j, en, e₁) = parse-inv (integer 8) s i _ v m h in
       let (_, e₂) = pick_inv (ltb 0 n) (by zero_amount i) _ v m e₁ in
       let (o, k, eo, e₃) = parse-inv owners s j (λ o k. took (n, o) k) v m e₂ in
-      moved (λ x q. body_found 7 s i ≡ O.Fields (output_fields at q (secp_transfer, x))) e₃ (L.parse-took (integer 8) s i (λ e. O.Missing) _ n j en
+      moved (λ x q. body_found 7 s i ≡ Some (output_fields at q (secp_transfer, x))) e₃ (L.parse-took (integer 8) s i (λ e. None) _ n j en
       ∙ output-made j o k (F.SecpTransfer n) eo)
   body-found nft_mint at i p v m h =
       let (g, j, eg, e₁) = parse-inv (integer 4) s i _ v m h in
       let (o, k, eo, e₂) = parse-inv owners s j (λ o k. took (g, o) k) v m e₁ in
-      moved (λ x q. body_found 10 s i ≡ O.Fields (output_fields at q (nft_mint, x))) e₂ (L.parse-took (integer 4) s i (λ e. O.Missing) _ g j eg
+      moved (λ x q. body_found 10 s i ≡ Some (output_fields at q (nft_mint, x))) e₂ (L.parse-took (integer 4) s i (λ e. None) _ g j eg
       ∙ output-made j o k (F.NftMint g) eo)
   body-found nft_transfer at i p v m h =
       let (g, j, eg, e₁) = parse-inv (integer 4) s i _ v m h in
@@ -121,21 +116,21 @@ module _ (s : List ℕ) (b : Slice s) where
       let (o, k, eo, e₅) = parse-inv owners s q (λ o k. took (g, (a, o)) k) v m e₄ in
       let size : length a ≡ c = blob-sized c a ((blob c).sound s f a q (slice-bytes s b) ea).0 in
       let place : f ≡ at + 12 = omega (arith, integer-ends 4 i g j eg, integer-ends 4 j c f ec) in
-      moved (λ x j. body_found 11 s i ≡ O.Fields (output_fields at j (nft_transfer, x))) e₅
-      (L.parse-took (integer 4) s i (λ e. O.Missing) _ g j eg ∙ L.parse-took (integer 4) s j (λ e. O.Missing) _ c f ec
-      ∙ L.parse-took (blob c) s f (λ e. O.Missing) _ a q ea
-      ∙ output-made q o k (F.NftTransfer g f c) eo ∙ ap₂ (λ (x y : ℕ). O.Fields (F.NftTransfer g x y (owners_fields k o))) place (sym size))
+      moved (λ x j. body_found 11 s i ≡ Some (output_fields at j (nft_transfer, x))) e₅
+      (L.parse-took (integer 4) s i (λ e. None) _ g j eg ∙ L.parse-took (integer 4) s j (λ e. None) _ c f ec
+      ∙ L.parse-took (blob c) s f (λ e. None) _ a q ea
+      ∙ output-made q o k (F.NftTransfer g f c) eo ∙ ap₂ (λ (x y : ℕ). Some (F.NftTransfer g x y (owners_fields k o))) place (sym size))
 
   pub output-found : (types : List OutputType) (at : ℕ) (v : Output) (m : ℕ) → read (output types) s at ≡ took v m
-      → output_found s at ≡ O.Fields (output_fields at m v)
+      → output_found s at ≡ Some (output_fields at m v)
   unfolding output tag and_then
   output-found types at v m h =
       let (n, i, en, e₁) = parse-inv (integer 4) s at _ v m h in
       let (has, e₂) = pick_inv (listed output_code types n) (by unknown_type at) _ v m
       (sym (find-is output_code output_type output_type-code types n _ (refused (by unknown_type at))) ∙ e₁) in
       let (w, k, ew, e₃) = parse-inv (output_body (output_type n)) s i (λ w k. took (output_type n, w) k) v m e₂ in
-      moved (λ x j. output_found s at ≡ O.Fields (output_fields at j x)) e₃
-      (L.parse-took (integer 4) s at (λ e. O.Missing) _ n i en
+      moved (λ x j. output_found s at ≡ Some (output_fields at j x)) e₃
+      (L.parse-took (integer 4) s at (λ e. None) _ n i en
       ∙ ap (λ (t : ℕ). body_found t s i) (sym (listed-code output_code output_type output_type-code types n has))
       ∙ body-found (output_type n) at i (integer-ends 4 at n i en) w k ew)
 
@@ -143,7 +138,7 @@ module _ (s : List ℕ) (b : Slice s) where
 
   pub input-found : (at : ℕ) (id : List ℕ) (i index k : ℕ) (w : List ℕ × (Unit {0} × (ℕ × List ℕ))) (m : ℕ) → read (blob 32) s at ≡ took id i
       → read (integer 4) s i ≡ took index k → read spend s k ≡ took w m
-      → input_found s at ≡ I.Fields (input_fields m record { txid = id; index = index; asset = w.0; amount = w.1.1.0; indices = w.1.1.1 })
+      → input_found s at ≡ Some (input_fields m record { txid = id; index = index; asset = w.0; amount = w.1.1.0; indices = w.1.1.1 })
   unfolding spend and_then constant amount guard indices count_prefixed
   input-found at id i index k w m ei ek h =
       let (x, t, ex, e₁) = parse-inv (blob 32) s k _ w m h in
@@ -153,16 +148,16 @@ module _ (s : List ℕ) (b : Slice s) where
       let (_, e₅) = pick_inv (ltb 0 n) (by zero_amount a) _ w m e₄ in
       let (c, f, ec, e₆) = parse-inv (integer 4) s j _ w m e₅ in
       let (list, q, el, e₇) = parse-inv (increasing (integer 4) c) s f (λ list q. took (x, (tt, (n, list))) q) w m e₆ in
-      moved (λ u e. input_found s at ≡ I.Fields (input_fields e record { txid = id; index = index; asset = u.0; amount = u.1.1.0; indices = u.1.1.1 })) e₇
-      (L.parse-took (blob 32) s at (λ e. I.Missing) _ id i ei ∙ L.parse-took (integer 4) s i (λ e. I.Missing) _ index k ek
-      ∙ L.parse-took (blob 32) s k (λ e. I.Missing) _ x t ex
-      ∙ L.parse-took (integer 4) s t (λ e. I.Missing) _ y a ey ∙ L.parse-took (integer 8) s a (λ e. I.Missing) _ n j en
-      ∙ L.parse-took (integer 4) s j (λ e. I.Missing) _ c f ec
+      moved (λ u e. input_found s at ≡ Some (input_fields e record { txid = id; index = index; asset = u.0; amount = u.1.1.0; indices = u.1.1.1 })) e₇
+      (L.parse-took (blob 32) s at (λ e. None) _ id i ei ∙ L.parse-took (integer 4) s i (λ e. None) _ index k ek
+      ∙ L.parse-took (blob 32) s k (λ e. None) _ x t ex
+      ∙ L.parse-took (integer 4) s t (λ e. None) _ y a ey ∙ L.parse-took (integer 8) s a (λ e. None) _ n j en
+      ∙ L.parse-took (integer 4) s j (λ e. None) _ c f ec
       ∙ made n c f list q el)
     where
       made : (n c f : ℕ) (list : List ℕ) (q : ℕ) → read (increasing (integer 4) c) s f ≡ took list q
-          → I.Fields record { index = index; amount = n; indices_at = f; indices_count = c } ≡ I.Fields
-          record { index = index; amount = n; indices_at = q - 4 * length list; indices_count = length list }
+          → ◌≡◌ {A = Option InputFields} (Some record { index = index; amount = n; indices_at = f; indices_count = c })
+          (Some record { index = index; amount = n; indices_at = q - 4 * length list; indices_count = length list })
       made n c f list q h =
           let (size, ends) = L.wide-took (integer 4) 4 (λ v h. length-integer 4 v) c s f list q b h in
           let place : f ≡ q - 4 * length list = omega arith in
@@ -189,7 +184,7 @@ module _ (s : List ℕ) (b : Slice s) where
           let long : length w ≡ k * c = omega (arith, st.ends, place size ends) in
           omega (arith, length-drop at s, ap length st.there, length-append w (drop n s))
 
-  terms-found : (at : ℕ) (v : Terms) (m : ℕ) → read terms s at ≡ took v m → terms_found s at ≡ M.Fields (terms_fields at m v) m
+  terms-found : (at : ℕ) (v : Terms) (m : ℕ) → read terms s at ≡ took v m → terms_found s at ≡ Some (terms_fields at m v, m)
   unfolding terms and_then indices count_prefixed string named guard
   terms-found at v m h =
       let (c, f, ec, e₁) = parse-inv (integer 4) s at _ v m h in
@@ -198,17 +193,18 @@ module _ (s : List ℕ) (b : Slice s) where
       let (d, q, ed, e₄) = parse-inv (integer 4) s p _ v m e₃ in
       let (_, e₅) = pick_inv (leb d 1024) (by bad_length p) _ v m e₄ in
       let (a, k, ea, e₆) = parse-inv (blob d) s q (λ a k. took (list, (group, a)) k) v m e₅ in
-      moved (λ x j. terms_found s at ≡ M.Fields (terms_fields at j x) j) e₆
-      (L.parse-took (integer 4) s at (λ e. M.Missing) _ c f ec
-      ∙ span (integer 4) 4 (λ v h. length-integer 4 v) c f list g (λ e. M.Missing) _ el _ (λ x.
-      L.parse-took (integer 4) s g (λ e. M.Missing) _ group p eg ∙ L.parse-took (integer 4) s p (λ e. M.Missing) _ d q ed
-      ∙ L.parse-took (blob d) s q (λ e. M.Missing) _ a k ea)
+      moved (λ x j. terms_found s at ≡ Some (terms_fields at j x, j)) e₆
+      (L.parse-took (integer 4) s at (λ e. None) _ c f ec
+      ∙ span (integer 4) 4 (λ v h. length-integer 4 v) c f list g (λ e. None) _ el _ (λ x.
+      L.parse-took (integer 4) s g (λ e. None) _ group p eg ∙ L.parse-took (integer 4) s p (λ e. None) _ d q ed
+      ∙ L.parse-took (blob d) s q (λ e. None) _ a k ea)
       ∙ made c f list g group d q a k (integer-ends 4 at c f ec) el ea)
     where
       made : (c f : ℕ) (list : List ℕ) (g group d q : ℕ) (a : List ℕ) (k : ℕ) → f ≡ at + 4 → read (increasing (integer 4) c) s f ≡ took list g
           → read (blob d) s q ≡ took a k
-          → M.Fields record { indices_at = f; indices_count = c; group = group; payload_at = q; payload_length = d } k ≡ M.Fields
-          (terms_fields at k (list, (group, a))) k
+          → ◌≡◌ {A = Option (TermsFields × ℕ)}
+          (Some (record { indices_at = f; indices_count = c; group = group; payload_at = q; payload_length = d }, k))
+          (Some (terms_fields at k (list, (group, a)), k))
       made c f list g group d q a k first el ea =
           let (size, ends) = L.wide-took (integer 4) 4 (λ v h. length-integer 4 v) c s f list g b el in
           let (good, st) = (blob d).sound s q a k (slice-bytes s b) ea in
@@ -217,16 +213,16 @@ module _ (s : List ℕ) (b : Slice s) where
           rw (first, size, ← long, place)
 
   recipients-found : (k : OperationType) (at : ℕ) (o : OperationOwners k) (m : ℕ) → read (operation_owners k) s at ≡ took o m
-      → recipients_found (operation_code k) s at ≡ R.Fields (recipients (at + 4) m (k, o))
+      → recipients_found (operation_code k) s at ≡ Some (recipients (at + 4) m (k, o))
   unfolding count_prefixed
   recipients-found mint_nft at o m h =
       let (c, f, ec, e₁) = parse-inv (integer 4) s at _ o m h in
       let size : length o ≡ c = items-sized (λ prev. owners) (left (λ prev. owners)) [] c o ((unordered owners c).sound s f o m (slice-bytes s b) e₁).0 in
-      L.parse-took (integer 4) s at (λ e. R.Missing) _ c f ec ∙ ap₂ (λ (x y : ℕ). R.Fields (Q.Mint x y)) (integer-ends 4 at c f ec) (sym size)
+      L.parse-took (integer 4) s at (λ e. None) _ c f ec ∙ ap₂ (λ (x y : ℕ). Some (Q.Mint x y)) (integer-ends 4 at c f ec) (sym size)
   recipients-found transfer_nft at o m h = ap transfer_to (owners-found at o m h)
 
   action-found : (place count at : ℕ) (v : Action) (m : ℕ) → read action s at ≡ took v m
-      → action_found place count s at ≡ Y.Fields (action_fields place count at m v)
+      → action_found place count s at ≡ Some (action_fields place count at m v)
   unfolding action tag and_then
   action-found place count at v m h =
       let (n, i, en, e₁) = parse-inv (integer 4) s at _ v m h in
@@ -237,15 +233,15 @@ module _ (s : List ℕ) (b : Slice s) where
       let (r, k, er, e₄) = parse-inv (operation_owners (operation_type n)) s o (λ r k. took (operation_type n, (w, r)) k) v m e₃ in
       let next : i ≡ at + 4 = integer-ends 4 at n i en in
       let end : o ≡ at + 4 + length (terms.write w) = written_next terms s i w o b ew ∙ ap (λ (j : ℕ). j + length (terms.write w)) next in
-      moved (λ x j. action_found place count s at ≡ Y.Fields (action_fields place count at j x)) e₄
-      (L.parse-took (integer 4) s at (λ e. Y.Missing) _ n i en
-      ∙ ap (λ (f : TermsFound). on_terms f (λ t o. on_recipients (recipients_found n s o) (operation_of place count t))) (terms-found i w o ew)
+      moved (λ x j. action_found place count s at ≡ Some (action_fields place count at j x)) e₄
+      (L.parse-took (integer 4) s at (λ e. None) _ n i en
+      ∙ ap (λ (f : Option (TermsFields × ℕ)). on_terms f (λ t o. on_recipients (recipients_found n s o) (operation_of place count t))) (terms-found i w o ew)
       ∙ ap (λ (c : ℕ). on_recipients (recipients_found c s o) (operation_of place count (terms_fields i o w)))
       (sym (listed-code operation_code operation_type operation_type-code (mint_nft ∷ transfer_nft ∷ []) n has))
-      ∙ ap (λ (f : RecipientsFound). on_recipients f (operation_of place count (terms_fields i o w))) (recipients-found (operation_type n) o r k er)
-      ∙ ap (λ (f : OperationFields). Y.Fields f) (action-placed place count at i o k (operation_type n) w r next end))
+      ∙ ap (λ (f : Option Recipients). on_recipients f (operation_of place count (terms_fields i o w))) (recipients-found (operation_type n) o r k er)
+      ∙ ap (λ (f : OperationFields). Some f) (action-placed place count at i o k (operation_type n) w r next end))
 
-  pub operation-found : (at : ℕ) (v : Operation) (m : ℕ) → read operation s at ≡ took v m → operation_found s at ≡ Y.Fields (operation_fields at m v)
+  pub operation-found : (at : ℕ) (v : Operation) (m : ℕ) → read operation s at ≡ took v m → operation_found s at ≡ Some (operation_fields at m v)
   unfolding operation named and_then count_prefixed
   operation-found at v m h =
       let (x, p, ex, e₁) = parse-inv (blob 32) s at _ v m h in
@@ -255,7 +251,7 @@ module _ (s : List ℕ) (b : Slice s) where
       let (size, ends) = L.wide-took key key_width key-wide c s f l t b el in
       let first : f ≡ at + 36 = omega
       (arith, integer-ends 4 p c f ec, written_next (blob 32) s at x p b ex, L.blob-wide 32 x ((blob 32).sound s at x p (slice-bytes s b) ex).0) in
-      moved (λ y j. operation_found s at ≡ Y.Fields (operation_fields at j y)) e₄
-      (L.parse-took (blob 32) s at (λ e. Y.Missing) _ x p ex ∙ L.parse-took (integer 4) s p (λ e. Y.Missing) _ c f ec
-      ∙ span key key_width key-wide c f l t (λ e. Y.Missing) _ el _ (λ y. action-found f c t w k ew)
-      ∙ ap (λ (o : OperationFields). Y.Fields o) (operation-placed at f c t k x l w first size ends))
+      moved (λ y j. operation_found s at ≡ Some (operation_fields at j y)) e₄
+      (L.parse-took (blob 32) s at (λ e. None) _ x p ex ∙ L.parse-took (integer 4) s p (λ e. None) _ c f ec
+      ∙ span key key_width key-wide c f l t (λ e. None) _ el _ (λ y. action-found f c t w k ew)
+      ∙ ap (λ (o : OperationFields). Some o) (operation-placed at f c t k x l w first size ends))

@@ -7,59 +7,14 @@ ghost use Rattle.entry_fields.specs.code.Found.{nft_mint_found, nft_transfer_fou
 
 use element::{InputFields, OperationFields, OutputFields, Recipients, TermsFields};
 use owners::OwnersFields;
-use wire::{End, Integer};
 
-// The typed fields of an element, if they are all there.
-#[derive(Clone, Copy)]
-enum OwnersFound {
-    Fields(OwnersFields),
-    Missing,
-}
-
-#[derive(Clone, Copy)]
-pub enum OutputFound {
-    Fields(OutputFields),
-    Missing,
-}
-
-#[derive(Clone, Copy)]
-pub enum InputFound {
-    Fields(InputFields),
-    Missing,
-}
-
-// The fields of an operation's terms, and the offset just past the terms.
-#[derive(Clone, Copy)]
-enum TermsFound {
-    Fields(TermsFields, usize),
-    Missing,
-}
-
-#[derive(Clone, Copy)]
-enum RecipientsFound {
-    Fields(Recipients),
-    Missing,
-}
-
-#[derive(Clone, Copy)]
-pub enum OperationFound {
-    Fields(OperationFields),
-    Missing,
-}
-
-fn owners_at(s: &[u8], at: usize) -> OwnersFound
+fn owners_at(s: &[u8], at: usize) -> Option<OwnersFields>
     ensures { result ≡ owners_found s.now at }
 {
-    let Integer::Value(locktime, threshold_at) = wire::u64_at(s, at) else {
-        return OwnersFound::Missing;
-    };
-    let Integer::Value(threshold, count_at) = wire::u32_at(s, threshold_at) else {
-        return OwnersFound::Missing;
-    };
-    let Integer::Value(addresses_count, addresses_at) = wire::u32_at(s, count_at) else {
-        return OwnersFound::Missing;
-    };
-    OwnersFound::Fields(OwnersFields {
+    let (locktime, threshold_at) = wire::u64_at(s, at).ok()?;
+    let (threshold, count_at) = wire::u32_at(s, threshold_at).ok()?;
+    let (addresses_count, addresses_at) = wire::u32_at(s, count_at).ok()?;
+    Some(OwnersFields {
         locktime,
         threshold,
         addresses_at,
@@ -68,110 +23,70 @@ fn owners_at(s: &[u8], at: usize) -> OwnersFound
 }
 
 // What follows type 6: owners.
-fn mint_at(s: &[u8], at: usize) -> OutputFound
+fn mint_at(s: &[u8], at: usize) -> Option<OutputFields>
     ensures { result ≡ mint_found s.now at }
 {
-    match owners_at(s, at) {
-        OwnersFound::Missing => OutputFound::Missing,
-        OwnersFound::Fields(owners) => OutputFound::Fields(OutputFields::SecpMint(owners)),
-    }
+    Some(OutputFields::SecpMint(owners_at(s, at)?))
 }
 
 // What follows type 7: amount, owners.
-fn transfer_at(s: &[u8], at: usize) -> OutputFound
+fn transfer_at(s: &[u8], at: usize) -> Option<OutputFields>
     ensures { result ≡ transfer_found s.now at }
 {
-    let Integer::Value(amount, owners_start) = wire::u64_at(s, at) else {
-        return OutputFound::Missing;
-    };
-    match owners_at(s, owners_start) {
-        OwnersFound::Missing => OutputFound::Missing,
-        OwnersFound::Fields(owners) => OutputFound::Fields(OutputFields::SecpTransfer {
-            amount,
-            owners,
-        }),
-    }
+    let (amount, owners_start) = wire::u64_at(s, at).ok()?;
+    let owners = owners_at(s, owners_start)?;
+    Some(OutputFields::SecpTransfer { amount, owners })
 }
 
 // What follows type 10: group, owners.
-fn nft_mint_at(s: &[u8], at: usize) -> OutputFound
+fn nft_mint_at(s: &[u8], at: usize) -> Option<OutputFields>
     ensures { result ≡ nft_mint_found s.now at }
 {
-    let Integer::Value(group, owners_start) = wire::u32_at(s, at) else {
-        return OutputFound::Missing;
-    };
-    match owners_at(s, owners_start) {
-        OwnersFound::Missing => OutputFound::Missing,
-        OwnersFound::Fields(owners) => OutputFound::Fields(OutputFields::NftMint { group, owners }),
-    }
+    let (group, owners_start) = wire::u32_at(s, at).ok()?;
+    let owners = owners_at(s, owners_start)?;
+    Some(OutputFields::NftMint { group, owners })
 }
 
 // What follows type 11: group, payload, owners.
-fn nft_transfer_at(s: &[u8], at: usize) -> OutputFound
+fn nft_transfer_at(s: &[u8], at: usize) -> Option<OutputFields>
     ensures { result ≡ nft_transfer_found s.now at }
 {
-    let Integer::Value(group, length_at) = wire::u32_at(s, at) else {
-        return OutputFound::Missing;
-    };
-    let Integer::Value(payload_length, payload_at) = wire::u32_at(s, length_at) else {
-        return OutputFound::Missing;
-    };
-    let End::At(owners_start) = wire::field_at(s, payload_at, payload_length as usize) else {
-        return OutputFound::Missing;
-    };
-    match owners_at(s, owners_start) {
-        OwnersFound::Missing => OutputFound::Missing,
-        OwnersFound::Fields(owners) => OutputFound::Fields(OutputFields::NftTransfer {
-            group,
-            payload_at,
-            payload_length,
-            owners,
-        }),
-    }
+    let (group, length_at) = wire::u32_at(s, at).ok()?;
+    let (payload_length, payload_at) = wire::u32_at(s, length_at).ok()?;
+    let owners_start = wire::field_at(s, payload_at, payload_length as usize).ok()?;
+    let owners = owners_at(s, owners_start)?;
+    Some(OutputFields::NftTransfer {
+        group,
+        payload_at,
+        payload_length,
+        owners,
+    })
 }
 
 // An output of any of the four types.
-pub fn output_at(s: &[u8], at: usize) -> OutputFound
+pub fn output_at(s: &[u8], at: usize) -> Option<OutputFields>
     ensures { result ≡ output_found s.now at }
 {
-    let Integer::Value(type_id, body_at) = wire::u32_at(s, at) else {
-        return OutputFound::Missing;
-    };
-    if type_id == 6 {
-        return mint_at(s, body_at);
+    let (type_id, body_at) = wire::u32_at(s, at).ok()?;
+    match type_id {
+        element::SECP_MINT => mint_at(s, body_at),
+        element::SECP_TRANSFER => transfer_at(s, body_at),
+        element::NFT_MINT => nft_mint_at(s, body_at),
+        _ => nft_transfer_at(s, body_at),
     }
-    if type_id == 7 {
-        return transfer_at(s, body_at);
-    }
-    if type_id == 10 {
-        return nft_mint_at(s, body_at);
-    }
-    nft_transfer_at(s, body_at)
 }
 
 // An input: transaction id, index, asset id, type, amount, address indices.
-pub fn input_at(s: &[u8], at: usize) -> InputFound
+pub fn input_at(s: &[u8], at: usize) -> Option<InputFields>
     ensures { result ≡ input_found s.now at }
 {
-    let End::At(index_at) = wire::field_at(s, at, 32) else {
-        return InputFound::Missing;
-    };
-    let Integer::Value(index, asset_at) = wire::u32_at(s, index_at) else {
-        return InputFound::Missing;
-    };
-    let End::At(type_at) = wire::field_at(s, asset_at, 32) else {
-        return InputFound::Missing;
-    };
-    let Integer::Value(_, amount_at) = wire::u32_at(s, type_at) else {
-        return InputFound::Missing;
-    };
-    let Integer::Value(amount, count_at) = wire::u64_at(s, amount_at) else {
-        return InputFound::Missing;
-    };
-    let Integer::Value(indices_count, indices_at) = wire::u32_at(s, count_at) else {
-        return InputFound::Missing;
-    };
-    InputFound::Fields(InputFields {
+    let index_at = wire::field_at(s, at, 32).ok()?;
+    let (index, asset_at) = wire::u32_at(s, index_at).ok()?;
+    let type_at = wire::field_at(s, asset_at, 32).ok()?;
+    let (_, amount_at) = wire::u32_at(s, type_at).ok()?;
+    let (amount, count_at) = wire::u64_at(s, amount_at).ok()?;
+    let (indices_count, indices_at) = wire::u32_at(s, count_at).ok()?;
+    Some(InputFields {
         index,
         amount,
         indices_at,
@@ -180,25 +95,15 @@ pub fn input_at(s: &[u8], at: usize) -> InputFound
 }
 
 // An operation's address indices, group and payload, and the offset just past them.
-fn terms_at(s: &[u8], at: usize) -> TermsFound
+fn terms_at(s: &[u8], at: usize) -> Option<(TermsFields, usize)>
     ensures { result ≡ terms_found s.now at }
 {
-    let Integer::Value(indices_count, indices_at) = wire::u32_at(s, at) else {
-        return TermsFound::Missing;
-    };
-    let End::At(group_at) = wire::field_at(s, indices_at, 4 * indices_count as usize) else {
-        return TermsFound::Missing;
-    };
-    let Integer::Value(group, length_at) = wire::u32_at(s, group_at) else {
-        return TermsFound::Missing;
-    };
-    let Integer::Value(payload_length, payload_at) = wire::u32_at(s, length_at) else {
-        return TermsFound::Missing;
-    };
-    let End::At(next) = wire::field_at(s, payload_at, payload_length as usize) else {
-        return TermsFound::Missing;
-    };
-    TermsFound::Fields(
+    let (indices_count, indices_at) = wire::u32_at(s, at).ok()?;
+    let group_at = wire::field_at(s, indices_at, 4 * indices_count as usize).ok()?;
+    let (group, length_at) = wire::u32_at(s, group_at).ok()?;
+    let (payload_length, payload_at) = wire::u32_at(s, length_at).ok()?;
+    let next = wire::field_at(s, payload_at, payload_length as usize).ok()?;
+    Some((
         TermsFields {
             indices_at,
             indices_count,
@@ -207,65 +112,46 @@ fn terms_at(s: &[u8], at: usize) -> TermsFound
             payload_length,
         },
         next,
-    )
+    ))
 }
 
-// What follows the terms: a list of owners for a mint (12), owners for a transfer (13).
-fn recipients_at(s: &[u8], at: usize, type_id: u64) -> RecipientsFound
+// What follows the terms: a list of owners for a mint, owners for a transfer.
+fn recipients_at(s: &[u8], at: usize, type_id: u64) -> Option<Recipients>
     ensures { result ≡ recipients_found type_id s.now at }
 {
-    if type_id == 12 {
-        let Integer::Value(owners_count, owners_at) = wire::u32_at(s, at) else {
-            return RecipientsFound::Missing;
-        };
-        return RecipientsFound::Fields(Recipients::Mint {
-            owners_at,
-            owners_count,
-        });
-    }
-    match owners_at(s, at) {
-        OwnersFound::Missing => RecipientsFound::Missing,
-        OwnersFound::Fields(owners) => RecipientsFound::Fields(Recipients::Transfer(owners)),
+    match type_id {
+        element::MINT_OPERATION => {
+            let (owners_count, owners_at) = wire::u32_at(s, at).ok()?;
+            Some(Recipients::Mint {
+                owners_at,
+                owners_count,
+            })
+        }
+        _ => Some(Recipients::Transfer(owners_at(s, at)?)),
     }
 }
 
 // What follows an operation's pairs: type, terms, recipients.
-fn action_at(s: &[u8], at: usize, outputs_at: usize, outputs_count: u64) -> OperationFound
+fn action_at(s: &[u8], at: usize, outputs_at: usize, outputs_count: u64) -> Option<OperationFields>
     ensures { result ≡ action_found outputs_at outputs_count s.now at }
 {
-    let Integer::Value(type_id, terms_start) = wire::u32_at(s, at) else {
-        return OperationFound::Missing;
-    };
-    match terms_at(s, terms_start) {
-        TermsFound::Missing => OperationFound::Missing,
-        TermsFound::Fields(terms, recipients_start) => match recipients_at(
-            s,
-            recipients_start,
-            type_id,
-        ) {
-            RecipientsFound::Missing => OperationFound::Missing,
-            RecipientsFound::Fields(recipients) => OperationFound::Fields(OperationFields {
-                outputs_at,
-                outputs_count,
-                terms,
-                recipients,
-            }),
-        },
-    }
+    let (type_id, terms_start) = wire::u32_at(s, at).ok()?;
+    let (terms, recipients_start) = terms_at(s, terms_start)?;
+    let recipients = recipients_at(s, recipients_start, type_id)?;
+    Some(OperationFields {
+        outputs_at,
+        outputs_count,
+        terms,
+        recipients,
+    })
 }
 
 // An operation: asset id, (id, index) pairs, action.
-pub fn operation_at(s: &[u8], at: usize) -> OperationFound
+pub fn operation_at(s: &[u8], at: usize) -> Option<OperationFields>
     ensures { result ≡ operation_found s.now at }
 {
-    let End::At(count_at) = wire::field_at(s, at, 32) else {
-        return OperationFound::Missing;
-    };
-    let Integer::Value(outputs_count, outputs_at) = wire::u32_at(s, count_at) else {
-        return OperationFound::Missing;
-    };
-    let End::At(action_start) = wire::field_at(s, outputs_at, 36 * outputs_count as usize) else {
-        return OperationFound::Missing;
-    };
+    let count_at = wire::field_at(s, at, 32).ok()?;
+    let (outputs_count, outputs_at) = wire::u32_at(s, count_at).ok()?;
+    let action_start = wire::field_at(s, outputs_at, 36 * outputs_count as usize).ok()?;
     action_at(s, action_start, outputs_at, outputs_count)
 }

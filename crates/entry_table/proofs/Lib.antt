@@ -1,4 +1,5 @@
 -- The laws that proofs cite
+pub mod Stepping
 pub mod Looping
 pub mod Inside
 pub mod Bounding

@@ -1,4 +1,5 @@
 -- The check with a table: what is stored is the rows of the entries. Assumes nothing.
+use Rattle.std.specs.Prelude.{Ok, Err, Some, None, Option, Result}
 use Prim.Native.Nat.{ℕ, suc, ◌+◌, ◌-◌, ◌*◌, ◌/◌, ◌%◌, ◌≤◌, ◌<◌}
 use mathlib.Core.Path.{◌≡◌, refl, sym, ap, ap₂, ◌∙◌, subst}
 use mathlib.Core.Bool.{Bool, true, false}
@@ -13,23 +14,21 @@ use Rattle.wire.specs.declared.Refusal.{Refusal}
 use Rattle.wire.specs.Bytes.{pick}
 use Rattle.wire.specs.Numbers.{refusal, no_room}
 use Rattle.wire.specs.Format.{on_result}
+use Rattle.std.specs.Option.{ok_or}
+use Rattle.std.specs.Result.{IsErr, IsErrAnd}
+use Rattle.wire.proofs.Trying.{passed-on, some-ok, none-err}
 use Rattle.wire.proofs.Bytes.{Slice, slice-bytes, found}
 use Rattle.transaction.specs.Entries.{EntryAt, row, rows}
 use Rattle.transaction.specs.Family.{entries}
 use Rattle.transaction.specs.Avm.{avm}
 use Rattle.transaction.specs.Answer.{checked}
 use Rattle.transaction.specs.declared.Layout.{Layout}
-use Rattle.transaction.specs.declared.Checked.{Checked}
-use Rattle.transaction.specs.declared.Checked.TheVariants as C
 use Rattle.transaction.proofs.Codec.{codec}
-use Rattle.transaction.proofs.Verdicts.{refused-check, checked-accepted}
+use Rattle.transaction.proofs.Verdicts.{checked-accepted}
 use Rattle.entry_walk.specs.code.Walk.{located, start, Ahead}
 use Rattle.entry_walk.proofs.Starting.{started}
 use Rattle.entry_table.specs.code.Rows.{numbers, put_row, put_rows, counted_rows, Counts, Puts}
 use Rattle.entry_table.specs.Table.{filled, listed, tabled}
-use Rattle.entry_table.specs.declared.Count.{Count}
-use Rattle.entry_table.specs.declared.Count.TheVariants as N
-use Rattle.entry_table.specs.declared.Tabled.TheVariants as T
 use Rattle.entry_table.proofs.Looping.{length-put_row}
 use Rattle.entry_table.proofs.Inside.{Inside, entries-inside}
 
@@ -80,12 +79,8 @@ length-rows (e ∷ es) = omega (arith, length-append (row e) (rows es), length-r
 
 -- ---- what the answers of the check and of the count say
 
-module _ (most : ℕ) (s t : List ℕ) (x : Checked) (p : x ≡ checked most s) where
-  pub on-refused : (e : Refusal) → x ≡ C.Refused e → filled (T.Refused e) t ≡ tabled most s t
-  on-refused e q =
-      sym (ap (λ o. on_result o (λ e. filled (T.Refused e) t) (λ v end. listed end (entries (avm most) v) t)) (refused-check most s e (found q p)))
-
-  module _ (w : Layout) (k : ℕ) (q : x ≡ C.Accepted w k) (b : Slice s) where
+module _ (most : ℕ) (s t : List ℕ) (x : Result (Layout × ℕ) Refusal) (p : x ≡ checked most s) where
+  module _ (w : Layout) (k : ℕ) (q : x ≡ Ok (w, k)) (b : Slice s) where
     -- the entries ahead of the first cursor, which are stored unchanged
     record Meets : Type 0 where
       es : List EntryAt
@@ -100,44 +95,53 @@ module _ (most : ℕ) (s t : List ℕ) (x : Checked) (p : x ≡ checked most s) 
         record {
           es = entries (avm most) v;
           ahead = subst (λ (w : Layout). Ahead s most w.type_id start (entries (avm most) v)) (sym h) (started s b most v k r);
-          all = ap (λ o. on_result o (λ e. filled (T.Refused e) t) (λ v end. listed end (entries (avm most) v) t)) r;
+          all = ap (λ o. on_result o (λ e. filled (Err e) t) (λ v end. listed end (entries (avm most) v) t)) r;
           small = flat_rows (length s) (entries (avm most) v) (omega (arith, wr.short)) (entries-inside most s v wr);
         }
 
-    module _ (y : Count) (d : Counts (length t / 3) w.type_id s y) where
+    module _ (y : Option ℕ) (d : Counts (length t / 3) w.type_id s y) where
       abbrev counted : y ≡ counted_rows (length t / 3) meets.es
       unfolding Counts
       counted = d most meets.es meets.ahead
 
-      pub on-too-many : y ≡ N.TooMany → (f : Refusal) → f ≡ refusal no_room 0 → filled (T.Refused f) t ≡ tabled most s t
-      on-too-many e f made =
+      too-many : y ≡ None → (f : Refusal) → f ≡ refusal no_room 0 → filled (Err f) t ≡ tabled most s t
+      too-many e f made =
           let es : List EntryAt = meets.es in
           let many : length t / 3 < length es = over (length t / 3) (length es) (found counted e) in
           let few = mod-lt (length t) (zero-lt-suc 2) in
-          ap (λ (r : Refusal). filled (T.Refused r) t) made
+          ap (λ (r : Refusal). filled (Err r) t) made
           ∙ sym (meets.all ∙ rw (lt-leb (length (rows es)) (length t) (omega (arith, length-rows es, div-add-mod' (length t) 3))))
         where
-          over : (m n : ℕ) → pick (leb n m) (N.Rows n) N.TooMany ≡ N.TooMany → m < n
+          over : (m n : ℕ) → pick (leb n m) (Some n) None ≡ None → m < n
           over m n = go (leb n m) refl
             where
-              go : (b : Bool) → leb n m ≡ b → pick b (N.Rows n) N.TooMany ≡ N.TooMany → m < n
+              go : (b : Bool) → leb n m ≡ b → pick b (Some n) None ≡ None → m < n
               go true e h = let z : ◌≡◌ {A = ℕ} 0 1 = cc in absurd (omega arith)
               go false e h = leb-false n m e
 
-      rows-inv : (m n k : ℕ) → pick (leb n m) (N.Rows n) N.TooMany ≡ N.Rows k → (n ≤ m) × (n ≡ k)
+      rows-inv : (m n k : ℕ) → pick (leb n m) (Some n) None ≡ Some k → (n ≤ m) × (n ≡ k)
       rows-inv m n k = go (leb n m) refl
         where
-          go : (b : Bool) → leb n m ≡ b → pick b (N.Rows n) N.TooMany ≡ N.Rows k → (n ≤ m) × (n ≡ k)
+          go : (b : Bool) → leb n m ≡ b → pick b (Some n) None ≡ Some k → (n ≤ m) × (n ≡ k)
           go true e h = (leb-true n m e, cc)
           go false e h = let z : ◌≡◌ {A = ℕ} 0 1 = cc in absurd (omega arith)
 
-      module _ (n : ℕ) (e : y ≡ N.Rows n) where
+      pub on-too-many : (f : Refusal) (z : Result ℕ Refusal) (e : Refusal) → z ≡ ok_or y f → z ≡ Err e → f ≡ refusal no_room 0
+          → (r : Result (ℕ × ℕ) Refusal) → IsErr r × IsErrAnd r (λ d. d ≡ e) → filled r t ≡ tabled most s t
+      on-too-many f z e p q made r h =
+          let (none, same) = none-err y f z p e q in
+          ap (λ (r : Result (ℕ × ℕ) Refusal). filled r t) (passed-on r e h) ∙ too-many none e (same ∙ made)
+
+      module _ (f : Refusal) (z : Result ℕ Refusal) (n : ℕ) (made : z ≡ ok_or y f) (i : z ≡ Ok n) where
+        abbrev e : y ≡ Some n
+        e = some-ok y f z made n i
+
         pub rows_fit : 3 * n ≤ length t
         rows_fit =
             let (few, same) = rows-inv (length t / 3) (length meets.es) n (found counted e) in
             omega (arith, div-add-mod' (length t) 3)
 
-        pub on-rows : (u : List ℕ) → Puts n w.type_id s t u → filled (T.Listed n k) u ≡ tabled most s t
+        pub on-rows : (u : List ℕ) → Puts n w.type_id s t u → filled (Ok (n, k)) u ≡ tabled most s t
         unfolding Puts
         on-rows u h =
             let es : List EntryAt = meets.es in
@@ -147,4 +151,4 @@ module _ (most : ℕ) (s t : List ℕ) (x : Checked) (p : x ≡ checked most s) 
             let last : 3 * (0 + length es) ≡ length (rows es) = omega arith in
             let put : u ≡ rows es ++ drop (length (rows es)) t =
             h most es meets.ahead same ∙ put_all 0 es t (omega arith) ∙ ap₂ (λ (p : List ℕ) (i : ℕ). p ++ drop i t) meets.small last in
-            ap₂ filled (ap (λ (m : ℕ). T.Listed m k) (sym same)) put ∙ sym (meets.all ∙ rw (le-leb (length (rows es)) (length t) (omega arith)))
+            ap₂ filled (ap (λ (m : ℕ). Ok (m, k)) (sym same)) put ∙ sym (meets.all ∙ rw (le-leb (length (rows es)) (length t) (omega arith)))

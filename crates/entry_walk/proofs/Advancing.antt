@@ -1,7 +1,9 @@
 -- Laws of the steps from one entry to the next: what was read is taken apart as the code takes it. Assumes nothing.
+use Rattle.std.specs.Prelude.{Ok, Err, Result}
 use Prim.Native.Nat.{ℕ, zero, suc, ◌+◌, ◌-◌, ◌*◌, ◌≤◌, ◌<◌}
 use mathlib.Core.Path.{◌≡◌, refl, sym, ap, ap₂, ◌∙◌, subst, subst₂}
 use mathlib.Core.Bool.{not}
+use mathlib.Core.Logic.{◌⊎◌, inl, inr}
 use mathlib.Core.List.{List, [], ◌∷◌, ◌++◌, append_assoc}
 use native.Mathlib.Omega.{arith}
 use native.Mathlib.Numerals.{sub-one}
@@ -10,10 +12,6 @@ use lib.ListN.{length, take, drop, length-append, length-drop}
 use lib.Dec.{eqb}
 use borrow.Author.Tests.{eqb-true}
 use Rattle.wire.specs.declared.Refusal.{Refusal}
-use Rattle.wire.specs.declared.End.{End}
-use Rattle.wire.specs.declared.End.TheVariants as P
-use Rattle.wire.specs.declared.Integer.{Integer}
-use Rattle.wire.specs.declared.Integer.TheVariants as N
 use Rattle.wire.specs.Bytes.{below}
 use Rattle.wire.specs.Numbers.{by, out_of_order, unknown_type, wrong_count}
 use Rattle.wire.specs.Format.{Format, took, refused, read}
@@ -27,6 +25,7 @@ use Rattle.wire.specs.Parsers.{list_parse}
 use Rattle.wire.specs.laws.Items.{list-inv}
 use Rattle.wire.specs.code.Answer.{ended, valued, Passes}
 use Rattle.wire.proofs.Bytes.{Slice, slice-bytes, found}
+use Rattle.wire.proofs.Trying.{same-parts}
 use Rattle.wire.proofs.Reading as W
 use Rattle.element.specs.Outputs.{Output, output}
 use Rattle.element.specs.Operations.{InitialState, Fx, secp_fx, fx_code, fx_outputs, fx_id, state_outputs, initial_state_after, initial_state}
@@ -43,7 +42,7 @@ use Rattle.plan.specs.declared.Due.TheVariants as D
 use Rattle.plan.specs.Due.{tail, due, due_of}
 use Rattle.plan.specs.code.Rows.{last_phase, Live, entry_of, FieldPast, ElementTells}
 use Rattle.plan.proofs.RowLaws.{live-phase, live-next, if-nothing, if-end, if-field, if-list}
-use Rattle.entry_walk.specs.code.Walk.{ahead, Below, Shorter, Entered, located, credential_bytes, Followed, Rest, Credentials, PlanAhead, ListAhead}
+use Rattle.entry_walk.specs.code.Walk.{Below, Shorter, Entered, located, credential_bytes, Followed, Rest, Credentials, PlanAhead, ListAhead}
 use Rattle.entry_walk.specs.code.Walk.{StateAhead, AheadIn, Ahead, First, Advances, AdvanceAhead, ElementAdvance, StateOutputAdvance, CredentialAdvance}
 use Rattle.entry_walk.specs.code.Walk.{LaterAdvance, CountedAdvance}
 use Rattle.entry_walk.specs.declared.Cursor.{Cursor}
@@ -114,28 +113,27 @@ module _ {A : Type 0} (E : List ℕ → Format A) (entry : ℕ → ℕ → A →
 
 -- ---- an answer agrees with what was read
 
-module _ (s : List ℕ) (at : ℕ) (x : Integer) (p : x ≡ valued (integer 4) s at) where
-  integer-same : (c n d m : ℕ) → x ≡ N.Value c n → read (integer 4) s at ≡ took d m → (c ≡ d) × (n ≡ m)
+module _ (s : List ℕ) (at : ℕ) (x : Result (ℕ × ℕ) Refusal) (p : x ≡ valued (integer 4) s at) where
+  integer-same : (c n d m : ℕ) → x ≡ Ok (c, n) → read (integer 4) s at ≡ took d m → (c ≡ d) × (n ≡ m)
   integer-same c n d m q e =
-      let i : N.Value c n ≡ N.Value d m = found q p ∙ W.parse-took (integer 4) s at N.Refused N.Value d m e in
-      (cc, cc)
+      same-parts (found q p ∙ W.parse-took (integer 4) s at Err (λ v n. Ok (v, n)) d m e)
 
-  integer-never : (e : Refusal) (d m : ℕ) → x ≡ N.Refused e → read (integer 4) s at ≡ took d m → ⊥
+  integer-never : (e : Refusal) (d m : ℕ) → x ≡ Err e → read (integer 4) s at ≡ took d m → ⊥
   integer-never e d m q h =
-      let i : N.Refused e ≡ N.Value d m = found q p ∙ W.parse-took (integer 4) s at N.Refused N.Value d m h in
+      let i : ◌≡◌ {A = Result (ℕ × ℕ) Refusal} (Err e) (Ok (d, m)) = found q p ∙ W.parse-took (integer 4) s at Err (λ v n. Ok (v, n)) d m h in
       let z : ◌≡◌ {A = ℕ} 0 1 = cc in
       omega arith
 
-next-same : (x : End) (n m : ℕ) → x ≡ P.At n → x ≡ P.At m → n ≡ m
+next-same : (x : Result ℕ Refusal) (n m : ℕ) → x ≡ Ok n → x ≡ Ok m → n ≡ m
 next-same x n m p q = cc
 
-next-never : (x : End) (e : Refusal) (m : ℕ) → x ≡ P.Refused e → x ≡ P.At m → ⊥
+next-never : (x : Result ℕ Refusal) (e : Refusal) (m : ℕ) → x ≡ Err e → x ≡ Ok m → ⊥
 next-never x e m p q = let z : ◌≡◌ {A = ℕ} 0 1 = cc in omega arith
 
-value_same : (x : Integer) (c n d m : ℕ) → x ≡ N.Value c n → x ≡ N.Value d m → n ≡ m
-value_same x c n d m p q = cc
+value_same : (x : Result (ℕ × ℕ) Refusal) (c n d m : ℕ) → x ≡ Ok (c, n) → x ≡ Ok (d, m) → n ≡ m
+value_same x c n d m p q = (same-parts (sym p ∙ q)).1
 
-value-never : (x : Integer) (e : Refusal) (d m : ℕ) → x ≡ N.Refused e → x ≡ N.Value d m → ⊥
+value-never : (x : Result (ℕ × ℕ) Refusal) (e : Refusal) (d m : ℕ) → x ≡ Err e → x ≡ Ok (d, m) → ⊥
 value-never x e d m p q = let z : ◌≡◌ {A = ℕ} 0 1 = cc in omega arith
 
 pub integer-next : (s : List ℕ) (b : Slice s) (at v n : ℕ) → read (integer 4) s at ≡ took v n → n ≡ at + 4
@@ -143,12 +141,12 @@ integer-next s b at v n h = written_next (integer 4) s at v n b h ∙ ap (λ j. 
 
 -- ---- into a list
 
-module _ (phase : ℕ) (s : List ℕ) (at : ℕ) (x : Integer) (p : x ≡ valued (integer 4) s at) where
-  pub counted-short : (e : Refusal) (r : Advance) → x ≡ N.Refused e → CountedAdvance phase s at r
+module _ (phase : ℕ) (s : List ℕ) (at : ℕ) (x : Result (ℕ × ℕ) Refusal) (p : x ≡ valued (integer 4) s at) where
+  pub counted-short : (e : Refusal) (r : Advance) → x ≡ Err e → CountedAdvance phase s at r
   unfolding CountedAdvance
   counted-short e r q d m h = absurd (integer-never s at x p e d m q h)
 
-  pub counted-into : (c n : ℕ) → x ≡ N.Value c n → CountedAdvance phase s at (T.Moved record { phase = phase; at = n; left = c; inner = 0 })
+  pub counted-into : (c n : ℕ) → x ≡ Ok (c, n) → CountedAdvance phase s at (T.Moved record { phase = phase; at = n; left = c; inner = 0 })
   unfolding CountedAdvance
   counted-into c n q d m h =
       let (i, j) = integer-same s at x p c n d m q h in
@@ -209,7 +207,7 @@ module _ (type_id : ℕ) (s : List ℕ) (c : Cursor) where
       abbrev into : ℕ → ℕ → Cursor
       into n k = record { phase = c.phase + 1; at = n; left = k; inner = 0 }
 
-      pub later-end : x ≡ D.Finish → LaterAdvance type_id s c r
+      later-end : x ≡ D.Finish → LaterAdvance type_id s c r
       unfolding LaterAdvance CountedAdvance
       later-end q most es a =
           let q' = due (c.phase + 1) (plan_of type_id) in
@@ -217,7 +215,7 @@ module _ (type_id : ℕ) (s : List ℕ) (c : Cursor) where
           subst (Advances s most type_id es) (sym (h b.value b.next b.stands))
           (of_end s most (due (c.phase + 1 + 1) (plan_of type_id)) (into b.next b.value) es q' x p q b.after)
 
-      pub later-list : (l : ListName) (n : ℕ) → x ≡ D.List l n → LaterAdvance type_id s c r
+      later-list : (l : ListName) (n : ℕ) → x ≡ D.List l n → LaterAdvance type_id s c r
       unfolding LaterAdvance CountedAdvance
       later-list l n q most es a =
           let q' = due (c.phase + 1) (plan_of type_id) in
@@ -228,6 +226,10 @@ module _ (type_id : ℕ) (s : List ℕ) (c : Cursor) where
           (live-next type_id (c.phase + 1) (ahead-live s most q' c.at es a)) a in
           subst (Advances s most type_id es) (sym (h b.value b.next b.stands))
           (of-list s most L (into b.next b.value) es q' x p l n q (outside s most l b.value L b.next es b.after))
+
+      pub later-counted : (x ≡ D.Finish) ⊎ ((l : ListName) × (n : ℕ) × (x ≡ D.List l n)) → LaterAdvance type_id s c r
+      later-counted (inl q) = later-end q
+      later-counted (inr (l, n, q)) = later-list l n q
 
     pub later-field : (f : FieldName) → x ≡ D.Field f → (n : ℕ) → FieldPast f s c.at n
         → LaterAdvance type_id s c (T.Moved record { phase = c.phase + 1; at = n; left = 0; inner = 0 })
@@ -240,7 +242,7 @@ module _ (type_id : ℕ) (s : List ℕ) (c : Cursor) where
         (λ p j a. subst₂ (λ (p : Plan) (m : ℕ). PlanAhead s most p m es) (sym j) (sym (t most a.value a.next a.stands)) a.after)
         (live-next type_id (c.phase + 1) (ahead-live s most q' c.at es a)) a
 
-pub ruleset leading = (later-over, later-nothing, later-end, later-list, later-field)
+pub ruleset leading = (later-over, later-nothing, later-counted, later-field)
 
 -- ---- an element of a list
 
@@ -323,14 +325,14 @@ module _ (s : List ℕ) (c : Cursor) (b : Slice s) (more : 0 < c.left) where
         of-list s most (due (c.phase + 1) (plan_of type_id)) record { phase = c.phase; at = n; left = c.left - 1; inner = i } es
         (due c.phase (plan_of type_id)) (due_of (due c.phase (plan_of type_id))) refl l least q
 
-  module _ (l : ListName) (y : Integer) (t : ElementTells l s c.at y) where
-    pub element-refused : (e : Refusal) (r : Advance) → y ≡ N.Refused e → ElementAdvance l s c r
+  module _ (l : ListName) (y : Result (ℕ × ℕ) Refusal) (t : ElementTells l s c.at y) where
+    pub element-refused : (e : Refusal) (r : Advance) → y ≡ Err e → ElementAdvance l s c r
     unfolding ElementAdvance
     element-refused e r i type_id least most es q a =
         let o = hand l most (due (c.phase + 1) (plan_of type_id)) es a in
         absurd (value-never y e _ _ i (t o.prev o.value o.next o.stands))
 
-    pub element-found : (g n k : ℕ) → y ≡ N.Value g n → k ≡ entry_of l → (k ≡ 6 → ⊥)
+    pub element-found : (g n k : ℕ) → y ≡ Ok (g, n) → k ≡ entry_of l → (k ≡ 6 → ⊥)
         → ElementAdvance l s c (T.Found record { kind = k; start = c.at; end = n } record { phase = c.phase; at = n; left = c.left - 1; inner = 0 })
     unfolding ElementAdvance
     element-found g n k i j z type_id least most es q a =
@@ -347,16 +349,16 @@ module _ (s : List ℕ) (c : Cursor) (b : Slice s) (more : 0 < c.left) where
               (outside s most l (c.left - 1) p n o.others (subst (λ (m : ℕ). ListAhead s most l (c.left - 1) p m o.others) same o.after));
         }
 
-  module _ (x : Integer) (p : x ≡ valued (integer 4) s c.at) where
-    pub state-short : (e : Refusal) (r : Advance) → x ≡ N.Refused e → ElementAdvance L.State s c r
+  module _ (x : Result (ℕ × ℕ) Refusal) (p : x ≡ valued (integer 4) s c.at) where
+    pub state-short : (e : Refusal) (r : Advance) → x ≡ Err e → ElementAdvance L.State s c r
     unfolding ElementAdvance
     state-short e r i type_id least most es q a =
         let o = hand L.State most (due (c.phase + 1) (plan_of type_id)) es a in
         let st = state-of s b o.prev c.at o.value o.next o.stands in
         absurd (integer-never s c.at x p e _ _ i st.id)
 
-    module _ (v m : ℕ) (i : x ≡ N.Value v m) (y : Integer) (t : y ≡ valued (integer 4) s m) where
-      pub state-short-count : (e : Refusal) (r : Advance) → y ≡ N.Refused e → ElementAdvance L.State s c r
+    module _ (v m : ℕ) (i : x ≡ Ok (v, m)) (y : Result (ℕ × ℕ) Refusal) (t : y ≡ valued (integer 4) s m) where
+      pub state-short-count : (e : Refusal) (r : Advance) → y ≡ Err e → ElementAdvance L.State s c r
       unfolding ElementAdvance
       state-short-count e r j type_id least most es q a =
           let o = hand L.State most (due (c.phase + 1) (plan_of type_id)) es a in
@@ -364,7 +366,7 @@ module _ (s : List ℕ) (c : Cursor) (b : Slice s) (more : 0 < c.left) where
           let (_, same) = integer-same s c.at x p v m _ _ i st.id in
           absurd (integer-never s m y t e _ _ j (subst (λ (m : ℕ). read (integer 4) s m ≡ took st.count st.first) (sym same) st.counts))
 
-      pub state-into : (k n : ℕ) → y ≡ N.Value k n → ElementAdvance L.State s c (T.Moved record { phase = c.phase; at = n; left = c.left - 1; inner = k })
+      pub state-into : (k n : ℕ) → y ≡ Ok (k, n) → ElementAdvance L.State s c (T.Moved record { phase = c.phase; at = n; left = c.left - 1; inner = k })
       unfolding ElementAdvance
       state-into k n j type_id least most es q a =
           let p' = due (c.phase + 1) (plan_of type_id) in
@@ -394,8 +396,8 @@ pub ruleset entering = (element-state, element-refused, element-found, state-sho
 
 -- ---- an output of an initial state
 
-module _ (s : List ℕ) (c : Cursor) (b : Slice s) (more : 0 < c.inner) (y : End) (t : (fx : Fx) → Passes (output (fx_outputs fx)) s c.at y) where
-  passed : (fx : Fx) (prev : List ℕ) (v : Output) (m : ℕ) → read (not_below (output (fx_outputs fx)) prev) s c.at ≡ took v m → y ≡ P.At m
+module _ (s : List ℕ) (c : Cursor) (b : Slice s) (more : 0 < c.inner) (y : Result ℕ Refusal) (t : (fx : Fx) → Passes (output (fx_outputs fx)) s c.at y) where
+  passed : (fx : Fx) (prev : List ℕ) (v : Output) (m : ℕ) → read (not_below (output (fx_outputs fx)) prev) s c.at ≡ took v m → y ≡ Ok m
   unfolding guard
   passed fx prev v m h =
       let (a, k, ea, e₁) = parse-inv (output (fx_outputs fx)) s c.at _ v m h in
@@ -409,7 +411,7 @@ module _ (s : List ℕ) (c : Cursor) (b : Slice s) (more : 0 < c.inner) (y : End
       → Rest s (not_below (output (fx_outputs fx))) state_output_entry Later c.inner c.at es → Output-hand fx Later es
   output-hand fx Later es = one_of (not_below (output (fx_outputs fx))) state_output_entry Later s b c.inner c.at es more
 
-  pub output-refused : (e : Refusal) (r : Advance) → y ≡ P.Refused e → StateOutputAdvance s c r
+  pub output-refused : (e : Refusal) (r : Advance) → y ≡ Err e → StateOutputAdvance s c r
   unfolding StateOutputAdvance AdvanceAhead
   output-refused e r i type_id least l q most es a =
       let p = due (c.phase + 1) (plan_of type_id) in
@@ -417,7 +419,7 @@ module _ (s : List ℕ) (c : Cursor) (b : Slice s) (more : 0 < c.inner) (y : End
       let o = output-hand fx (ListAhead s most l c.left p) es h in
       absurd (next-never y e _ i (passed fx o.prev o.value o.next o.stands))
 
-  pub output-found : (n : ℕ) → y ≡ P.At n
+  pub output-found : (n : ℕ) → y ≡ Ok n
       → StateOutputAdvance s c (T.Found record { kind = 6; start = c.at; end = n } record { phase = c.phase; at = n; left = c.left; inner = c.inner - 1 })
   unfolding StateOutputAdvance AdvanceAhead
   output-found n i type_id least l q most es a =
@@ -501,18 +503,18 @@ module _ (s : List ℕ) (b : Slice s) where
       }
 
   -- that credential is skipped by its length
-  leading-ends : (w : Want) (ws : List Want) (at m : ℕ) → Leading w ws at m → ended credential_bytes s at ≡ P.At (at + (8 + w.signatures * signature_width))
+  leading-ends : (w : Want) (ws : List Want) (at m : ℕ) → Leading w ws at m → ended credential_bytes s at ≡ Ok (at + (8 + w.signatures * signature_width))
   unfolding and_then
   leading-ends w ws at m f =
       let n : ℕ = w.signatures in
       let next : at + 8 + signature_width * n ≡ at + (8 + n * signature_width) = omega (arith, mul_comm n signature_width) in
-      W.parse-took (integer 4) s at P.Refused _ (credential_code w.type) (at + 4) f.type
-      ∙ W.parse-took (integer 4) s (at + 4) P.Refused _ n (at + 8) f.count
-      ∙ sym (W.blob-has (signature_width * n) s (at + 8) (P.At (at + 8 + signature_width * n)) P.Refused _ f.room refl)
-      ∙ ap P.At next
+      W.parse-took (integer 4) s at Err _ (credential_code w.type) (at + 4) f.type
+      ∙ W.parse-took (integer 4) s (at + 4) Err _ n (at + 8) f.count
+      ∙ sym (W.blob-has (signature_width * n) s (at + 8) (Ok (at + 8 + signature_width * n)) Err _ f.room refl)
+      ∙ ap Ok next
 
-module _ (s : List ℕ) (c : Cursor) (b : Slice s) (more : 0 < c.left) (y : End) (t : y ≡ ended credential_bytes s c.at) where
-  pub credential-refused : (e : Refusal) (r : Advance) → y ≡ P.Refused e → CredentialAdvance s c r
+module _ (s : List ℕ) (c : Cursor) (b : Slice s) (more : 0 < c.left) (y : Result ℕ Refusal) (t : y ≡ ended credential_bytes s c.at) where
+  pub credential-refused : (e : Refusal) (r : Advance) → y ≡ Err e → CredentialAdvance s c r
   unfolding CredentialAdvance AdvanceAhead
   credential-refused e r i type_id q most es a =
       let h = in_end s most (due (c.phase + 1) (plan_of type_id)) c es (due c.phase (plan_of type_id))
@@ -523,7 +525,7 @@ module _ (s : List ℕ) (c : Cursor) (b : Slice s) (more : 0 < c.left) (y : End)
       go [] l m z h = omega arith
       go (w ∷ ws) l m z h = next-never y e _ i (t ∙ leading-ends s b w ws c.at m (leading-of s b w ws c.at l m h))
 
-  pub credential-found : (n : ℕ) → y ≡ P.At n
+  pub credential-found : (n : ℕ) → y ≡ Ok n
       → CredentialAdvance s c (T.Found record { kind = 7; start = c.at; end = n } record { phase = c.phase; at = n; left = c.left - 1; inner = 0 })
   unfolding CredentialAdvance AdvanceAhead credential_entries
   credential-found n i type_id q most es a =
@@ -563,13 +565,17 @@ module _ (type_id : ℕ) (s : List ℕ) (c : Cursor) (r : Advance) (x : Due) (p 
   abbrev after-hand : Plan
   after-hand = due (c.phase + 1) (plan_of type_id)
 
-  pub advance-nothing : x ≡ D.Nothing → LaterAdvance type_id s c r → AdvanceAhead type_id s c r
+  advance-nothing : x ≡ D.Nothing → LaterAdvance type_id s c r → AdvanceAhead type_id s c r
   unfolding AdvanceAhead LaterAdvance
   advance-nothing q h most es a = h most es (in-nothing s most after-hand c es at-hand x p q a)
 
-  pub advance-field : (f : FieldName) → x ≡ D.Field f → LaterAdvance type_id s c r → AdvanceAhead type_id s c r
+  advance-field : (f : FieldName) → x ≡ D.Field f → LaterAdvance type_id s c r → AdvanceAhead type_id s c r
   unfolding AdvanceAhead LaterAdvance
   advance-field f q h most es a = h most es (in_field s most after-hand c es at-hand x p f q a)
+
+  pub advance-none : (x ≡ D.Nothing) ⊎ ((f : FieldName) × (x ≡ D.Field f)) → LaterAdvance type_id s c r → AdvanceAhead type_id s c r
+  advance-none (inl q) = advance-nothing q
+  advance-none (inr (f, q)) = advance-field f q
 
   pub advance-credential : x ≡ D.Finish → CredentialAdvance s c r → AdvanceAhead type_id s c r
   unfolding CredentialAdvance
@@ -604,7 +610,7 @@ advance-done type_id s c x p q z most es a =
     none [] i j = i
     none (w ∷ ws) i j = absurd (omega arith)
 
-pub ruleset stepping = (advance-nothing, advance-field, advance-credential, advance-output, advance-element, advance-list-later, advance-done)
+pub ruleset stepping = (advance-none, advance-credential, advance-output, advance-element, advance-list-later, advance-done)
 
 -- ---- every advance leaves less ahead of the cursor
 
@@ -613,12 +619,9 @@ below_more m n (T.Found r c) h l = omega arith
 below_more m n (T.Moved c) h l = omega arith
 below_more m n T.Done h l = tt
 
-module _ (s : List ℕ) (at : ℕ) (b : Slice s) (x : Integer) (p : x ≡ valued (integer 4) s at) (k n : ℕ) (q : x ≡ N.Value k n) where
+module _ (s : List ℕ) (at : ℕ) (b : Slice s) (x : Result (ℕ × ℕ) Refusal) (p : x ≡ valued (integer 4) s at) (k n : ℕ) (q : x ≡ Ok (k, n)) where
   pub counted-entered : (phase : ℕ) → Entered phase (T.Moved record { phase = phase; at = n; left = k; inner = 0 })
   counted-entered phase = omega (arith, W.value-small 4 s at x k n p q b)
 
   pub state-shorter : (c : Cursor) → 0 < c.left → Shorter c (T.Moved record { phase = c.phase; at = n; left = c.left - 1; inner = k })
   state-shorter c h = omega (arith, W.value-small 4 s at x k n p q b)
-
-pub later-shorter : (c : Cursor) (r : Advance) → c.phase ≤ last_phase → Entered (c.phase + 1) r → Shorter c r
-later-shorter c r h e = below_more _ (ahead c) r e (omega arith)

@@ -5,6 +5,7 @@
 pub mod steps;
 
 // The kinds of entries that are not elements of a list: an initial state's output, and a credential.
+// Kinds stay numbers: a caller's table holds each as one u32 (entry_table's `put_row`), and `located` states that number.
 pub(crate) const STATE_OUTPUT: u32 = 6;
 
 pub(crate) const CREDENTIAL: u32 = 7;

@@ -8,7 +8,7 @@ ghost use Rattle.entry_walk.specs.code.Walk.{credential_bytes, Entered, Shorter}
 use crate::{Advance, CREDENTIAL, Cursor, HEAD_WIDTH, Row, STATE_OUTPUT};
 use plan::{Due, rows};
 use transaction::ListName;
-use wire::{End, Integer};
+use wire::Refusal;
 
 // The cursor before the first segment.
 pub fn first() -> Cursor
@@ -27,7 +27,7 @@ fn advance_counted(s: &[u8], phase: u32, at: usize) -> Advance
     ensures counted_advance { CountedAdvance phase s.now at result }
     ensures entered { Entered phase result }
 {
-    let Integer::Value(left, first) = wire::u32_at(s, at) else {
+    let Ok((left, first)) = wire::u32_at(s, at) else {
         return Advance::Done;
     };
     Advance::Moved(Cursor {
@@ -49,8 +49,7 @@ fn advance_later(s: &[u8], type_id: u32, cursor: Cursor) -> Advance
     let phase = cursor.phase + 1;
     match rows::due_at(type_id, phase) {
         Due::Nothing => Advance::Done,
-        Due::Finish => advance_counted(s, phase, cursor.at),
-        Due::List(_, _) => advance_counted(s, phase, cursor.at),
+        Due::Finish | Due::List(_, _) => advance_counted(s, phase, cursor.at),
         Due::Field(field) => Advance::Moved(Cursor {
             phase,
             at: rows::field_past(s, cursor.at, field),
@@ -66,17 +65,17 @@ fn advance_state(s: &[u8], cursor: Cursor) -> Advance
     ensures element_advance { ElementAdvance L.State s.now cursor result }
     ensures shorter { Shorter cursor result }
 {
-    let Integer::Value(_, outputs) = wire::u32_at(s, cursor.at) else {
+    let Ok((_, outputs)) = wire::u32_at(s, cursor.at) else {
         return Advance::Done;
     };
-    let Integer::Value(inner, first) = wire::u32_at(s, outputs) else {
+    let Ok((inner, first)) = wire::u32_at(s, outputs) else {
         return Advance::Done;
     };
     Advance::Moved(Cursor {
-        phase: cursor.phase,
         at: first,
         left: cursor.left - 1,
         inner,
+        ..cursor
     })
 }
 
@@ -90,57 +89,51 @@ fn advance_element(s: &[u8], list: ListName, cursor: Cursor) -> Advance
     if entry_kind == STATE_OUTPUT {
         return advance_state(s, cursor);
     }
-    match rows::element_past(s, cursor.at, list) {
-        Integer::Refused(_) => Advance::Done,
-        Integer::Value(_, end) => Advance::Found(
-            Row {
-                kind: entry_kind,
-                start: cursor.at,
-                end,
-            },
-            Cursor {
-                phase: cursor.phase,
-                at: end,
-                left: cursor.left - 1,
-                inner: 0,
-            },
-        ),
-    }
+    let Ok((_, end)) = rows::element_past(s, cursor.at, list) else {
+        return Advance::Done;
+    };
+    let row = Row {
+        kind: entry_kind,
+        start: cursor.at,
+        end,
+    };
+    let next = Cursor {
+        at: end,
+        left: cursor.left - 1,
+        inner: 0,
+        ..cursor
+    };
+    Advance::Found(row, next)
 }
 
+// The functions that find a row stay apart: one for all would take what is skipped, the kind, and which count goes down.
 fn advance_state_output(s: &[u8], cursor: Cursor) -> Advance
     requires { 0 < cursor.inner }
     ensures state_output_advance { StateOutputAdvance s.now cursor result }
     ensures shorter { Shorter cursor result }
 {
-    match element_lengths::output_past(s, cursor.at) {
-        End::Refused(_) => Advance::Done,
-        End::At(end) => Advance::Found(
-            Row {
-                kind: STATE_OUTPUT,
-                start: cursor.at,
-                end,
-            },
-            Cursor {
-                phase: cursor.phase,
-                at: end,
-                left: cursor.left,
-                inner: cursor.inner - 1,
-            },
-        ),
-    }
+    let Ok(end) = element_lengths::output_past(s, cursor.at) else {
+        return Advance::Done;
+    };
+    let row = Row {
+        kind: STATE_OUTPUT,
+        start: cursor.at,
+        end,
+    };
+    let next = Cursor {
+        at: end,
+        inner: cursor.inner - 1,
+        ..cursor
+    };
+    Advance::Found(row, next)
 }
 
 // The offset just past a credential: its type, the count of its signatures, and the signatures.
-fn credential_past(s: &[u8], at: usize) -> End
+fn credential_past(s: &[u8], at: usize) -> Result<usize, Refusal>
     ensures { result ≡ ended credential_bytes s.now at }
 {
-    let Integer::Value(_, count_at) = wire::u32_at(s, at) else {
-        return End::Refused(wire::cut(s, at, 4));
-    };
-    let Integer::Value(signatures, first) = wire::u32_at(s, count_at) else {
-        return End::Refused(wire::cut(s, count_at, 4));
-    };
+    let (_, count_at) = wire::u32_at(s, at)?;
+    let (signatures, first) = wire::u32_at(s, count_at)?;
     wire::field_at(s, first, transaction::SIGNATURE_WIDTH * signatures as usize)
 }
 
@@ -149,22 +142,21 @@ fn advance_credential(s: &[u8], cursor: Cursor) -> Advance
     ensures credential_advance { CredentialAdvance s.now cursor result }
     ensures shorter { Shorter cursor result }
 {
-    match credential_past(s, cursor.at) {
-        End::Refused(_) => Advance::Done,
-        End::At(end) => Advance::Found(
-            Row {
-                kind: CREDENTIAL,
-                start: cursor.at,
-                end,
-            },
-            Cursor {
-                phase: cursor.phase,
-                at: end,
-                left: cursor.left - 1,
-                inner: 0,
-            },
-        ),
-    }
+    let Ok(end) = credential_past(s, cursor.at) else {
+        return Advance::Done;
+    };
+    let row = Row {
+        kind: CREDENTIAL,
+        start: cursor.at,
+        end,
+    };
+    let next = Cursor {
+        at: end,
+        left: cursor.left - 1,
+        inner: 0,
+        ..cursor
+    };
+    Advance::Found(row, next)
 }
 
 // The entry at a cursor and the cursor just past it; or, at the end of a segment, the cursor in the next one.
@@ -173,22 +165,11 @@ pub fn advance(s: &[u8], type_id: u32, cursor: Cursor) -> Advance
     ensures shorter { Shorter cursor result }
 {
     match rows::due_at(type_id, cursor.phase) {
-        Due::Nothing => advance_later(s, type_id, cursor),
-        Due::Field(_) => advance_later(s, type_id, cursor),
-        Due::Finish => {
-            if cursor.left == 0 {
-                return Advance::Done;
-            }
-            advance_credential(s, cursor)
-        }
-        Due::List(list, _) => {
-            if 0 < cursor.inner {
-                return advance_state_output(s, cursor);
-            }
-            if 0 < cursor.left {
-                return advance_element(s, list, cursor);
-            }
-            advance_later(s, type_id, cursor)
-        }
+        Due::Nothing | Due::Field(_) => advance_later(s, type_id, cursor),
+        Due::Finish if cursor.left == 0 => Advance::Done,
+        Due::Finish => advance_credential(s, cursor),
+        Due::List(_, _) if 0 < cursor.inner => advance_state_output(s, cursor),
+        Due::List(list, _) if 0 < cursor.left => advance_element(s, list, cursor),
+        Due::List(_, _) => advance_later(s, type_id, cursor),
     }
 }

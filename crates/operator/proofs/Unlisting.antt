@@ -1,4 +1,5 @@
 -- Rows and places of the answers of calls with a lent table are small, so each answer can be unpacked again. Assumes nothing.
+use Rattle.std.specs.Prelude.{Ok, Err, Result}
 use Prim.Native.Nat.{ℕ, ◌*◌, ◌+◌, ◌%◌, ◌≤◌}
 use mathlib.Core.Path.{◌≡◌, refl, sym, ap, subst⁻¹}
 use mathlib.Core.Bool.{Bool, true, false}
@@ -10,19 +11,16 @@ use Rattle.wire.specs.Bytes.{Bytes, pick}
 use Rattle.wire.specs.Numbers.{refusal, number_of, no_room}
 use Rattle.wire.proofs.Numbers.{number-range}
 use Rattle.wire.specs.declared.Refusal.{Refusal}
-use Rattle.wire.specs.Format.{Result, took, refused, on_result}
+use Rattle.wire.specs.Format.{Parsed, took, refused, on_result}
 use Rattle.transaction.specs.Family.{Signed, unsigned, wants, check, entries}
 use Rattle.transaction.specs.Avm.{avm}
 use Rattle.transaction.specs.Answer.{memo_most, layout}
 use Rattle.transaction.specs.Entries.{rows}
-use Rattle.transaction.specs.declared.Checked.TheVariants as C
 use Rattle.transaction.proofs.Codec.{codec}
 use Rattle.transaction.proofs.Signed.{parts-took, spaced-slots}
 use Rattle.transaction.proofs.Verdicts.{checked-place}
 use Rattle.entry_table.specs.Table.{filled, tabled, tabled_number}
 use Rattle.entry_table.specs.Table as Entries
-use Rattle.entry_table.specs.declared.Tabled.{Tabled}
-use Rattle.entry_table.specs.declared.Tabled.TheVariants as T
 use Rattle.entry_table.proofs.Bounding.{entries-few}
 use Rattle.draft.specs.Reader.{reader}
 use Rattle.draft.specs.Packing.{TakenApart}
@@ -34,17 +32,17 @@ use Rattle.draft_slot_table.proofs.Rows.{reader-places}
 use Rattle.operator.specs.Listing.{reported, packed, Unlisted}
 
 -- the number of the answer is at most 21, and its rows or its place at most 65,536
-record Small (a : Tabled) : Type 0 where
+record Small (a : Result (ℕ × ℕ) Refusal) : Type 0 where
   number : tabled_number a ≤ 21
   rest : reported a ≤ 65536
 
-small-apart : (a : Tabled) → Small a → TakenApart (packed a) (tabled_number a) (reported a)
+small-apart : (a : Result (ℕ × ℕ) Refusal) → Small a → TakenApart (packed a) (tabled_number a) (reported a)
 unfolding packed
 small-apart a h =
     let e : tabled_number a * 4294967296 + reported a % 4294967296 ≡ tabled_number a * 4294967296 + reported a = omega (arith, h.rest) in
     subst⁻¹ (λ (n : ℕ). TakenApart n (tabled_number a) (reported a)) e (apart (tabled_number a) (reported a) h.number h.rest)
 
-refused-small : (e : Refusal) → e.place ≤ 65536 → Small (T.Refused e)
+refused-small : (e : Refusal) → e.place ≤ 65536 → Small (Err e)
 refused-small e h = record { number = (number-range e.rule).1; rest = go (eqb (number_of e) 0) }
   where
     go : (b : Bool) → pick b 0 e.place ≤ 65536
@@ -52,15 +50,15 @@ refused-small e h = record { number = (number-range e.rule).1; rest = go (eqb (n
     go false = h
 
 -- n rows if there is room for them, else 14
-in-room : (n end : ℕ) (x t : List ℕ) → n ≤ 65536 → (b : Bool) → Small (pick b (filled (T.Listed n end) x) (filled (T.Refused (refusal no_room 0)) t)).answer
+in-room : (n end : ℕ) (x t : List ℕ) → n ≤ 65536 → (b : Bool) → Small (pick b (filled (Ok (n, end)) x) (filled (Err (refusal no_room 0)) t)).answer
 in-room n end x t h true = record { number = omega arith; rest = h }
 in-room n end x t h false = refused-small (refusal no_room 0) (omega arith)
 
 module _ (s : List ℕ) (bytes : Bytes s) where
   -- a refusal of the check is small
-  check-small : (e : Refusal) → check (avm memo_most) s ≡ refused e → Small (T.Refused e)
+  check-small : (e : Refusal) → check (avm memo_most) s ≡ refused e → Small (Err e)
   check-small e h =
-      let q = sym (ap (λ (o : Result (Signed (avm memo_most))). on_result o C.Refused (λ v n. C.Accepted (layout memo_most v.0) n)) h) in
+      let q = sym (ap (λ (o : Parsed (Signed (avm memo_most))). on_result o Err (λ v n. Ok (layout memo_most v.0, n))) h) in
       refused-small e (checked-place memo_most s e bytes q)
 
   entry-rows : (v : Signed (avm memo_most)) (n : ℕ) → check (avm memo_most) s ≡ took v n → length (entries (avm memo_most) v) ≤ 65536
@@ -81,8 +79,8 @@ module _ (s : List ℕ) (bytes : Bytes s) where
     rows-small : Small (tabled memo_most s t).answer
     rows-small = go (check (avm memo_most) s) refl
       where
-        go : (o : Result (Signed (avm memo_most))) → check (avm memo_most) s ≡ o
-            → Small (on_result o (λ e. filled (T.Refused e) t) (λ v end. Entries.listed end (entries (avm memo_most) v) t)).answer
+        go : (o : Parsed (Signed (avm memo_most))) → check (avm memo_most) s ≡ o
+            → Small (on_result o (λ e. filled (Err e) t) (λ v end. Entries.listed end (entries (avm memo_most) v) t)).answer
         go (took v n) h =
             let r : List ℕ = rows (entries (avm memo_most) v) in
             in-room (length (entries (avm memo_most) v)) n (r ++ drop (length r) t) t (entry-rows v n h) (leb (length r) (length t))
@@ -91,8 +89,8 @@ module _ (s : List ℕ) (bytes : Bytes s) where
     slots_small : Small (tabled_slots memo_most s t).answer
     slots_small = go (check (avm memo_most) s) refl
       where
-        go : (o : Result (Signed (avm memo_most))) → check (avm memo_most) s ≡ o
-            → Small (on_result o (λ e. filled (T.Refused e) t) (λ v end. Slots.listed end s (slots memo_most s) t)).answer
+        go : (o : Parsed (Signed (avm memo_most))) → check (avm memo_most) s ≡ o
+            → Small (on_result o (λ e. filled (Err e) t) (λ v end. Slots.listed end s (slots memo_most s) t)).answer
         go (took v n) h =
             let l : ℕ = length (slots memo_most s) in
             in-room l n (Slot.rows s (slots memo_most s) ++ drop (3 * l) t) t (slot-rows v n h) (leb (3 * l) (length t))

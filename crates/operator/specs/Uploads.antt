@@ -1,14 +1,12 @@
 -- An upload's state as two integers of 64 bits, and the answers of its calls packed into one. Assumes nothing.
-use Rattle.std.specs.Prelude.{ℕ, ◌+◌, ◌*◌, ◌/◌, ◌%◌, ◌≤◌, ◌≡◌, List, [], ◌∷◌, eqb, get_or}
+use Rattle.transaction.specs.declared.Layout.{Layout}
+use Rattle.std.specs.Prelude.{ℕ, ◌+◌, ◌*◌, ◌/◌, ◌%◌, ◌≤◌, ◌≡◌, List, [], ◌∷◌, eqb, get_or, Result, Option, None, Some}
 use Rattle.wire.specs.Bytes.{Bytes, pick}
 use Rattle.wire.specs.declared.Rule.{Rule}
 use Rattle.wire.specs.declared.Rule.TheVariants as R
 use Rattle.wire.specs.declared.Refusal.{Refusal}
 use Rattle.wire.specs.Numbers.{refusal, number_of}
 use Rattle.transaction.specs.Answer.{memo_most, checked_number, checked_place}
-use Rattle.transaction.specs.declared.Checked.{Checked}
-use Rattle.upload.specs.declared.Standing.{Standing}
-use Rattle.upload.specs.declared.Standing.TheVariants as S
 use Rattle.upload.specs.declared.Upload.{Upload}
 use Rattle.upload.specs.Calls.{upload, standing_number, standing_place, piece_call, end_call}
 use Rattle.upload.specs.Calls as Calls
@@ -17,43 +15,42 @@ use Rattle.draft.specs.Packing.{TakenApart}
 -- ---- the state
 
 -- the rule of a refusal that stands: 1 and 3 to 13 are the check's. A number that no call leaves is read as 14
-unfoldable pub later_rule : ℕ → Rule
-later_rule n =
-    pick (eqb n 8) R.BadLength
-    (pick (eqb n 9) R.NotPrintable
-    (pick (eqb n 10) R.BadDenomination (pick (eqb n 11) R.EmptyList (pick (eqb n 12) R.WrongCount (pick (eqb n 13) R.BytesAfterEnd R.NoRoom)))))
-
 unfoldable pub rule_at : ℕ → Rule
-unfolding later_rule
 rule_at n =
     pick (eqb n 1) R.TooLong
     (pick (eqb n 3) R.WrongCodec
-    (pick (eqb n 4) R.UnknownType (pick (eqb n 5) R.ZeroAmount (pick (eqb n 6) R.OutOfOrder (pick (eqb n 7) R.BadThreshold (later_rule n))))))
+    (pick (eqb n 4) R.UnknownType
+    (pick (eqb n 5) R.ZeroAmount
+    (pick (eqb n 6) R.OutOfOrder
+    (pick (eqb n 7) R.BadThreshold
+    (pick (eqb n 8) R.BadLength
+    (pick (eqb n 9) R.NotPrintable
+    (pick (eqb n 10) R.BadDenomination (pick (eqb n 11) R.EmptyList (pick (eqb n 12) R.WrongCount (pick (eqb n 13) R.BytesAfterEnd R.NoRoom)))))))))))
 
 -- 0 bytes stored, 1 the refusal that stands as number × 2^32 + place; number 0 is none
 unfoldable pub upload_of : List ℕ → Upload
 unfolding rule_at
 upload_of n =
     let number = get_or n 1 0 / 4294967296 in
-    upload (get_or n 0 0) (pick (eqb number 0) S.NeedMore (S.Refused (refusal (rule_at number) (get_or n 1 0 % 4294967296))))
+    upload (get_or n 0 0) (pick (eqb number 0) None (Some (refusal (rule_at number) (get_or n 1 0 % 4294967296))))
 
 unfoldable pub refusal_word : Refusal → ℕ
 refusal_word e = number_of e * 4294967296 + e.place % 4294967296
 
-unfoldable pub standing_word : Standing → ℕ
+unfoldable pub standing_word : Option Refusal → ℕ
 unfolding refusal_word
-standing_word S.NeedMore = 0
-standing_word (S.Refused e) = refusal_word e
+standing_word None = 0
+standing_word (Some e) = refusal_word e
 
 abbrev pub numbers_of : Upload → List ℕ
 numbers_of u = u.stored ∷ standing_word u.standing ∷ []
 
 -- ---- the answers: number × 2^32 + place
 
-unfoldable pub piece_word : Standing → ℕ
+unfoldable pub piece_word : Option Refusal → ℕ
 piece_word x = standing_number x * 4294967296 + standing_place x % 4294967296
 
-unfoldable pub end_word : Checked → ℕ
+unfoldable pub end_word : Result (Layout × ℕ) Refusal → ℕ
 end_word x = checked_number x * 4294967296 + checked_place x % 4294967296
 
 -- the answer of a piece, the state and the store afterwards

@@ -7,20 +7,17 @@ ghost use Rattle.entry_table.specs.Table.{tabled};
 ghost use Rattle.draft_slot_table.specs.Table.{tabled_slots};
 ghost use Rattle.operator.specs.Listing.{packed, listing, listed};
 
+use wire::Refusal;
+
 pub mod uploads;
 
-use entry_table::Tabled;
-
 // An answer as one integer: how many rows were written, or number × 2^32 + place.
-fn word(answer: Tabled) -> u64
+fn word(answer: Result<(usize, usize), Refusal>) -> u64
     ensures { result ≡ packed answer }
 {
     match answer {
-        Tabled::Listed(rows, _) => (rows % 4294967296) as u64,
-        Tabled::Refused(refusal) => {
-            let rule = refusal.rule;
-            wire::number_of(rule) as u64 * 4294967296 + (refusal.place % 4294967296) as u64
-        }
+        Ok((rows, _)) => (rows % 4294967296) as u64,
+        Err(refusal) => uploads::refusal_word(refusal),
     }
 }
 

@@ -1,16 +1,15 @@
 -- Laws for the readers of owners, in the form of those of wire's proofs/Reading. Assumes nothing.
-use Prim.Native.Nat.{ℕ, zero, suc, ◌-◌, ◌≤◌, ◌<◌}
+use Rattle.std.specs.Prelude.{Ok, Err, Result}
+use Prim.Native.Nat.{ℕ, zero, suc, ◌+◌, ◌-◌, ◌≤◌, ◌<◌}
 use mathlib.Core.Path.{◌≡◌, refl, sym, ap, ◌∙◌}
 use mathlib.Core.Bool.{Bool, true, false, not}
 use mathlib.Core.List.{List, []}
 use native.Mathlib.Omega.{arith}
 use borrow.Author.Tests.{not-true, not-false}
 use Rattle.wire.specs.declared.Refusal.{Refusal}
-use Rattle.wire.specs.declared.End.{End}
-use Rattle.wire.specs.declared.End.TheVariants as P
 use Rattle.wire.specs.Bytes.{below, pick, between}
 use Rattle.wire.proofs.Format.{parse-alike-read}
-use Rattle.wire.specs.Numbers.{by, cut_at, out_of_order}
+use Rattle.wire.specs.Numbers.{by, out_of_order}
 use Rattle.wire.specs.Fields.{blob}
 use Rattle.wire.specs.Sequence.{guard, items}
 use Rattle.wire.specs.Series.{left, above, increasing, series_from}
@@ -23,67 +22,66 @@ use Rattle.owners.specs.Owners.{owners, threshold_fits}
 
 -- ---- addresses: the one at `at`, and n more after it, each above the one before. Opaque, so that `search` reads s, at and n off it
 
-unfoldable pub address_then : ℕ → List ℕ → ℕ → End
-address_then n s at = (blob 20).parse s at P.Refused (λ a q. ended (series_from (above (blob 20)) a n) s q)
-
--- one turn: t is the answer of comparing the address at `at` with the one before; y is the answer of the whole parse
-pub record AddressTurn (s : List ℕ) (n at : ℕ) (y : End) (t : Bool) : Type 0 where
-  pub again : t ≡ true → address_then (n - 1) s at ≡ y
-  pub not_above : t ≡ false → (f : Refusal) → f ≡ by out_of_order at → P.Refused f ≡ y
+unfoldable pub address_then : ℕ → List ℕ → ℕ → Result ℕ Refusal
+address_then n s at = (blob 20).parse s at Err (λ a q. ended (series_from (above (blob 20)) a n) s q)
 
 module _ (s : List ℕ) (b : Slice s) where
   -- a list that is not empty is its first address and c - 1 more
   pub address-first : (c at : ℕ) → (c ≡ 0 → ⊥) → address_then (c - 1) s at ≡ ended (increasing (blob 20) c) s at
   unfolding address_then guard blob
   address-first c at h =
-      W.list_on (above (blob 20)) (left (above (blob 20))) s at P.Refused (λ l k. P.At k) [] c (address_then (c - 1) s at)
+      W.list_on (above (blob 20)) (left (above (blob 20))) s at Err (λ l k. Ok k) [] c (address_then (c - 1) s at)
       (ended (increasing (blob 20) c) s at) refl (some c h)
-      (parse-alike-read (blob 20) s at P.Refused _ _ (λ a m t. rw (empty-below a (omega (arith, ((blob 20).sound s at a m (slice-bytes s b) t).0.0)))))
+      (parse-alike-read (blob 20) s at Err _ _ (λ a m t. rw (empty-below a (omega (arith, ((blob 20).sound s at a m (slice-bytes s b) t).0.0)))))
     where
       some : (c : ℕ) → (c ≡ 0 → ⊥) → 0 < c
       some zero h = absurd (h refl)
       some (suc c) h = omega arith
 
-  pub no_address : (c at : ℕ) → c ≡ 0 → P.At at ≡ ended (increasing (blob 20) c) s at
-  no_address c at h = W.list-end (above (blob 20)) (left (above (blob 20))) s at P.Refused (λ l k. P.At k) [] c (P.At at)
+  pub no_address : (c at : ℕ) → c ≡ 0 → Ok at ≡ ended (increasing (blob 20) c) s at
+  no_address c at h = W.list-end (above (blob 20)) (left (above (blob 20))) s at Err (λ l k. Ok k) [] c (Ok at)
       (ended (increasing (blob 20) c) s at) refl (omega arith) refl
 
-  module _ (n prev : ℕ) (y : End) (w : address_then n s prev ≡ y) (at : ℕ) (x : End) (p : x ≡ ended (blob 20) s prev) (q : x ≡ P.At at) (h : 0 < n) where
-    -- the next address, compared with the one at prev
-    address-next : (blob 20).parse s at P.Refused
-        (λ a m. pick (below (whole_at 20 s prev) a) (ended (series_from (above (blob 20)) a (n - 1)) s m) (P.Refused (by out_of_order at))) ≡ y
-    unfolding address_then guard blob
-    address-next =
-        W.list_on (above (blob 20)) (left (above (blob 20))) s at P.Refused (λ l k. P.At k) (whole_at 20 s prev) n _ y
-        (ap (λ (a : List ℕ). ended (series_from (above (blob 20)) a n) s at) (W.whole-next 20 s prev (whole_at 20 s prev) x at refl p q)
-        ∙ W.on-part 20 s prev _ P.Refused (λ a q. ended (series_from (above (blob 20)) a n) s q) x at p q refl ∙ w) h refl
+  -- the address at prev is number i, counted from 1, of c; x is the answer of passing it
+  module _ (c i prev : ℕ) (y : Result ℕ Refusal) (o : address_then (c - i) s prev ≡ y) (x : Result ℕ Refusal) (p : x ≡ ended (blob 20) s prev) where
+    pub address-gone : (e : Refusal) (z : Result ℕ Refusal) → x ≡ Err e → z ≡ Err e → z ≡ y
+    unfolding address_then
+    address-gone e z q g = W.on-part-refused 20 s prev z Err _ x e p q g ∙ o
 
-    pub address-cut : (e f : Refusal) (u : End) → u ≡ ended (blob 20) s at → u ≡ P.Refused e → f ≡ cut_at 20 s at → P.Refused f ≡ y
-    address-cut e f u i j g = W.on-cut 20 s at (P.Refused f) P.Refused _ u e i j f g refl ∙ address-next
+    pub address-last : c ≤ i → x ≡ y
+    unfolding address_then items list_parse
+    address-last h = last (c - i) (omega arith) o
+      where
+        last : (n : ℕ) → n ≤ 0 → address_then n s prev ≡ y → x ≡ y
+        last zero g k = p ∙ k
+        last (suc n) g k = absurd (omega arith)
 
-    module _ (t : Bool) (a c : List ℕ) (k : t ≡ below a c) (ea : a ≡ whole_at 20 s prev) (ec : c ≡ whole_at 20 s at) (u : End) (i : u ≡ ended (blob 20) s at)
-        (m : ℕ) (j : u ≡ P.At m) where
-      compared : pick t (ended (series_from (above (blob 20)) (between at m s) (n - 1)) s m) (P.Refused (by out_of_order at)) ≡ y
-      compared =
-          rw (k, ea, ec, W.whole-next 20 s at (whole_at 20 s at) u m refl i j) (W.on-part 20 s at _ P.Refused _ u m i j refl ∙ address-next)
+    module _ (h : i < c) (at : ℕ) (q : x ≡ Ok at) where
+      -- the next address, compared with the one at prev
+      address-next : (blob 20).parse s at Err
+          (λ a m. pick (below (whole_at 20 s prev) a) (ended (series_from (above (blob 20)) a (c - (i + 1))) s m) (Err (by out_of_order at))) ≡ y
+      unfolding address_then guard blob
+      address-next =
+          W.for_on (above (blob 20)) (left (above (blob 20))) s at Err (λ l k. Ok k) (whole_at 20 s prev) c i _ y
+          (ap (λ (a : List ℕ). ended (series_from (above (blob 20)) a (c - i)) s at) (W.whole-next 20 s prev (whole_at 20 s prev) x at refl p q)
+          ∙ W.on-part 20 s prev _ Err (λ a q. ended (series_from (above (blob 20)) a (c - i)) s q) x at p q refl ∙ o) h refl
 
-      pub address-turn : AddressTurn s n at y t
-      unfolding address_then
-      address-turn = record {
-        again = λ g. sym (W.on-part 20 s at _ P.Refused (λ a q. ended (series_from (above (blob 20)) a (n - 1)) s q) u m i j refl) ∙ rw g at compared;
-        not_above = λ g f h. ap P.Refused h ∙ rw g at compared;
-      }
+      module _ (u : Result ℕ Refusal) (j : u ≡ ended (blob 20) s at) where
+        pub address-cut : (e : Refusal) (z : Result ℕ Refusal) → u ≡ Err e → z ≡ Err e → z ≡ y
+        address-cut e z k g = W.on-part-refused 20 s at z Err _ u e j k g ∙ address-next
 
-  -- the address before is cut short, or is the last
-  pub address-gone : (n prev : ℕ) (x : End) (e f : Refusal) → x ≡ ended (blob 20) s prev → x ≡ P.Refused e → f ≡ cut_at 20 s prev → (y : End)
-      → address_then n s prev ≡ y → P.Refused f ≡ y
-  unfolding address_then
-  address-gone n prev x e f p q g y w = W.on-cut 20 s prev (P.Refused f) P.Refused _ x e p q f g refl ∙ w
+        -- t is the answer of comparing the two
+        module _ (m : ℕ) (k : u ≡ Ok m) (t : Bool) (v w : List ℕ) (d : t ≡ below v w) (ev : v ≡ whole_at 20 s prev) (ew : w ≡ whole_at 20 s at) where
+          compared : pick t (ended (series_from (above (blob 20)) (between at m s) (c - (i + 1))) s m) (Err (by out_of_order at)) ≡ y
+          compared = rw (d, ev, ew, W.whole-next 20 s at (whole_at 20 s at) u m refl j k) (W.on-part 20 s at _ Err _ u m j k refl ∙ address-next)
 
-  pub address-last : (n prev : ℕ) (x : End) → x ≡ ended (blob 20) s prev → n ≤ 0 → (y : End) → address_then n s prev ≡ y → x ≡ y
-  unfolding address_then items list_parse
-  address-last zero prev x p h y w = p ∙ w
-  address-last (suc n) prev x p h y w = absurd (omega arith)
+          pub address-again : t ≡ true → address_then (c - (i + 1)) s at ≡ y
+          unfolding address_then
+          address-again g =
+              sym (W.on-part 20 s at _ Err (λ a q. ended (series_from (above (blob 20)) a (c - (i + 1))) s q) u m j k refl) ∙ rw g at compared
+
+          pub address-not-above : t ≡ false → (f : Refusal) → f ≡ by out_of_order at → Err f ≡ y
+          address-not-above g f h = ap Err h ∙ rw g at compared
 
 -- ---- owners
 

@@ -7,7 +7,7 @@ ghost use Rattle.wire.specs.Series.{increasing, unordered};
 ghost use Rattle.wire.specs.code.Answer.{ended};
 ghost use Rattle.owners.specs.Owners.{owners, threshold_fits};
 
-use wire::{End, Integer, Rule};
+use wire::{Refusal, Rule};
 
 // The fields of owners. The addresses are `addresses_count` times 20 bytes from `addresses_at` on.
 #[derive(Clone, Copy)]
@@ -18,29 +18,22 @@ pub struct OwnersFields {
     pub addresses_count: u64,
 }
 
-// `count` addresses from `start` on, each strictly above the one before. Each turn tests again that the address before is there: the compiler then
-// knows it of both addresses, and passes them without another test.
-pub fn addresses_from(s: &[u8], start: usize, count: u64) -> End
+// `count` addresses from `start` on, each strictly above the one before. Each turn tests again that the address before is there, for speed: the
+// compiler then knows it of both addresses, and passes them without another test.
+pub fn addresses_from(s: &[u8], start: usize, count: u64) -> Result<usize, Refusal>
     ensures { result ≡ ended (increasing (blob 20) count) s.now start }
 {
     if count == 0 {
-        return End::At(start);
+        return Ok(start);
     }
-    let mut left = count - 1;
     let mut prev = start;
-    while 0 < left {
-        let End::At(at) = wire::field_at(s, prev, 20) else {
-            return End::Refused(wire::cut(s, prev, 20));
-        };
-        let End::At(_) = wire::field_at(s, at, 20) else {
-            return End::Refused(wire::cut(s, at, 20));
-        };
-        if wire::address_below(wire::address_at(s, prev), wire::address_at(s, at)) {
-            prev = at;
-            left -= 1;
-        } else {
-            return End::Refused(wire::refuse(Rule::OutOfOrder, at));
+    for _ in 1..count {
+        let at = wire::field_at(s, prev, 20)?;
+        wire::field_at(s, at, 20)?;
+        if !wire::address_below(wire::array_at::<20>(s, prev), wire::array_at::<20>(s, at)) {
+            return Err(wire::refuse(Rule::OutOfOrder, at));
         }
+        prev = at;
     }
     wire::field_at(s, prev, 20)
 }
@@ -60,40 +53,25 @@ pub fn threshold_fits(threshold: u64, addresses: u64) -> bool
 }
 
 // Owners at `at`: locktime, threshold, addresses.
-pub fn owners_at(s: &[u8], at: usize) -> End
+pub fn owners_at(s: &[u8], at: usize) -> Result<usize, Refusal>
     ensures { result ≡ ended owners s.now at }
 {
-    let Integer::Value(_, threshold_at) = wire::u64_at(s, at) else {
-        return End::Refused(wire::cut(s, at, 8));
-    };
-    let Integer::Value(threshold, count_at) = wire::u32_at(s, threshold_at) else {
-        return End::Refused(wire::cut(s, threshold_at, 4));
-    };
-    let Integer::Value(count, first) = wire::u32_at(s, count_at) else {
-        return End::Refused(wire::cut(s, count_at, 4));
-    };
+    let (_, threshold_at) = wire::u64_at(s, at)?;
+    let (threshold, count_at) = wire::u32_at(s, threshold_at)?;
+    let (count, first) = wire::u32_at(s, count_at)?;
     if !threshold_fits(threshold, count) {
-        return End::Refused(wire::refuse(Rule::BadThreshold, threshold_at));
+        return Err(wire::refuse(Rule::BadThreshold, threshold_at));
     }
     addresses_from(s, first, count)
 }
 
 // `count` owners from `start` on, in any order.
-pub fn owners_list_at(s: &[u8], start: usize, count: u64) -> End
+pub fn owners_list_at(s: &[u8], start: usize, count: u64) -> Result<usize, Refusal>
     ensures { result ≡ ended (unordered owners count) s.now start }
 {
-    let mut left = count;
     let mut at = start;
-    while 0 < left {
-        match owners_at(s, at) {
-            End::Refused(refusal) => {
-                return End::Refused(refusal);
-            }
-            End::At(next) => {
-                at = next;
-                left -= 1;
-            }
-        }
+    for _ in 0..count {
+        at = owners_at(s, at)?;
     }
-    End::At(at)
+    Ok(at)
 }

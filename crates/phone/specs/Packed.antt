@@ -1,5 +1,6 @@
 -- A number of the table and a place, packed into one integer of 64 bits and unpacked again. Assumes nothing.
-use Rattle.std.specs.Prelude.{ℕ, ◌+◌, ◌*◌, List}
+use Rattle.wire.specs.declared.Refusal.{Refusal}
+use Rattle.std.specs.Prelude.{ℕ, ◌+◌, ◌*◌, List, Result}
 use Rattle.wire.specs.Bytes.{Bytes}
 use Rattle.wire.specs.Format.{verdict}
 use Rattle.transaction.specs.Family.{check}
@@ -8,14 +9,13 @@ use Rattle.transaction.specs.Answer.{memo_most}
 use Rattle.draft.specs.Reader.{reader}
 use Rattle.draft.specs.Calls.{answer_number, answer_place, merge_call}
 use Rattle.draft.specs.Packing.{TakenApart}
-use Rattle.draft.specs.declared.Answer.{Answer}
 
 -- number × 2^32 + place
 abbrev pub packed : ℕ × ℕ → ℕ
 packed (n, p) = n * 4294967296 + p
 
 -- a call's answer, and the lent bytes afterwards
-abbrev pub packed_call : Answer × List ℕ → ℕ × List ℕ
+abbrev pub packed_call : Result ℕ Refusal × List ℕ → ℕ × List ℕ
 packed_call (a, s) = (packed (answer_number a, answer_place a), s)
 
 pub record Unpacked : Type 0 where

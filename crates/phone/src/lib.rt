@@ -11,17 +11,14 @@ ghost use Rattle.draft.specs.Reader.{reader};
 ghost use Rattle.draft.specs.Calls.{merge_call};
 ghost use Rattle.phone.specs.Packed.{packed, packed_call};
 
-use draft::Answer;
-use transaction::Checked;
 use wire::Refusal;
 
-// A refusal as number × 2^32 + place.
+// A refusal as number × 2^32 + place. Not `refusal_word` of `operator`, which cuts the place: `packed` has it whole, and a call asks that it is small.
 fn word(refusal: Refusal) -> u64
     requires { refusal.place ≤ 65536 }
     ensures { result ≡ packed (number_of refusal, refusal.place) }
 {
-    let rule = refusal.rule;
-    wire::number_of(rule) as u64 * 4294967296 + refusal.place as u64
+    u32::from(refusal.rule) as u64 * 4294967296 + refusal.place as u64
 }
 
 // Checks a transaction. Returns 0 and its length if it is accepted, else the number and place of the first broken rule.
@@ -29,8 +26,8 @@ pub fn cellfacet_check(bytes: &[u8]) -> u64
     ensures { result ≡ packed (verdict (check (avm memo_most) bytes.now)) }
 {
     match checker::check::check(bytes) {
-        Checked::Accepted(_, end) => end as u64,
-        Checked::Refused(refusal) => word(refusal),
+        Ok((_, end)) => end as u64,
+        Err(refusal) => word(refusal),
     }
 }
 
@@ -39,7 +36,7 @@ pub fn cellfacet_merge(first: &[u8], second: &[u8], out: &mut [u8]) -> u64
     ensures { (result, out.new) ≡ packed_call (merge_call (reader (avm memo_most)) first.now second.now out.old) }
 {
     match draft::merge(first, second, out) {
-        Answer::Done(end) => end as u64,
-        Answer::Refused(refusal) => word(refusal),
+        Ok(end) => end as u64,
+        Err(refusal) => word(refusal),
     }
 }

@@ -1,17 +1,17 @@
 -- The code's answer to what is due at a phase is the first segment of the plan there. Assumes nothing.
-use Prim.Native.Nat.{ℕ, zero, suc, ◌+◌, ◌-◌, ◌≤◌, ◌<◌}
+use Rattle.std.specs.Prelude.{Result}
+use Rattle.wire.specs.declared.Refusal.{Refusal}
+use Prim.Native.Nat.{ℕ, zero, suc, ◌+◌, ◌-◌, ◌≤◌}
 use mathlib.Core.Path.{◌≡◌, refl, sym, ap, ◌∙◌, subst, subst₂}
 use mathlib.Core.Bool.{Bool, true, false, false≢true}
+use mathlib.Core.Logic.{◌⊎◌, inl, inr}
 use native.Mathlib.Omega.{arith}
 use native.Mathlib.Numerals.{add-one}
 use mathlib.Core.List.{List}
-use lib.Dec.{eqb, leb}
-use borrow.Author.Tests.{eq-eqb, ne_eqb, leb-true, leb-false}
-use Rattle.wire.specs.Bytes.{pick}
-use Rattle.wire.specs.declared.End.{End}
+use lib.Dec.{leb}
+use borrow.Author.Tests.{leb-true, leb-false}
 use Rattle.wire.specs.Series.{series}
 use Rattle.wire.specs.code.Answer.{ended}
-use Rattle.wire.proofs.Bytes.{found}
 use Rattle.transaction.specs.Plan.{content_of, elements_of, Plan, shut, end, field, many, own_plan, plan, type_of, plan_of}
 use Rattle.transaction.specs.declared.FieldName.{FieldName}
 use Rattle.transaction.specs.declared.ListName.{ListName}
@@ -19,10 +19,10 @@ use Rattle.transaction.specs.declared.TransactionType.{TransactionType}
 use Rattle.transaction.specs.declared.TransactionType.TheVariants as K
 use Rattle.plan.specs.declared.Due.{Due}
 use Rattle.plan.specs.declared.Due.TheVariants as D
-use Rattle.plan.specs.Due.{tail, after, due, due_of, is_list, is_field, is_open, is_finish}
+use Rattle.plan.specs.Due.{tail, after, due, due_of}
 use Rattle.plan.specs.code.Rows.{last_phase, Live}
 
--- ---- rows: by the code's tests of how many segments are begun
+-- ---- rows: nothing is due past the last segment
 
 module _ (p : Plan) (begun : ℕ) where
   pub past : (n : ℕ) → after n p ≡ shut → n ≤ begun → D.Nothing ≡ due_of (after begun p)
@@ -36,75 +36,19 @@ module _ (p : Plan) (begun : ℕ) where
           let j : suc k + n ≡ suc (k + n) = omega arith in
           ap (λ (i : ℕ). after i p) j ∙ ap tail (beyond k)
 
-  module _ (z : Due) where
-    pub part-first : begun < 1 → z ≡ due_of p → z ≡ due_of (after begun p)
-    part-first h e = let j : begun ≡ 0 = omega arith in rw j e
-
-    pub part-here : (i j : ℕ) → i ≤ begun → begun < j → j ≡ suc i → z ≡ due_of (after i p) → z ≡ due_of (after begun p)
-    part-here i j h k l e = let j : begun ≡ i = omega arith in rw j e
-
-pub ruleset row = (part-first, part-here, past)
-
--- ---- types: by the code's tests of the type id, in the order of `type_of` and of `types`
-
-module _ (z : Due) (begun type_id i : ℕ) (a b : TransactionType) where
-  pub type-here : type_id ≡ i → z ≡ due_of (after begun (own_plan a)) → z ≡ due_of (after begun (own_plan (pick (eqb type_id i) a b)))
-  type-here h e = rw (eq-eqb type_id i h) e
-
-  pub type-other : (type_id ≡ i → ⊥) → z ≡ due_of (after begun (own_plan b)) → z ≡ due_of (after begun (own_plan (pick (eqb type_id i) a b)))
-  type-other h e = rw (ne_eqb type_id i h) e
-
-pub ruleset by-type = (type-here, type-other)
-
-module _ (n i : ℕ) (b : Bool) where
-  pub number-here : n ≡ i → true ≡ pick (eqb n i) true b
-  number-here h = rw (eq-eqb n i h)
-
-  pub number-other : (z : Bool) → (n ≡ i → ⊥) → z ≡ b → z ≡ pick (eqb n i) true b
-  number-other z h e = rw (ne_eqb n i h) e
-
-pub ruleset numbers = (number-here, number-other)
-
--- ---- plans: by the code's tests of the phase
+-- ---- plans: past the memo, what is due is in the type's own part
 
 after_tail : (k : ℕ) (p : Plan) → after (suc k) p ≡ after k (tail p)
 after_tail zero p = refl
 after_tail (suc k) p = ap tail (after_tail k p)
 
 module _ (z : Due) (type_id phase : ℕ) where
-  pub phase-first : phase < 1 → z ≡ D.Nothing → z ≡ due_of (due phase (plan_of type_id))
-  phase-first h e = let j : phase ≡ 0 = omega arith in rw j e
-
-  pub phase-here : (i j : ℕ) → i ≤ phase → phase < j → j ≡ suc i → z ≡ due_of (due i (plan_of type_id)) → z ≡ due_of (due phase (plan_of type_id))
-  phase-here i j h k l e = let j : phase ≡ i = omega arith in rw j e
-
   pub in-own : 4 ≤ phase → z ≡ due_of (after (phase - 4) (own_plan (type_of type_id))) → z ≡ due_of (due phase (plan_of type_id))
   in-own f h =
       let p : Plan = plan_of type_id in
       let k : ℕ = phase - 4 in
       let j : phase ≡ suc (suc (suc (suc k))) = omega arith in
       h ∙ sym (ap (λ (i : ℕ). due_of (due i p)) j ∙ ap due_of (after_tail (suc (suc k)) p ∙ after_tail (suc k) (tail p) ∙ after_tail k (tail (tail p))))
-
-pub ruleset by-phase = (phase-first, phase-here, in-own)
-
--- the questions about what is due, by the case that the match found
-module _ (x y : Due) (p : x ≡ y) (z : Bool) (d : Due) (q : x ≡ d) where
-  pub on_list : z ≡ is_list d → z ≡ is_list y
-  on_list h = h ∙ sym (ap is_list (found p q))
-
-  pub on-finish : z ≡ is_finish d → z ≡ is_finish y
-  on-finish h = h ∙ sym (ap is_finish (found p q))
-
-  pub on-field : (f : FieldName) → z ≡ is_field f d → z ≡ is_field f y
-  on-field f h = h ∙ sym (ap (is_field f) (found p q))
-
-  pub on-open : (l : ListName) → z ≡ is_open l d → z ≡ is_open l y
-  on-open l h = h ∙ sym (ap (is_open l) (found p q))
-
-pub same_names : (a b c d : ℕ) → a ≡ c → b ≡ d → eqb a b ≡ eqb c d
-same_names a b c d h k = rw (h, k)
-
-pub ruleset by-due = (on_list, on-finish, on-field, on-open, same_names)
 
 -- no plan has a phase after the last
 plan-over : (k : TransactionType) → after last_phase (plan k) ≡ shut
@@ -166,6 +110,11 @@ module _ (x : Due) (T : Plan → Type 0) where
   if-end (field f p) h q t = let z : ◌≡◌ {A = ℕ} 0 1 = cc in absurd (omega arith)
   if-end (many l least p) h q t = let z : ◌≡◌ {A = ℕ} 0 1 = cc in absurd (omega arith)
 
+  -- nothing is left to read
+  pub if-over : (p : Plan) → x ≡ due_of p → (x ≡ D.Nothing) ⊎ (x ≡ D.Finish) → T shut → T end → T p
+  if-over p h (inl q) t u = if-nothing p h q t
+  if-over p h (inr q) t u = if-end p h q u
+
   pub if-field : (p : Plan) → x ≡ due_of p → (f : FieldName) → x ≡ D.Field f → ((q : Plan) → T (field f q)) → T p
   if-field shut h f q t = let z : ◌≡◌ {A = ℕ} 0 1 = cc in absurd (omega arith)
   if-field end h f q t = let z : ◌≡◌ {A = ℕ} 0 1 = cc in absurd (omega arith)
@@ -183,9 +132,10 @@ module _ (x : Due) (T : Plan → Type 0) where
 
 -- ---- by name
 
-pub by_field : (most : ℕ) (f g : FieldName) (s : List ℕ) (at : ℕ) (z : End) → f ≡ g → z ≡ ended (content_of most g) s at → z ≡ ended (content_of most f) s at
+pub by_field : (most : ℕ) (f g : FieldName) (s : List ℕ) (at : ℕ) (z : Result ℕ Refusal) → f ≡ g → z ≡ ended (content_of most g) s at
+    → z ≡ ended (content_of most f) s at
 by_field most f g s at z h e = rw h e
 
-pub by-list : (l m : ListName) (n : ℕ) (s : List ℕ) (at : ℕ) (z : End) → l ≡ m → z ≡ ended (series (elements_of m).element n) s at
+pub by-list : (l m : ListName) (n : ℕ) (s : List ℕ) (at : ℕ) (z : Result ℕ Refusal) → l ≡ m → z ≡ ended (series (elements_of m).element n) s at
     → z ≡ ended (series (elements_of l).element n) s at
 by-list l m n s at z h e = rw h e

@@ -1,12 +1,11 @@
 -- A string that was read is its length and that many bytes. Assumes nothing.
+use Rattle.std.specs.Prelude.{Ok, Err, Result}
 use mathlib.Core.Path.{◌≡◌, refl}
 use Prim.Native.Nat.{ℕ}
 use mathlib.Core.List.{List}
 use lib.ListN.{length}
 use Rattle.wire.specs.declared.Refusal.{Refusal}
-use Rattle.wire.specs.declared.End.{End}
-use Rattle.wire.specs.declared.End.TheVariants as P
-use Rattle.wire.specs.Format.{Format, Result, refused}
+use Rattle.wire.specs.Format.{Format, Parsed, refused}
 use Rattle.wire.specs.Fields.{blob, integer}
 use Rattle.wire.specs.Sequence.{and_then}
 use Rattle.wire.specs.code.Answer.{ended, Passes}
@@ -29,22 +28,22 @@ text-covers : (most : ℕ) → Covers (text most) (by_length 2) measured
 unfolding text and_then
 text-covers most b g = ((g.0.0.0, g.1.0), refl)
 
-module _ (s : List ℕ) (at : ℕ) (b : Slice s) (z : End) where
+module _ (s : List ℕ) (at : ℕ) (b : Slice s) (z : Result ℕ Refusal) where
   pub string-passed : z ≡ ended (by_length 4) s at → (most : ℕ) → Passes (memo most) s at z
   string-passed h most =
       passes (memo most) s at z
-      (leads-covered (memo most) (by_length 4) measured (string-covers most) s at b next z (leads-parse (by_length 4) s at next z P.Refused h))
+      (leads-covered (memo most) (by_length 4) measured (string-covers most) s at b next z (leads-parse (by_length 4) s at next z Err h))
 
   pub text-passed : z ≡ ended (by_length 2) s at → (most : ℕ) → Passes (text most) s at z
   text-passed h most =
       passes (text most) s at z
-      (leads-covered (text most) (by_length 2) measured (text-covers most) s at b next z (leads-parse (by_length 2) s at next z P.Refused h))
+      (leads-covered (text most) (by_length 2) measured (text-covers most) s at b next z (leads-parse (by_length 2) s at next z Err h))
 
 -- after a call of `string_past`, whose answer is x
-module _ {B R : Type 0} (most : ℕ) (s : List ℕ) (at : ℕ) (k : List ℕ → ℕ → Result B) (go : B → ℕ → R) (z : R) (x : End) where
-  pub string-next : (m : ℕ) → x ≡ P.At m → ((most : ℕ) → Passes (memo most) s at x) → ((v : List ℕ) → Yields (k v m) go z)
+module _ {B R : Type 0} (most : ℕ) (s : List ℕ) (at : ℕ) (k : List ℕ → ℕ → Parsed B) (go : B → ℕ → R) (z : R) (x : Result ℕ Refusal) where
+  pub string-next : (m : ℕ) → x ≡ Ok m → ((most : ℕ) → Passes (memo most) s at x) → ((v : List ℕ) → Yields (k v m) go z)
       → Yields ((memo most).parse s at refused k) go z
   string-next m q p = parse-next (memo most) s at k go z x (p most) m q
 
-  pub string-refused : (e : Refusal) → x ≡ P.Refused e → ((most : ℕ) → Passes (memo most) s at x) → Yields ((memo most).parse s at refused k) go z
+  pub string-refused : (e : Refusal) → x ≡ Err e → ((most : ℕ) → Passes (memo most) s at x) → Yields ((memo most).parse s at refused k) go z
   string-refused e q p = parse-refused (memo most) s at k go z x (p most) e q

@@ -6,7 +6,7 @@ ghost use Rattle.wire.specs.code.Answer.{ended, Passes};
 ghost use Rattle.string.specs.Strings.{string, memo, text, denomination};
 ghost use Rattle.string.specs.Characters.{unprintable};
 
-use wire::{End, Integer, Rule};
+use wire::{Refusal, Rule};
 
 // The most bytes of a name, a symbol and a payload.
 pub const NAME_MOST: u64 = 128;
@@ -16,14 +16,12 @@ pub const SYMBOL_MOST: u64 = 4;
 pub const PAYLOAD_MOST: u64 = 1024;
 
 // A memo or a payload: a 32-bit length of at most `most`, then that many bytes.
-pub fn string_at(s: &[u8], at: usize, most: u64) -> End
+pub fn string_at(s: &[u8], at: usize, most: u64) -> Result<usize, Refusal>
     ensures { result ≡ ended (string 4 most) s.now at }
 {
-    let Integer::Value(length, first) = wire::u32_at(s, at) else {
-        return End::Refused(wire::cut(s, at, 4));
-    };
+    let (length, first) = wire::u32_at(s, at)?;
     if most < length {
-        return End::Refused(wire::refuse(Rule::BadLength, at));
+        return Err(wire::refuse(Rule::BadLength, at));
     }
     wire::field_at(s, first, length as usize)
 }
@@ -32,70 +30,50 @@ pub fn string_at(s: &[u8], at: usize, most: u64) -> End
 pub fn first_unprintable(s: &[u8]) -> usize
     ensures { result ≡ unprintable s.now }
 {
-    let mut i: usize = 0;
-    while i < s.len() {
-        if s[i] < 32 {
-            return i;
-        }
-        if 126 < s[i] {
-            return i;
-        }
-        i += 1;
-    }
-    i
+    s.iter()
+        .position(|x| !matches!(x, b' '..=b'~'))
+        .unwrap_or(s.len())
 }
 
 // A name or a symbol: a 16-bit length from 1 to `most`, then that many printable characters.
-pub fn text_at(s: &[u8], at: usize, most: u64) -> End
+pub fn text_at(s: &[u8], at: usize, most: u64) -> Result<usize, Refusal>
     ensures { result ≡ ended (text most) s.now at }
 {
-    let Integer::Value(length, first) = wire::u16_at(s, at) else {
-        return End::Refused(wire::cut(s, at, 2));
-    };
-    if length == 0 {
-        return End::Refused(wire::refuse(Rule::BadLength, at));
+    let (length, first) = wire::u16_at(s, at)?;
+    if length == 0 || most < length {
+        return Err(wire::refuse(Rule::BadLength, at));
     }
-    if most < length {
-        return End::Refused(wire::refuse(Rule::BadLength, at));
-    }
-    let End::At(next) = wire::field_at(s, first, length as usize) else {
-        return End::Refused(wire::cut(s, first, length as usize));
-    };
+    let next = wire::field_at(s, first, length as usize)?;
     let printable = first_unprintable(wire::between(s, first, next));
     if printable as u64 != length {
-        return End::Refused(wire::refuse(Rule::NotPrintable, first + printable));
+        return Err(wire::refuse(Rule::NotPrintable, first + printable));
     }
-    End::At(next)
+    Ok(next)
 }
 
-pub fn denomination_at(s: &[u8], at: usize) -> End
+pub fn denomination_at(s: &[u8], at: usize) -> Result<usize, Refusal>
     ensures { result ≡ ended denomination s.now at }
 {
-    let Integer::Value(value, next) = wire::u8_at(s, at) else {
-        return End::Refused(wire::cut(s, at, 1));
-    };
+    let (value, next) = wire::u8_at(s, at)?;
     if 32 < value {
-        return End::Refused(wire::refuse(Rule::BadDenomination, at));
+        return Err(wire::refuse(Rule::BadDenomination, at));
     }
-    End::At(next)
+    Ok(next)
 }
 
 // Skips a memo or a payload that was read; its length is not checked again.
-pub fn string_past(s: &[u8], at: usize) -> End
+pub fn string_past(s: &[u8], at: usize) -> Result<usize, Refusal>
     ensures { (most : ℕ) → Passes (memo most) s.now at result }
 {
-    let Integer::Value(length, first) = wire::u32_at(s, at) else {
-        return End::Refused(wire::cut(s, at, 4));
-    };
+    let (length, first) = wire::u32_at(s, at)?;
     wire::field_at(s, first, length as usize)
 }
 
-// Skips a name or a symbol that was read; neither its length nor its characters are checked again.
-pub fn text_past(s: &[u8], at: usize) -> End
+// Skips a name or a symbol that was read; neither its length nor its characters are checked again. A function for this one and `string_past`, by the
+// reader of the length, would be longer than both.
+pub fn text_past(s: &[u8], at: usize) -> Result<usize, Refusal>
     ensures { (most : ℕ) → Passes (text most) s.now at result }
 {
-    let Integer::Value(length, first) = wire::u16_at(s, at) else {
-        return End::Refused(wire::cut(s, at, 2));
-    };
+    let (length, first) = wire::u16_at(s, at)?;
     wire::field_at(s, first, length as usize)
 }

@@ -8,9 +8,9 @@ use Rattle.owners.specs.declared.OwnersFields.{OwnersFields}
 use Rattle.element.specs.declared.OutputFields.{OutputFields}
 use Rattle.element.specs.declared.OutputFields.TheVariants as O
 use Rattle.element.specs.declared.OperationFields.{OperationFields}
-use Rattle.transaction.specs.declared.Entry.{Entry}
-use Rattle.entry.specs.declared.EntryAnswer.{EntryAnswer}
-use Rattle.entry.specs.declared.EntryAnswer.TheVariants as A
+use Rattle.std.specs.Prelude.{Result, Ok}
+use Rattle.wire.specs.declared.Refusal.{Refusal}
+use Rattle.entry.specs.declared.Found.{Found}
 use Rattle.entry.specs.declared.EntryRead.{EntryRead}
 use Rattle.test_exports.specs.code.Values.{put_id, exported_entry, encoded_entry, Value, put_at, owners_values, output_values, recipients_values}
 use Rattle.test_exports.specs.code.Values.{operation_values, entry_values, answer_values}
@@ -53,10 +53,10 @@ pub put-nft-transfer : (x : OutputFields) (group at long : ℕ) (o : OwnersField
 put-nft-transfer x group at long o e t a b c d z first second third fourth h =
     by-case output_values x (O.NftTransfer group at long o) t z e (put_four 5 7 11 group t a b first second 8 at c third 9 long d fourth (owners_values o) z h)
 
-pub put-found : (x : EntryAnswer) (f : Entry) (start end bytes : ℕ) → x ≡ A.Found f start end bytes → (t a b c d z : List ℕ)
-    → a ≡ set t 0 0 → b ≡ set a 1 bytes → c ≡ set b 3 start → d ≡ set c 4 end → z ≡ put_at (entry_values f) d → z ≡ put_at (answer_values x) t
-put-found x f start end bytes e t a b c d z first second third fourth h =
-    by-case answer_values x (A.Found f start end bytes) t z e (put_four 0 1 0 bytes t a b first second 3 start c third 4 end d fourth (entry_values f) z h)
+pub put-found : (x : Result Found Refusal) (f : Found) → x ≡ Ok f → (t a b c d z : List ℕ)
+    → a ≡ set t 0 0 → b ≡ set a 1 f.bytes → c ≡ set b 3 f.start → d ≡ set c 4 f.end → z ≡ put_at (entry_values f.fields) d → z ≡ put_at (answer_values x) t
+put-found x f e t a b c d z first second third fourth h =
+    by-case answer_values x (Ok f) t z e (put_four 0 1 0 f.bytes t a b first second 3 f.start c third 4 f.end d fourth (entry_values f.fields) z h)
 
 pub put-fields : (o : OperationFields) (t a b c d e f g z : List ℕ)
     → a ≡ set t 17 o.outputs_at → b ≡ set a 18 o.outputs_count → c ≡ set b 15 o.terms.indices_at → d ≡ set c 16 o.terms.indices_count

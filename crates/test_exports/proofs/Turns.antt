@@ -1,4 +1,5 @@
 -- A step's answer as integers. Assumes nothing.
+use Rattle.std.specs.Prelude.{Ok, Err, Result}
 use Prim.Native.Nat.{ℕ}
 use mathlib.Core.Path.{◌≡◌, sym, ap, ◌∙◌}
 use mathlib.Core.List.{List}
@@ -6,18 +7,16 @@ use Rattle.wire.specs.declared.Refusal.{Refusal}
 use Rattle.wire.specs.Numbers.{number_of}
 use Rattle.writer.specs.declared.Writer.{Writer}
 use Rattle.writer.specs.declared.Step.{Step}
-use Rattle.writer.specs.declared.Written.{Written}
-use Rattle.writer.specs.declared.Written.TheVariants as W
 use Rattle.writer.specs.Steps.{Turn, written_number, written_place, after}
 use Rattle.test_exports.specs.code.Turns.{numbers_of, encoded_step, exported_turn, encoded_turn}
 
-abbrev encoded_answer : Writer → Written → List ℕ
+abbrev encoded_answer : Writer → Result ℕ Refusal → List ℕ
 encoded_answer w a = numbers_of w (written_number a) (written_place a)
 
-pub done-encoded : (w : Writer) (a : Written) (n : ℕ) → a ≡ W.Done n → (m : List ℕ) → m ≡ numbers_of w 0 n → m ≡ encoded_answer w a
+pub done-encoded : (w : Writer) (a : Result ℕ Refusal) (n : ℕ) → a ≡ Ok n → (m : List ℕ) → m ≡ numbers_of w 0 n → m ≡ encoded_answer w a
 done-encoded w a n q m h = h ∙ sym (ap (encoded_answer w) q)
 
-pub refused-encoded : (w : Writer) (a : Written) (e : Refusal) → a ≡ W.Refused e → (n : ℕ) → n ≡ number_of e → (m : List ℕ) → m ≡ numbers_of w n e.place
+pub refused-encoded : (w : Writer) (a : Result ℕ Refusal) (e : Refusal) → a ≡ Err e → (n : ℕ) → n ≡ number_of e → (m : List ℕ) → m ≡ numbers_of w n e.place
     → m ≡ encoded_answer w a
 refused-encoded w a e q n k m h = h ∙ ap (λ (i : ℕ). numbers_of w i e.place) k ∙ sym (ap (encoded_answer w) q)
 

@@ -13,12 +13,11 @@ ghost use Rattle.test_exports.specs.code.Encoded.{exported_table, encoded_table,
 ghost use Rattle.test_exports.specs.code.Values.{credential_values, entry_values, answer_values, exported_entry, encoded_entry, put_at, owners_values};
 ghost use Rattle.test_exports.specs.code.Values.{output_values, input_values, recipients_values, operation_values};
 
-use draft::Answer;
 use element::{InputFields, OperationFields, OutputFields, Recipients};
-use entry::EntryAnswer;
-use entry_table::Tabled;
+use entry::Found;
 use owners::OwnersFields;
 use transaction::{CredentialFields, Entry};
+use wire::Refusal;
 
 pub mod steps;
 
@@ -27,15 +26,15 @@ pub fn cellfacet_test_table(bytes: &[u8], table: &mut [u32]) -> u64
     ensures { exported_table result table.new ≡ encoded_table (tabled memo_most bytes.now table.old) }
 {
     match entry_table::rows::check_table(bytes, table) {
-        Tabled::Listed(rows, end) => (rows % 1048576) as u64 * 1048576 + (end % 1048576) as u64,
-        Tabled::Refused(refusal) => {
-            let rule = refusal.rule;
-            (wire::number_of(rule) % 1048576) as u64 * 1099511627776
+        Ok((rows, end)) => (rows % 1048576) as u64 * 1048576 + (end % 1048576) as u64,
+        Err(refusal) => {
+            (u32::from(refusal.rule) % 1048576) as u64 * 1099511627776
                 + (refusal.place % 1048576) as u64
         }
     }
 }
 
+// A test and an index: after `if let Some(number) = numbers.get_mut(i)` a proof knows the length and not what was stored (tried).
 fn put(numbers: &mut [u64], i: usize, value: u64)
     ensures { numbers.new ≡ set numbers.old i value }
 {
@@ -124,8 +123,7 @@ fn put_operation(numbers: &mut [u64], fields: OperationFields)
     put(numbers, 7, fields.terms.group);
     put(numbers, 8, fields.terms.payload_at as u64);
     put(numbers, 9, fields.terms.payload_length);
-    let recipients = fields.recipients;
-    put_recipients(numbers, recipients);
+    put_recipients(numbers, fields.recipients);
 }
 
 fn put_credential(numbers: &mut [u64], fields: CredentialFields)
@@ -171,20 +169,19 @@ fn put_entry(numbers: &mut [u64], entry: Entry)
     }
 }
 
-fn put_answer(numbers: &mut [u64], answer: EntryAnswer)
+fn put_answer(numbers: &mut [u64], answer: Result<Found, Refusal>)
     ensures { numbers.new ≡ put_at (answer_values answer) numbers.old }
 {
     match answer {
-        EntryAnswer::Found(fields, start, end, bytes) => {
+        Ok(found) => {
             put(numbers, 0, 0);
-            put(numbers, 1, bytes as u64);
-            put(numbers, 3, start as u64);
-            put(numbers, 4, end as u64);
-            put_entry(numbers, fields);
+            put(numbers, 1, found.bytes as u64);
+            put(numbers, 3, found.start as u64);
+            put(numbers, 4, found.end as u64);
+            put_entry(numbers, found.fields);
         }
-        EntryAnswer::Refused(refusal) => {
-            let rule = refusal.rule;
-            put(numbers, 0, wire::number_of(rule) as u64);
+        Err(refusal) => {
+            put(numbers, 0, u32::from(refusal.rule) as u64);
             put(numbers, 1, refusal.place as u64);
         }
     }
@@ -202,8 +199,7 @@ pub fn cellfacet_test_entry(
         numbers.old asset.old txid.old }
 {
     let read = entry::entry(bytes, n);
-    let answer = read.answer;
-    put_answer(numbers, answer);
+    put_answer(numbers, read.answer);
     wire::put_bytes(asset, &read.asset);
     wire::put_bytes(txid, &read.txid);
 }
@@ -213,13 +209,8 @@ pub fn cellfacet_test_fill(draft: &mut [u8], slot: u64, signature: &[u8], answer
     ensures { (answer.new, draft.new) ≡ encoded_fill
         (fill_call (reader (avm memo_most)) draft.old slot signature.now) }
 {
-    match draft::fill(draft, slot as usize, signature) {
-        Answer::Done(length) => {
-            *answer = [0, length as u64];
-        }
-        Answer::Refused(refusal) => {
-            let rule = refusal.rule;
-            *answer = [wire::number_of(rule) as u64, refusal.place as u64];
-        }
-    }
+    *answer = match draft::fill(draft, slot as usize, signature) {
+        Ok(length) => [0, length as u64],
+        Err(refusal) => [u32::from(refusal.rule) as u64, refusal.place as u64],
+    };
 }

@@ -1,4 +1,5 @@
-// The writer's steps for tests in C or Rust. The state is passed as integers in a lent array, followed by the answer's number and place.
+// The writer's steps for tests in C or Rust; each is exported to C by a name of its own. The state is passed as integers in a lent array, followed by
+// the answer's number and place.
 ghost use Rattle.std.specs.Prelude.{◌≡◌};
 ghost use Rattle.transaction.specs.Avm.{avm};
 ghost use Rattle.transaction.specs.Answer.{memo_most};
@@ -6,17 +7,17 @@ ghost use Rattle.writer.specs.Fields.{add_output, add_input, add_operation, add_
 ghost use Rattle.writer.specs.Steps.{fresh, start, close, finish};
 ghost use Rattle.test_exports.specs.code.Turns.{writer_of, numbers_of, encoded_step, exported_turn, encoded_turn};
 
-use writer::{Step, Writer, Written};
+use writer::{Step, Writer};
 
 fn writer_of(numbers: &[u64; 8]) -> Writer
     ensures { result ≡ writer_of numbers.now }
 {
     Writer {
-        type_id: (numbers[0] % 4294967296) as u32,
-        phase: (numbers[1] % 4294967296) as u32,
+        type_id: (numbers[0] & 0xffff_ffff) as u32,
+        phase: (numbers[1] & 0xffff_ffff) as u32,
         at: numbers[2] as usize,
         list: numbers[3] as usize,
-        count: (numbers[4] % 4294967296) as u32,
+        count: (numbers[4] & 0xffff_ffff) as u32,
         last: numbers[5] as usize,
     }
 }
@@ -39,14 +40,13 @@ fn numbers_of(writer: Writer, number: u64, place: u64) -> [u64; 8]
 fn step_numbers(step: Step) -> [u64; 8]
     ensures { result ≡ encoded_step step }
 {
-    let next = step.next;
-    let answer = step.answer;
-    match answer {
-        Written::Done(length) => numbers_of(next, 0, length as u64),
-        Written::Refused(refusal) => {
-            let rule = refusal.rule;
-            numbers_of(next, wire::number_of(rule) as u64, refusal.place as u64)
-        }
+    match step.answer {
+        Ok(length) => numbers_of(step.next, 0, length as u64),
+        Err(refusal) => numbers_of(
+            step.next,
+            u32::from(refusal.rule) as u64,
+            refusal.place as u64,
+        ),
     }
 }
 

@@ -13,7 +13,7 @@ use lib.Dec.{leb, eqb}
 use borrow.Author.Tests.{le-leb, lt-leb, leb-true, leb-false, eqb-false, eq-eqb, ne_eqb}
 use Rattle.wire.specs.Bytes.{Bytes, pick}
 use Rattle.wire.specs.laws.Bytes.{bytes_take}
-use Rattle.wire.specs.Format.{Format, Result, took, refused, on_result, read}
+use Rattle.wire.specs.Format.{Format, Parsed, took, refused, on_result, read}
 use Rattle.wire.proofs.Format.{read-complete, local}
 use Rattle.wire.specs.laws.Format.{kept, took-refused, stands-inside}
 use Rattle.wire.specs.declared.Rule.{Rule}
@@ -47,10 +47,10 @@ module _ {A : Type 0} (G : Format A) where
   beginning : (s : List ℕ) (k : ℕ) → Bytes s → ReadCut (take k s) ⊎ (read G (take k s) 0 ≡ read G s 0)
   beginning s k b = judge (read G (take k s) 0) refl
     where
-      whole_of : {o : Result A} → read G (take k s ++ drop k s) 0 ≡ o → o ≡ read G s 0
+      whole_of : {o : Parsed A} → read G (take k s ++ drop k s) 0 ≡ o → o ≡ read G s 0
       whole_of e = sym e ∙ ap (λ (t : List ℕ). read G t 0) (take-append-drop k s)
 
-      judge : (o : Result A) → read G (take k s) 0 ≡ o → ReadCut (take k s) ⊎ (read G (take k s) 0 ≡ read G s 0)
+      judge : (o : Parsed A) → read G (take k s) 0 ≡ o → ReadCut (take k s) ⊎ (read G (take k s) 0 ≡ read G s 0)
       judge (took v n) r = inr (r ∙ whole_of (kept G (take k s) (drop k s) 0 v n (bytes_take k s b) r))
       judge (refused e) r =
           ⊎_elim
@@ -82,10 +82,10 @@ module _ {A : Type 0} (G : Format A) where
 
 module _ {A : Type 0} (G : Format A) (most : ℕ) where
   -- the answer of the check, and what it makes of the result of a parse: all bytes must be read
-  abbrev answer : List ℕ → Result A
+  abbrev answer : List ℕ → Parsed A
   answer s = whole G most s refused took
 
-  abbrev to_end : List ℕ → Result A → Result A
+  abbrev to_end : List ℕ → Parsed A → Parsed A
   to_end s o = on_result o refused (λ v n. pick (eqb n (length s)) (took v n) (refused (refusal bytes_after_end n)))
 
   answer-short : (s : List ℕ) → length s ≤ most → answer s ≡ to_end s (read G s 0)
@@ -116,10 +116,10 @@ module _ {A : Type 0} (G : Format A) (most : ℕ) where
           → pick (eqb n (length s)) (took v n) (refused (refusal bytes_after_end n)) ≡ refused e → Cause s e
       ended h v n r true w z = let z' : took v n ≡ refused e = rw w at z in took-refused v n e z'
       ended h v n r false w z =
-          let z' : ◌≡◌ {A = Result A} (refused (refusal bytes_after_end n)) (refused e) = rw w at z in
+          let z' : ◌≡◌ {A = Parsed A} (refused (refusal bytes_after_end n)) (refused e) = rw w at z in
           after h v n r (eqb-false n (length s) w) cc
 
-      inside : length s ≤ most → (o : Result A) → read G s 0 ≡ o → to_end s o ≡ refused e → Cause s e
+      inside : length s ≤ most → (o : Parsed A) → read G s 0 ≡ o → to_end s o ≡ refused e → Cause s e
       inside h (took v n) r z = ended h v n r (eqb n (length s)) refl z
       inside h (refused d) r z = rule h (r ∙ z)
 
@@ -127,7 +127,7 @@ module _ {A : Type 0} (G : Format A) (most : ℕ) where
       fits true t = let h = leb-true (length s) most t in inside h (read G s 0) refl (sym (answer-short s h) ∙ q)
       fits false t =
           let h : most < length s = leb-false (length s) most t in
-          let z : ◌≡◌ {A = Result A} (refused (refusal too_long 0)) (refused e) = sym (answer-long s h) ∙ q in
+          let z : ◌≡◌ {A = Parsed A} (refused (refusal too_long 0)) (refused e) = sym (answer-long s h) ∙ q in
           long h cc
 
   -- if the check accepts s, the format reads s up to its end

@@ -1,4 +1,5 @@
 -- Laws for the readers of this crate: what each answer says of the parse that its function ensures. Assumes nothing.
+use Rattle.std.specs.Prelude.{Ok, Err, Result}
 use Prim.Native.Nat.{ℕ, ◌+◌}
 use mathlib.Core.Path.{◌≡◌, sym, ◌∙◌}
 use mathlib.Core.Bool.{Bool, true, false, not}
@@ -8,12 +9,8 @@ use native.Mathlib.Omega.{arith}
 use lib.ListN.{length}
 use lib.Dec.{leb}
 use Rattle.wire.specs.declared.Refusal.{Refusal}
-use Rattle.wire.specs.declared.End.{End}
-use Rattle.wire.specs.declared.End.TheVariants as P
-use Rattle.wire.specs.declared.Integer.{Integer}
-use Rattle.wire.specs.declared.Integer.TheVariants as N
 use Rattle.wire.specs.Bytes.{pick}
-use Rattle.wire.specs.Numbers.{by, cut_at, unknown_type}
+use Rattle.wire.specs.Numbers.{by, unknown_type}
 use Rattle.wire.specs.Format.{Format, took, read}
 use Rattle.wire.proofs.Format.{parse-alike}
 use Rattle.wire.specs.Fields.{integer}
@@ -28,6 +25,7 @@ use Rattle.element.proofs.Reading.{on-whole, on-refused}
 use Rattle.transaction.specs.Credentials.{signatures, pieces}
 use Rattle.transaction.specs.Plan.{type_id, type_of, type_of-id, types, is_type}
 use Rattle.transaction.specs.declared.TransactionType.{TransactionType}
+use Rattle.wire.proofs.Trying.{passed-on, same-parts}
 
 -- ---- the type
 
@@ -40,28 +38,30 @@ unfolding tag
 type-parse s at stop go =
     parse-alike (integer 4) s at stop _ _ (λ n m. find-is type_id type_of type_of-id types n (λ k. go k m) (stop (by unknown_type at)))
 
-module _ {R : Type 0} (s : List ℕ) (at : ℕ) (z : R) (stop : Refusal → R) (go : TransactionType → ℕ → R) (x : Integer) (p : x ≡ valued (integer 4) s at) where
-  pub on-type : (v n : ℕ) → x ≡ N.Value v n → (b : Bool) → b ≡ is_type v → not b ≡ false → z ≡ go (type_of v) n → z ≡ type_tag.parse s at stop go
+module _ {R : Type 0} (s : List ℕ) (at : ℕ) (z : R) (stop : Refusal → R) (go : TransactionType → ℕ → R) (x : Result (ℕ × ℕ) Refusal)
+    (p : x ≡ valued (integer 4) s at) where
+  pub on-type : (v n : ℕ) → x ≡ Ok (v, n) → (b : Bool) → b ≡ is_type v → not b ≡ false → z ≡ go (type_of v) n → z ≡ type_tag.parse s at stop go
   on-type v n q b i h e = W.on_value 4 s at z stop _ x v n p q (rw (sym i ∙ not-false b h) e) ∙ sym (type-parse s at stop go)
 
-  pub on-type-unknown : (v n : ℕ) → x ≡ N.Value v n → (b : Bool) → b ≡ is_type v → not b ≡ true → z ≡ stop (by unknown_type at)
+  pub on-type-unknown : (v n : ℕ) → x ≡ Ok (v, n) → (b : Bool) → b ≡ is_type v → not b ≡ true → z ≡ stop (by unknown_type at)
       → z ≡ type_tag.parse s at stop go
   on-type-unknown v n q b i h e = W.on_value 4 s at z stop _ x v n p q (rw (sym i ∙ not-true b h) e) ∙ sym (type-parse s at stop go)
 
-  pub on-type-short : (e : Refusal) → x ≡ N.Refused e → (f : Refusal) → f ≡ cut_at 4 s at → z ≡ stop f → z ≡ type_tag.parse s at stop go
-  on-type-short e q f g r = W.on-short 4 s at z stop _ x e p q f g r ∙ sym (type-parse s at stop go)
+  pub on-type-refused : (e : Refusal) → x ≡ Err e → z ≡ stop e → z ≡ type_tag.parse s at stop go
+  on-type-refused e q r = W.on-integer-refused 4 s at z stop _ x e p q r ∙ sym (type-parse s at stop go)
 
-pub head-made : (v n : ℕ) (b : Bool) → b ≡ is_type v → not b ≡ false → N.Value v n ≡ N.Value (type_id (type_of v)) n
+pub head-made : (v n : ℕ) (b : Bool) → b ≡ is_type v → not b ≡ false → ◌≡◌ {A = Result (ℕ × ℕ) Refusal} (Ok (v, n)) (Ok (type_id (type_of v), n))
 head-made v n b i h = rw (listed-code type_id type_of type_of-id types v (sym i ∙ not-false b h))
 
-pub ruleset heading = (W.on_value, W.on-short, W.if-eq, W.if-ne, on-type, on-type-unknown, on-type-short, W.on-part, W.on-cut, head-made, W.integer-made)
+pub ruleset heading =
+    (W.on_value, W.on-integer-refused, W.if-eq, W.if-ne, on-type, on-type-unknown, on-type-refused, W.on-part, W.on-part-refused, head-made, passed-on)
 
 -- ---- lists
 
 -- c elements, read as a list of length c
 pub on-sized : {A R : Type 0} (E : List ℕ → Format A) (step : List ℕ → A → List ℕ) (st : List ℕ) (c : ℕ) (s : List ℕ) (at : ℕ) (z : R) (stop : Refusal → R)
-    (go : List A → ℕ → R) (x : End) (n : ℕ)
-    → x ≡ ended (items E step st c) s at → x ≡ P.At n → Slice s → ((l : List A) → c ≡ length l → z ≡ go l n) → z ≡ (items E step st c).parse s at stop go
+    (go : List A → ℕ → R) (x : Result ℕ Refusal) (n : ℕ)
+    → x ≡ ended (items E step st c) s at → x ≡ Ok n → Slice s → ((l : List A) → c ≡ length l → z ≡ go l n) → z ≡ (items E step st c).parse s at stop go
 on-sized E step st c s at z stop go x n p q b e =
     let (l, t) = W.next-took (items E step st c) s at x n p q in
     e l (sym (items-sized E step st c l ((items E step st c).sound s at l n (slice-bytes s b) t).0)) ∙ sym (W.parse-took (items E step st c) s at stop go l n t)
@@ -76,11 +76,24 @@ on_none E step st c s at z stop go h e = rw h e
 pub on-any : {R : Type 0} (c : ℕ) (z a b : R) → z ≡ a → z ≡ pick (leb 0 c) a b
 on-any c z a b e = rw (le-leb 0 c (omega arith)) e
 
-pub list-made : (c d n : ℕ) → c ≡ d → N.Value c n ≡ N.Value d n
+pub list-made : (c d n : ℕ) → c ≡ d → ◌≡◌ {A = Result (ℕ × ℕ) Refusal} (Ok (c, n)) (Ok (d, n))
 list-made c d n e = rw e
 
-pub ruleset listing =
-    (W.on_value, W.on-short, W.if-le, W.if-not-le, on_none, on-any, on-sized, W.on-list-refused, W.ends, W.stops, list-made, W.integer-made, W.part-made)
+pub ruleset listing = (
+  W.on_value,
+  W.on-integer-refused,
+  W.if-le,
+  W.if-not-le,
+  on_none,
+  on-any,
+  on-sized,
+  W.on-list-refused,
+  W.ends,
+  W.stops,
+  list-made,
+  W.integer-made,
+  passed-on,
+)
 
 -- ---- a value that was read ends after as many bytes as the format writes for it
 
@@ -89,23 +102,23 @@ written_next F s at v n b t = (F.sound s at v n (slice-bytes s b) t).1.ends
 
 -- ---- a reader that returns a number computed from the value
 
-module _ {A R : Type 0} (F : Format A) (f : A → ℕ) (s : List ℕ) (at : ℕ) (z : R) (stop : Refusal → R) (go : A → ℕ → R) (x : Integer)
-    (p : x ≡ F.parse s at N.Refused (λ v n. N.Value (f v) n)) where
-  pub on-answered : (c n : ℕ) → x ≡ N.Value c n → ((v : A) → c ≡ f v → read F s at ≡ took v n → z ≡ go v n) → z ≡ F.parse s at stop go
+module _ {A R : Type 0} (F : Format A) (f : A → ℕ) (s : List ℕ) (at : ℕ) (z : R) (stop : Refusal → R) (go : A → ℕ → R) (x : Result (ℕ × ℕ) Refusal)
+    (p : x ≡ F.parse s at Err (λ v n. Ok (f v, n))) where
+  pub on-answered : (c n : ℕ) → x ≡ Ok (c, n) → ((v : A) → c ≡ f v → read F s at ≡ took v n → z ≡ go v n) → z ≡ F.parse s at stop go
   on-answered c n q e =
-      on-whole F N.Refused (λ v n. N.Value (f v) n) s at z stop go x p (N.Value c n) n q (λ d i. cc) (λ v m i. cc) (λ v i t. e v (cc) t)
+      on-whole F Err (λ v n. Ok (f v, n)) s at z stop go x p (Ok (c, n)) n q (λ d i. cc) (λ v m i. (same-parts i).1) (λ v i t. e v (sym (same-parts i).0) t)
 
-  pub on-answered-refused : (e : Refusal) → x ≡ N.Refused e → z ≡ stop e → z ≡ F.parse s at stop go
-  on-answered-refused e q r = on-refused F N.Refused (λ v n. N.Value (f v) n) s at z stop go x p e q (λ v m i. cc) (λ d i. cc) r
+  pub on-answered-refused : (e : Refusal) → x ≡ Err e → z ≡ stop e → z ≡ F.parse s at stop go
+  on-answered-refused e q r = on-refused F Err (λ v n. Ok (f v, n)) s at z stop go x p e q (λ v m i. cc) (λ d i. cc) r
 
 -- ---- signatures, and a credential
 
-module _ {R : Type 0} (c : ℕ) (s : List ℕ) (at : ℕ) (z : R) (stop : Refusal → R) (go : List (List ℕ) → ℕ → R) (x : End)
+module _ {R : Type 0} (c : ℕ) (s : List ℕ) (at : ℕ) (z : R) (stop : Refusal → R) (go : List (List ℕ) → ℕ → R) (x : Result ℕ Refusal)
     (p : x ≡ ended (pieces (signatures c [])) s at) where
-  pub on-signatures : (n : ℕ) → x ≡ P.At n → ((l : List (List ℕ)) → z ≡ go l n) → z ≡ (pieces (signatures c [])).parse s at stop go
+  pub on-signatures : (n : ℕ) → x ≡ Ok n → ((l : List (List ℕ)) → z ≡ go l n) → z ≡ (pieces (signatures c [])).parse s at stop go
   on-signatures n q e = W.ends (pieces (signatures c [])) R s at z stop go x n p q e
 
-  pub on-signatures-refused : (e : Refusal) → x ≡ P.Refused e → z ≡ stop e → z ≡ (pieces (signatures c [])).parse s at stop go
+  pub on-signatures-refused : (e : Refusal) → x ≡ Err e → z ≡ stop e → z ≡ (pieces (signatures c [])).parse s at stop go
   on-signatures-refused e q r = W.stops (pieces (signatures c [])) R s at z stop go x e p q r
 
-pub ruleset piecewise = (W.on_value, W.on-short, W.if-eq, W.if-ne, on-signatures, on-signatures-refused, W.part-made)
+pub ruleset piecewise = (W.on_value, W.on-integer-refused, W.if-eq, W.if-ne, on-signatures, on-signatures-refused, W.part-made, passed-on)

@@ -8,7 +8,7 @@ use native.Mathlib.Omega.{arith}
 use lib.ListN.{length, take, get_or, length-append}
 use lib.Seq.{take-append_seam}
 use Rattle.wire.specs.Bytes.{Bytes}
-use Rattle.wire.specs.Format.{Format, Result, took, refused, read}
+use Rattle.wire.specs.Format.{Format, Parsed, took, refused, read}
 use Rattle.wire.proofs.Format.{write-inj, read-complete}
 use Rattle.wire.proofs.Whole.{whole-sound, whole-complete}
 use Rattle.transaction.specs.Slots.{slot_at, Spaced}
@@ -16,7 +16,7 @@ use Rattle.transaction.specs.Credentials.{Want, layout, pieces, credentials, pla
 use Rattle.transaction.specs.Signed.{most_bytes, taken, end_of, slots_of, signed, check, accepted, credentials_at, slots_at, assemble, Parts}
 use Rattle.transaction.proofs.CredentialLaws.{length-pieces, spaced-places, slot_is, count-layout, blanks-good, fitting-layout}
 
-pub taken-inv : {A : Type 0} (o : Result A) → taken o ≡ true → (v : A) × (n : ℕ) × (o ≡ took v n)
+pub taken-inv : {A : Type 0} (o : Parsed A) → taken o ≡ true → (v : A) × (n : ℕ) × (o ≡ took v n)
 taken-inv (took v n) h = (v, n, refl)
 taken-inv (refused e) h = absurd (false≢true h)
 
@@ -57,7 +57,7 @@ module _ {U : Type 0} (body : Format U) (wants : U → List Want) where
     pub unsigned-eq : take (credentials_at body wants d) d ≡ body.write u
     unfolding assemble
     unsigned-eq =
-        ap (λ (o : Result U). take (end_of o) d) read-body ∙ ap (take (length (body.write u))) p.same
+        ap (λ (o : Parsed U). take (end_of o) d) read-body ∙ ap (take (length (body.write u))) p.same
         ∙ take-append_seam (body.write u) ((credentials (wants u)).write l)
 
     pub length-eq : length d ≡ length (body.write u) + size (layout (wants u))

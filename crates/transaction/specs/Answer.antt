@@ -1,5 +1,6 @@
 -- The answer of the check: the layout of what is accepted, or the refusal. Assumes nothing.
-use Rattle.std.specs.Prelude.{ℕ, ◌+◌, List, length}
+use Rattle.wire.specs.declared.Refusal.{Refusal}
+use Rattle.std.specs.Prelude.{ℕ, ◌+◌, List, length, Ok, Err, Result}
 use Rattle.wire.specs.Numbers.{number_of}
 use Rattle.wire.specs.Format.{on_result}
 use Rattle.transaction.specs.Plan.{type_id, plan}
@@ -9,8 +10,6 @@ use Rattle.transaction.specs.Avm.{avm}
 use Rattle.transaction.specs.declared.TransactionType.{TransactionType}
 use Rattle.transaction.specs.declared.ListName.TheVariants as N
 use Rattle.transaction.specs.declared.Layout.{Layout}
-use Rattle.transaction.specs.declared.Checked.{Checked}
-use Rattle.transaction.specs.declared.Checked.TheVariants as C
 
 -- the memo's limit in the base
 abbrev pub memo_most : ℕ
@@ -33,14 +32,14 @@ module _ (most : ℕ) where
   layout u = layout_from u.0.type (length ((head (avm most)).write u.0)) u.1
 
   -- the answer of the check
-  abbrev pub checked : List ℕ → Checked
-  checked s = on_result (check (avm most) s) C.Refused (λ v n. C.Accepted (layout v.0) n)
+  abbrev pub checked : List ℕ → Result (Layout × ℕ) Refusal
+  checked s = on_result (check (avm most) s) Err (λ v n. Ok (layout v.0, n))
 
 -- the number and the place that an answer reports: 0 and the length for an accepted transaction
-abbrev pub checked_number : Checked → ℕ
-checked_number (C.Accepted layout bytes) = 0
-checked_number (C.Refused e) = number_of e
+abbrev pub checked_number : Result (Layout × ℕ) Refusal → ℕ
+checked_number (Ok (layout, bytes)) = 0
+checked_number (Err e) = number_of e
 
-abbrev pub checked_place : Checked → ℕ
-checked_place (C.Accepted layout bytes) = bytes
-checked_place (C.Refused e) = e.place
+abbrev pub checked_place : Result (Layout × ℕ) Refusal → ℕ
+checked_place (Ok (layout, bytes)) = bytes
+checked_place (Err e) = e.place

@@ -1,6 +1,5 @@
 -- Entries: the rows of the table and the typed fields of each entry, from the values and their offsets. Assumes nothing.
-use Rattle.std.specs.Prelude.{ℕ, ◌+◌, ◌-◌, ◌*◌, List, [], ◌∷◌, ◌++◌, length, replicate, eqb}
-use Rattle.std.proofs.Math.Option.{Option, none, some}
+use Rattle.std.specs.Prelude.{ℕ, ◌+◌, ◌-◌, ◌*◌, List, [], ◌∷◌, ◌++◌, length, replicate, eqb, Option, None, Some}
 use Rattle.wire.specs.Bytes.{pick}
 use Rattle.wire.specs.Format.{Format}
 use Rattle.wire.specs.Series.{not_below}
@@ -35,8 +34,8 @@ row e = entry_kind e.fields ∷ e.start ∷ (e.end - e.start) ∷ []
 
 -- entry n, counted from 0
 unfoldable pub nth : List EntryAt → ℕ → Option EntryAt
-nth [] n = none
-nth (e ∷ l) n = pick (eqb n 0) (some e) (nth l (n - 1))
+nth [] n = None
+nth (e ∷ l) n = pick (eqb n 0) (Some e) (nth l (n - 1))
 
 unfoldable pub rows : List EntryAt → List ℕ
 rows [] = []

@@ -1,9 +1,8 @@
 -- A family of transactions: its types, their numbers, and the plan of each. The signed format, the check and the entries are made from these.
 -- Assumes nothing.
-use Rattle.std.specs.Prelude.{◌≡◌, refl, ℕ, ◌+◌, Bool, List, ◌++◌, length}
-use Rattle.std.proofs.Math.Option.{Option}
+use Rattle.std.specs.Prelude.{◌≡◌, refl, ℕ, ◌+◌, Bool, List, ◌++◌, length, Option}
 use Rattle.wire.specs.Numbers.{wrong_codec, unknown_type}
-use Rattle.wire.specs.Format.{Format, Result}
+use Rattle.wire.specs.Format.{Format, Parsed}
 use Rattle.wire.specs.Fields.{integer, blob, constant}
 use Rattle.wire.specs.Sequence.{and_then, named, tag}
 use Rattle.transaction.specs.Credentials.{Want}
@@ -59,7 +58,7 @@ module _ (F : Family) where
   abbrev pub signed : Format Signed
   signed = AnySigned.signed unsigned wants
 
-  abbrev pub check : List ℕ → Result Signed
+  abbrev pub check : List ℕ → Parsed Signed
   check = AnySigned.check unsigned wants
 
   abbrev pub accepted : List ℕ → Bool

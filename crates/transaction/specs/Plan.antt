@@ -1,8 +1,7 @@
 -- The plans: what a transaction of each type has after the chain id. A name stands for a field or a list; a row has the names of a type in byte
 -- order, and the least number of elements of each list. Value, format, credentials wanted, entries and the writer's order of steps come from the
 -- names (specs/Form). A new field is a name here, a new type a row. Assumes nothing.
-use Rattle.std.specs.Prelude.{◌≡◌, refl, ℕ, ◌<◌, Bool, List, [], ◌∷◌, length, eqb}
-use Rattle.std.proofs.Math.Option.{Option, none, some}
+use Rattle.std.specs.Prelude.{◌≡◌, refl, ℕ, ◌<◌, Bool, List, [], ◌∷◌, length, eqb, Option, None, Some}
 use Rattle.wire.specs.Bytes.{pick}
 use Rattle.wire.specs.Format.{Format}
 use Rattle.wire.specs.Fields.{blob}
@@ -37,8 +36,8 @@ pub record Elements : Type 1 where
   pub entries : ℕ → ℕ → Element → List EntryAt
 
 abbrev pub want_of : Option CredentialType → ℕ → List Want
-want_of none n = []
-want_of (some t) n = record { type = t; signatures = n } ∷ []
+want_of None n = []
+want_of (Some t) n = record { type = t; signatures = n } ∷ []
 
 -- ---- fields
 
@@ -59,11 +58,11 @@ content_of most F.Chain = blob 32
 
 -- the credential that a field asks for, if any, and its number of signatures
 abbrev pub field_credential : FieldName → Option CredentialType
-field_credential F.Memo = none
-field_credential F.Name = none
-field_credential F.Symbol = none
-field_credential F.Denomination = none
-field_credential F.Chain = none
+field_credential F.Memo = None
+field_credential F.Name = None
+field_credential F.Symbol = None
+field_credential F.Denomination = None
+field_credential F.Chain = None
 
 abbrev pub field_signatures : (f : FieldName) → Content f → ℕ
 field_signatures F.Memo v = 0
@@ -81,7 +80,7 @@ outputs entry =
       Element = TransferableOutput;
       element = not_below transferable_output;
       non_empty = output-non_empty;
-      credential = none;
+      credential = None;
       signatures = λ v. 0;
       entries = entry;
     }
@@ -93,7 +92,7 @@ inputs entry =
       Element = Input;
       element = input;
       non_empty = input-non_empty;
-      credential = some secp_credential;
+      credential = Some secp_credential;
       signatures = λ v. length v.indices;
       entries = entry;
     }
@@ -105,7 +104,7 @@ operations =
       Element = Operation;
       element = λ prev. operation;
       non_empty = operation-non_empty;
-      credential = some nft_credential;
+      credential = Some nft_credential;
       signatures = λ v. length v.terms.0;
       entries = operation_entry;
     }
@@ -117,7 +116,7 @@ states =
       Element = InitialState;
       element = initial_state;
       non_empty = state-non_empty;
-      credential = none;
+      credential = None;
       signatures = λ v. 0;
       entries = state_entries;
     }

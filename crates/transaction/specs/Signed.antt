@@ -1,7 +1,7 @@
 -- A signed transaction, for any format of what stands before the credentials (`body`: codec and unsigned part) and any function that says which
 -- credentials a value wants. Assumes nothing.
 use Rattle.std.specs.Prelude.{◌≡◌, Bool, true, false, List, [], ◌++◌, ℕ, ◌≤◌, length}
-use Rattle.wire.specs.Format.{Format, Result, took, refused, read}
+use Rattle.wire.specs.Format.{Format, Parsed, took, refused, read}
 use Rattle.wire.specs.Sequence.{and_then}
 use Rattle.wire.specs.Whole.{whole}
 use Rattle.transaction.specs.Credentials.{Want, layout, credentials, places}
@@ -10,16 +10,16 @@ use Rattle.transaction.specs.Credentials.{Want, layout, credentials, places}
 abbrev pub most_bytes : ℕ
 most_bytes = 65536
 
-abbrev pub taken : {A : Type 0} → Result A → Bool
+abbrev pub taken : {A : Type 0} → Parsed A → Bool
 taken (took v n) = true
 taken (refused e) = false
 
 -- from the result of reading the body: the offset just past it, and the offsets of the slots
-abbrev pub end_of : {U : Type 0} → Result U → ℕ
+abbrev pub end_of : {U : Type 0} → Parsed U → ℕ
 end_of (took u m) = m
 end_of (refused e) = 0
 
-abbrev pub slots_of : {U : Type 0} → (U → List Want) → Result U → List ℕ
+abbrev pub slots_of : {U : Type 0} → (U → List Want) → Parsed U → List ℕ
 slots_of wants (took u m) = places m (layout (wants u))
 slots_of wants (refused e) = []
 
@@ -29,7 +29,7 @@ module _ {U : Type 0} (body : Format U) (wants : U → List Want) where
   signed = and_then body (λ u. credentials (wants u))
 
   -- the check: at most 65,536 bytes, one signed transaction, and nothing after it
-  unfoldable pub check : List ℕ → Result (U × List (List ℕ))
+  unfoldable pub check : List ℕ → Parsed (U × List (List ℕ))
   unfolding signed
   check s = whole signed most_bytes s refused took
 

@@ -2,7 +2,6 @@
 #![tactic(auto)]
 
 use element::{InputFields, OperationFields, OutputFields};
-use wire::Refusal;
 
 // The most bytes of a signed transaction.
 pub const MOST_BYTES: usize = 65536;
@@ -19,7 +18,7 @@ pub const SECP_CREDENTIAL: u64 = 9;
 pub const NFT_CREDENTIAL: u64 = 14;
 
 // The types of a transaction, 0 to 4.
-#[derive(Clone, Copy)]
+#[derive(Clone, Copy, PartialEq, Eq)]
 pub enum TransactionType {
     Base,
     CreateAsset,
@@ -29,7 +28,7 @@ pub enum TransactionType {
 }
 
 // The names of the fields and lists between the chain id and the credentials.
-#[derive(Clone, Copy)]
+#[derive(Clone, Copy, PartialEq, Eq)]
 pub enum FieldName {
     Memo,
     Name,
@@ -38,7 +37,7 @@ pub enum FieldName {
     Chain,
 }
 
-#[derive(Clone, Copy)]
+#[derive(Clone, Copy, PartialEq, Eq)]
 pub enum ListName {
     Output,
     Input,
@@ -74,18 +73,4 @@ pub struct Layout {
     pub inputs_at: usize,
     pub credentials_count: u64,
     pub credentials_at: usize,
-}
-
-// The layout of an unsigned part that is wholly there, or why it is refused.
-#[derive(Clone, Copy)]
-pub enum UnsignedRead {
-    Whole(Layout),
-    Refused(Refusal),
-}
-
-// The layout of an accepted transaction and its length in bytes, or why it is refused.
-#[derive(Clone, Copy)]
-pub enum Checked {
-    Accepted(Layout, usize),
-    Refused(Refusal),
 }

@@ -5,47 +5,31 @@
 #![tactic(auto)]
 
 ghost use Rattle.std.specs.Prelude.{◌≡◌, ◌+◌, ◌≤◌, length};
-ghost use Rattle.wire.specs.Numbers.{refusal};
 ghost use Rattle.transaction.specs.Answer.{memo_most};
-ghost use Rattle.upload.specs.declared.Standing.TheVariants as S;
 ghost use Rattle.upload.specs.Calls.{fresh, shown, laid, kept, judged, verdict, piece_call, end_call};
 
-use transaction::Checked;
+use transaction::Layout;
 use wire::{Refusal, Rule};
 
-// What a piece is answered, and what stands from then on: nothing, so that more pieces are needed; or a refusal, which stays.
-#[derive(Clone, Copy)]
-pub enum Standing {
-    NeedMore,
-    Refused(Refusal),
-}
-
-// How many bytes are stored, at the front of the store, and what stands.
+// How many bytes are stored, at the front of the store, and what a piece is answered and stands from then on: nothing, so that more pieces are needed;
+// or a refusal, which stays.
 #[derive(Clone, Copy)]
 pub struct Upload {
     pub stored: usize,
-    pub standing: Standing,
+    pub standing: Option<Refusal>,
 }
-
-// The number of the rule that a field is cut short by.
-const CUT_SHORT: u32 = 2;
 
 // The most bytes of a short piece.
 const SHORT: usize = 1024;
 
 // What the whole check's answer means for a piece: bytes that are accepted or cut short may have more behind them.
-fn shown(answer: Checked) -> Standing
+fn shown(answer: Result<(Layout, usize), Refusal>) -> Option<Refusal>
     ensures { result ≡ shown answer }
 {
-    match answer {
-        Checked::Accepted(_, _) => Standing::NeedMore,
-        Checked::Refused(refusal) => {
-            let rule = refusal.rule;
-            if wire::number_of(rule) == CUT_SHORT {
-                return Standing::NeedMore;
-            }
-            Standing::Refused(refusal)
-        }
+    let refusal = answer.err()?;
+    match refusal.rule {
+        Rule::CutShort => None,
+        _ => Some(refusal),
     }
 }
 
@@ -54,106 +38,89 @@ fn put_at(store: &mut [u8], at: usize, from: &[u8])
     requires { at + length from.now ≤ length store.old }
     ensures { store.new ≡ laid at from.now store.old }
 {
-    wire::put_bytes(&mut store[at..at + from.len()], from);
+    store[at..at + from.len()].copy_from_slice(from);
 }
 
 // Judges a piece where it is to be stored. `aside` has the piece's length: it takes what stood there, which is put back if the piece is refused.
-fn judge(store: &mut [u8], at: usize, piece: &[u8], aside: &mut [u8], most: u64) -> Standing
+fn judge(store: &mut [u8], at: usize, piece: &[u8], aside: &mut [u8], most: u64) -> Option<Refusal>
     requires piece_in_bounds { at + length piece.now ≤ length store.old }
     requires aside_len { length aside.old ≡ length piece.now }
     ensures { (result, store.new) ≡ judged most at piece.now store.old }
 {
     let end = at + piece.len();
-    wire::put_bytes(aside, &store[at..end]);
+    aside.copy_from_slice(&store[at..end]);
     put_at(store, at, piece);
-    match shown(checker::check::check_within(&store[..end], most)) {
-        Standing::NeedMore => Standing::NeedMore,
-        Standing::Refused(refusal) => {
-            put_at(store, at, aside);
-            Standing::Refused(refusal)
-        }
+    let refusal = shown(checker::check::check_within(&store[..end], most));
+    if refusal.is_some() {
+        put_at(store, at, aside);
     }
+    refusal
 }
 
-// What a short piece covers is put aside in a short array, which takes less time to clear.
-fn judge_short(store: &mut [u8], at: usize, piece: &[u8], most: u64) -> Standing
+// What a piece of at most N bytes covers is put aside in an array of N bytes.
+fn judge_within<const N: usize>(
+    store: &mut [u8],
+    at: usize,
+    piece: &[u8],
+    most: u64,
+) -> Option<Refusal>
     requires piece_in_bounds { at + length piece.now ≤ length store.old }
-    requires piece_len_bound { length piece.now ≤ 1024 }
+    requires piece_len_bound { length piece.now ≤ N }
+    requires array_bound { N ≤ 65536 }
     ensures { (result, store.new) ≡ judged most at piece.now store.old }
 {
-    let mut aside = [0u8; SHORT];
+    let mut aside = [0u8; N];
     judge(store, at, piece, &mut aside[..piece.len()], most)
-}
-
-// What any other piece covers: the bytes joined are at most 65,536, and so is the piece.
-fn judge_long(store: &mut [u8], at: usize, piece: &[u8], most: u64) -> Standing
-    requires piece_in_bounds { at + length piece.now ≤ length store.old }
-    requires piece_len_bound { length piece.now ≤ 65536 }
-    ensures { (result, store.new) ≡ judged most at piece.now store.old }
-{
-    let mut aside = [0u8; transaction::MOST_BYTES];
-    judge(store, at, piece, &mut aside[..piece.len()], most)
-}
-
-fn refused(rule: Rule) -> Standing
-    ensures { result ≡ S.Refused (refusal rule 0) }
-{
-    Standing::Refused(wire::refuse(rule, 0))
 }
 
 // Judges a piece where no refusal stands: room first, then the whole check of the bytes joined. More than 65,536 bytes are refused without a copy.
-fn judge_any(store: &mut [u8], at: usize, piece: &[u8], most: u64) -> Standing
+fn judge_any(store: &mut [u8], at: usize, piece: &[u8], most: u64) -> Option<Refusal>
     ensures { (result, store.new) ≡ kept (verdict most at piece.now store.old) at piece.now store.old }
 {
-    if store.len() < at {
-        return refused(Rule::NoRoom);
-    }
-    if store.len() - at < piece.len() {
-        return refused(Rule::NoRoom);
+    if store.len() < at || store.len() - at < piece.len() {
+        return Some(wire::refuse(Rule::NoRoom, 0));
     }
     if transaction::MOST_BYTES < at + piece.len() {
-        return refused(Rule::TooLong);
+        return Some(wire::refuse(Rule::TooLong, 0));
     }
+    // a short array takes less time to clear
     if piece.len() <= SHORT {
-        return judge_short(store, at, piece, most);
+        return judge_within::<SHORT>(store, at, piece, most);
     }
-    judge_long(store, at, piece, most)
+    judge_within::<{ transaction::MOST_BYTES }>(store, at, piece, most)
 }
 
 // Hands over a piece. A memo may have at most `most` bytes.
 fn piece_within(upload: Upload, store: &mut [u8], piece: &[u8], most: u64) -> Upload
     ensures { (result, store.new) ≡ piece_call most upload store.old piece.now }
 {
-    let standing = upload.standing;
-    let stored = upload.stored;
-    let Standing::NeedMore = standing else {
+    if upload.standing.is_some() {
         return upload;
-    };
+    }
+    let stored = upload.stored;
     match judge_any(store, stored, piece, most) {
-        Standing::NeedMore => Upload {
+        None => Upload {
             stored: stored + piece.len(),
-            standing: Standing::NeedMore,
+            standing: None,
         },
-        Standing::Refused(refusal) => Upload {
+        Some(refusal) => Upload {
             stored,
-            standing: Standing::Refused(refusal),
+            standing: Some(refusal),
         },
     }
 }
 
 // Checks the bytes stored, as a whole. A memo may have at most `most` bytes.
-fn end_within(upload: Upload, store: &[u8], most: u64) -> Checked
+fn end_within(upload: Upload, store: &[u8], most: u64) -> Result<(Layout, usize), Refusal>
     ensures { result ≡ end_call most upload store.now }
 {
-    let standing = upload.standing;
-    let stored = upload.stored;
-    if let Standing::Refused(refusal) = standing {
-        return Checked::Refused(refusal);
+    if let Some(refusal) = upload.standing {
+        return Err(refusal);
     }
-    if store.len() < stored {
-        return Checked::Refused(wire::refuse(Rule::NoRoom, 0));
+    if store.len() < upload.stored {
+        return Err(wire::refuse(Rule::NoRoom, 0));
     }
-    checker::check::check_within(&store[..stored], most)
+    checker::check::check_within(&store[..upload.stored], most)
 }
 
 impl Upload {
@@ -163,7 +130,7 @@ impl Upload {
     {
         Upload {
             stored: 0,
-            standing: Standing::NeedMore,
+            standing: None,
         }
     }
 
@@ -176,7 +143,7 @@ impl Upload {
     }
 
     // Ends the upload: the answer of the check of the bytes stored, or the refusal that stands.
-    pub fn end(self, store: &[u8]) -> Checked
+    pub fn end(self, store: &[u8]) -> Result<(Layout, usize), Refusal>
         ensures { result ≡ end_call memo_most self store.now }
     {
         end_within(self, store, transaction::MEMO_MOST)

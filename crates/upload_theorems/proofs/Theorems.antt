@@ -1,4 +1,5 @@
 -- THE THEOREM: however bytes are cut into pieces, the upload is answered as the whole. For every limit of the memo. Assumes nothing.
+use Rattle.std.specs.Prelude.{Err, Option, None, Some}
 use Prim.Native.Nat.{ℕ, ◌<◌}
 use mathlib.Core.Path.{◌≡◌, refl, sym, ap, ◌∙◌}
 use mathlib.Core.List.{List, [], ◌∷◌, ◌++◌, append-nil}
@@ -9,9 +10,6 @@ use Rattle.wire.specs.declared.Refusal.{Refusal}
 use Rattle.wire.specs.Numbers.{refusal, too_long, no_room}
 use Rattle.transaction.specs.Signed.{most_bytes}
 use Rattle.transaction.specs.Answer.{checked}
-use Rattle.transaction.specs.declared.Checked.TheVariants as C
-use Rattle.upload.specs.declared.Standing.{Standing}
-use Rattle.upload.specs.declared.Standing.TheVariants as S
 use Rattle.upload.specs.declared.Upload.{Upload}
 use Rattle.upload.specs.Calls.{fresh, shown, end_call}
 use Rattle.upload.proofs.Calling.{checked-long, end-stands, end-checked}
@@ -22,7 +20,7 @@ use Rattle.upload_theorems.proofs.Running.{held, run-stood, run-append, run_more
 
 module _ (most : ℕ) where
   -- the end of an upload whose bytes are all stored
-  ended-more : (s : List ℕ) (ps : List (List ℕ)) → answer most s ps ≡ S.NeedMore → ended most s ps ≡ checked most (whole ps)
+  ended-more : (s : List ℕ) (ps : List (List ℕ)) → answer most s ps ≡ None → ended most s ps ≡ checked most (whole ps)
   ended-more s ps q =
       let (same, fits) = run_more most s [] ps (omega arith) q in
       let w : List ℕ = whole ps in
@@ -31,28 +29,28 @@ module _ (most : ℕ) where
       ∙ sym (end-checked most (held most s w).0 t refl (omega (arith, length-append w (drop (length w) s))) (checked most w)
       (ap (checked most) (sym (take_at w (drop (length w) s) (length w) refl))))
 
-  end_refused : (s : List ℕ) (ps : List (List ℕ)) (e : Refusal) → answer most s ps ≡ S.Refused e → ended most s ps ≡ C.Refused e
+  end_refused : (s : List ℕ) (ps : List (List ℕ)) (e : Refusal) → answer most s ps ≡ Some e → ended most s ps ≡ Err e
   end_refused s ps e q = sym (end-stands most (after most s ps).0 (after most s ps).1 e q)
 
   piece-answer : (s : List ℕ) (ps : List (List ℕ)) → Fits s ps → answer most s ps ≡ shown (checked most (whole ps))
   piece-answer s ps f = run-answer most s [] ps f.bytes f.short f.room (empty-more most)
 
-  own-refusal : (s : List ℕ) (ps : List (List ℕ)) (e : Refusal) → Fits s ps → answer most s ps ≡ S.Refused e → checked most (whole ps) ≡ C.Refused e
+  own-refusal : (s : List ℕ) (ps : List (List ℕ)) (e : Refusal) → Fits s ps → answer most s ps ≡ Some e → checked most (whole ps) ≡ Err e
   own-refusal s ps e f q = (shown-inv (checked most (whole ps)) e (sym (piece-answer s ps f) ∙ q)).0
 
   end-answer : (s : List ℕ) (ps : List (List ℕ)) → Fits s ps → ended most s ps ≡ checked most (whole ps)
   end-answer s ps f = go (answer most s ps) refl
     where
-      go : (x : Standing) → answer most s ps ≡ x → ended most s ps ≡ checked most (whole ps)
-      go S.NeedMore q = ended-more s ps q
-      go (S.Refused e) q = end_refused s ps e q ∙ sym (own-refusal s ps e f q)
+      go : (x : Option Refusal) → answer most s ps ≡ x → ended most s ps ≡ checked most (whole ps)
+      go None q = ended-more s ps q
+      go (Some e) q = end_refused s ps e q ∙ sym (own-refusal s ps e f q)
 
-  refused_long : (s : List ℕ) (ps : List (List ℕ)) → most_bytes < length (whole ps) → (e : Refusal) × (ended most s ps ≡ C.Refused e)
+  refused_long : (s : List ℕ) (ps : List (List ℕ)) → most_bytes < length (whole ps) → (e : Refusal) × (ended most s ps ≡ Err e)
   refused_long s ps h = go (answer most s ps) refl
     where
-      go : (x : Standing) → answer most s ps ≡ x → (e : Refusal) × (ended most s ps ≡ C.Refused e)
-      go S.NeedMore q = (refusal too_long 0, ended-more s ps q ∙ checked-long most (whole ps) h)
-      go (S.Refused e) q = (e, end_refused s ps e q)
+      go : (x : Option Refusal) → answer most s ps ≡ x → (e : Refusal) × (ended most s ps ≡ Err e)
+      go None q = (refusal too_long 0, ended-more s ps q ∙ checked-long most (whole ps) h)
+      go (Some e) q = (e, end_refused s ps e q)
 
   -- ---- one piece
 
@@ -64,16 +62,16 @@ module _ (most : ℕ) where
   pub ended-one : (p : List ℕ) → ended most p (p ∷ []) ≡ checked most p
   ended-one p = go (shown (checked most p)) refl
     where
-      go : (x : Standing) → shown (checked most p) ≡ x → ended most p (p ∷ []) ≡ checked most p
-      go S.NeedMore q = ended-more p (p ∷ []) (answer-one p ∙ q) ∙ ap (checked most) (append-nil p)
-      go (S.Refused e) q = end_refused p (p ∷ []) e (answer-one p ∙ q) ∙ sym (shown-inv (checked most p) e q).0
+      go : (x : Option Refusal) → shown (checked most p) ≡ x → ended most p (p ∷ []) ≡ checked most p
+      go None q = ended-more p (p ∷ []) (answer-one p ∙ q) ∙ ap (checked most) (append-nil p)
+      go (Some e) q = end_refused p (p ∷ []) e (answer-one p ∙ q) ∙ sym (shown-inv (checked most p) e q).0
 
   -- a byte does not fit an empty store
-  pub answer-full : answer most [] ((0 ∷ []) ∷ []) ≡ S.Refused (refusal no_room 0)
+  pub answer-full : answer most [] ((0 ∷ []) ∷ []) ≡ Some (refusal no_room 0)
   unfolding run
   answer-full = ap (λ (a : Upload × List ℕ). a.0.standing) ((upload-owes most).piece-decides.no_room 0 [] (0 ∷ []) (omega arith))
 
-  pub ended-full : ended most [] ((0 ∷ []) ∷ []) ≡ C.Refused (refusal no_room 0)
+  pub ended-full : ended most [] ((0 ∷ []) ∷ []) ≡ Err (refusal no_room 0)
   ended-full = end_refused [] ((0 ∷ []) ∷ []) (refusal no_room 0) answer-full
 
   pub cut-freely : CutFreely most

@@ -1,13 +1,10 @@
 -- Bytes that are uploaded in pieces, however they are cut (document 02, T-01). Assumes nothing.
-use Rattle.std.specs.Prelude.{◌≡◌, List, [], ◌∷◌, ◌++◌, ℕ, ◌≤◌, ◌<◌, length, drop}
+use Rattle.transaction.specs.declared.Layout.{Layout}
+use Rattle.std.specs.Prelude.{◌≡◌, List, [], ◌∷◌, ◌++◌, ℕ, ◌≤◌, ◌<◌, length, drop, Err, Result, Option, None, Some}
 use Rattle.wire.specs.Bytes.{Bytes}
 use Rattle.wire.specs.declared.Refusal.{Refusal}
 use Rattle.transaction.specs.Signed.{most_bytes}
 use Rattle.transaction.specs.Answer.{checked}
-use Rattle.transaction.specs.declared.Checked.{Checked}
-use Rattle.transaction.specs.declared.Checked.TheVariants as C
-use Rattle.upload.specs.declared.Standing.{Standing}
-use Rattle.upload.specs.declared.Standing.TheVariants as S
 use Rattle.upload.specs.declared.Upload.{Upload}
 use Rattle.upload.specs.Calls.{upload, fresh, shown, piece_call, end_call}
 
@@ -27,10 +24,10 @@ abbrev pub after : ℕ → List ℕ → List (List ℕ) → Upload × List ℕ
 after most s ps = run most (fresh, s) ps
 
 -- what the last of these pieces was answered; with no piece, need more
-abbrev pub answer : ℕ → List ℕ → List (List ℕ) → Standing
+abbrev pub answer : ℕ → List ℕ → List (List ℕ) → Option Refusal
 answer most s ps = (after most s ps).0.standing
 
-abbrev pub ended : ℕ → List ℕ → List (List ℕ) → Checked
+abbrev pub ended : ℕ → List ℕ → List (List ℕ) → Result (Layout × ℕ) Refusal
 ended most s ps = end_call most (after most s ps).0 (after most s ps).1
 
 -- bytes of at most 65,536 that fit the store
@@ -45,12 +42,12 @@ pub record CutFreely (most : ℕ) : Type 0 where
   -- and the last piece's answer is that check's, with 0 and 2 shown as need more
   pub piece-answer : (s : List ℕ) (ps : List (List ℕ)) → Fits s ps → answer most s ps ≡ shown (checked most (whole ps))
   -- "and so are the stored bytes where no piece was refused": the whole is at the front, and nothing after it has changed; whatever fits
-  pub stored : (s : List ℕ) (ps : List (List ℕ)) → answer most s ps ≡ S.NeedMore
-      → after most s ps ≡ (upload (length (whole ps)) S.NeedMore, whole ps ++ drop (length (whole ps)) s)
+  pub stored : (s : List ℕ) (ps : List (List ℕ)) → answer most s ps ≡ None
+      → after most s ps ≡ (upload (length (whole ps)) None, whole ps ++ drop (length (whole ps)) s)
   -- "after one, pieces and the end call get the same answer until a fresh start": neither state nor store changes any more
-  pub stays : (s : List ℕ) (ps qs : List (List ℕ)) (e : Refusal) → answer most s ps ≡ S.Refused e → after most s (ps ++ qs) ≡ after most s ps
-  pub end_refused : (s : List ℕ) (ps : List (List ℕ)) (e : Refusal) → answer most s ps ≡ S.Refused e → ended most s ps ≡ C.Refused e
+  pub stays : (s : List ℕ) (ps qs : List (List ℕ)) (e : Refusal) → answer most s ps ≡ Some e → after most s (ps ++ qs) ≡ after most s ps
+  pub end_refused : (s : List ℕ) (ps : List (List ℕ)) (e : Refusal) → answer most s ps ≡ Some e → ended most s ps ≡ Err e
   -- and it is the whole's own refusal
-  pub own-refusal : (s : List ℕ) (ps : List (List ℕ)) (e : Refusal) → Fits s ps → answer most s ps ≡ S.Refused e → checked most (whole ps) ≡ C.Refused e
+  pub own-refusal : (s : List ℕ) (ps : List (List ℕ)) (e : Refusal) → Fits s ps → answer most s ps ≡ Some e → checked most (whole ps) ≡ Err e
   -- "Longer bytes are always refused", whatever the store
-  pub too_long : (s : List ℕ) (ps : List (List ℕ)) → most_bytes < length (whole ps) → (e : Refusal) × (ended most s ps ≡ C.Refused e)
+  pub too_long : (s : List ℕ) (ps : List (List ℕ)) → most_bytes < length (whole ps) → (e : Refusal) × (ended most s ps ≡ Err e)

@@ -4,19 +4,21 @@ use mathlib.Core.Path.{◌≡◌, refl, sym, ap, ◌∙◌}
 use mathlib.Core.List.{List, [], ◌∷◌, ◌++◌, append-nil}
 use mathlib.Core.Bool.{Bool, true, false}
 use native.Mathlib.Omega.{arith}
-use native.Mathlib.Decide.{dec_le}
 use native.Mathlib.Numerals.{add-one}
 use native.Mathlib.Nat.{pow-suc, pow-succ', pow-le-pow_right, lt_of_lt_of_le, mul_assoc, add-mul, add_assoc, zero-lt-suc, mod-lt, div-one}
-use native.Mathlib.Nat.{div-div-eq-div-mul, div-lt_iff_lt-mul, div-add-mod', le_refl}
+use native.Mathlib.Nat.{div-div-eq-div-mul, div-lt_iff_lt-mul, div-add-mod'}
 use lib.Arith.{mod-mul, digits_div, digits_mod}
 use lib.ListN.{length, get_or, set, take, drop, drop_of_length-le, length-drop, length-append}
 use lib.Seq.{drop-cons, take-length, take-nil, take_all, take-suc, append_snoc, set_at, get_or-drop, length-take-le}
-use lib.Dec.{ltb, leb}
+use lib.Dec.{ltb}
 use mir.Val.{Fits}
 use mir.Syntax.{w8}
-use borrow.Author.Tests.{lt-ltb, le-ltb, ltb-true, ltb-false, leb-true}
-use Rattle.wire.specs.declared.Order.{Order}
-use Rattle.wire.specs.declared.Order.TheVariants.{Below, Equal, Above}
+use borrow.Author.Tests.{lt-ltb, le-ltb, ltb-true, ltb-false}
+use Rattle.std.proofs.Common.{Ordering, Less, Equal, Greater}
+use Rattle.std.proofs.lemmas.Bool.Decides.{nat_tests}
+use Rattle.std.specs.Cmp.Lexicographic.{slice_cmp}
+use Rattle.std.specs.Ordering.{nat_cmp, is_lt, is_gt}
+use Rattle.std.proofs.lemmas.Cmp.{same_from_slice_cmp}
 use Rattle.wire.specs.Bytes.{Bytes, pick, between, value, digits, below}
 use Rattle.wire.specs.laws.Bytes.{bytes_take, bytes_drop, value-lt, pow-positive}
 use Rattle.wire.specs.code.Order.{order, key_below}
@@ -88,46 +90,27 @@ integer-more s v (suc j) h k =
 
 -- ---- the order of two strings
 
--- the order of a and b from index i on; opaque, so that `search` reads a, b and i off it
-unfoldable pub order_from : List ℕ → List ℕ → ℕ → Order
-order_from a b i = order (drop i a) (drop i b)
+-- the library's order of byte strings is the one by `below`
+module _ (a b : List ℕ) (r : Ordering) (h : r ≡ slice_cmp nat_cmp a b) where
+  lt-below : is_lt r ≡ below a b
+  unfolding below
+  lt-below = same_from_slice_cmp nat_cmp is_lt below refl (λ _ _. refl) (λ _ _. refl) (λ x y xs ys o h. grind (arith, nat_tests)) a b r h
 
-pub order-all : (a b : List ℕ) → order_from a b 0 ≡ order a b
-unfolding order_from
-order-all a b = refl
+  gt-above : is_gt r ≡ below b a
+  unfolding below
+  gt-above =
+      same_from_slice_cmp nat_cmp is_gt (λ a b. below b a) refl (λ _ _. refl) (λ _ _. refl) (λ x y xs ys o h. grind (arith, nat_tests)) a b r h
 
--- the comparison from index i on gives y: by a byte that decides, by equal bytes, or by the end of a string
-module _ (a b : List ℕ) (i : ℕ) (y : Order) (w : order_from a b i ≡ y) where
-  pub order_lt : i < length a → i < length b → get_or a i 0 < get_or b i 0 → Below ≡ y
-  unfolding order below order_from
-  order_lt h k t = found (rw (drop-cons a i 0, drop-cons b i 0, lt-ltb (get_or a i 0) (get_or b i 0))) w
+  pub slice-order : r ≡ order a b
+  unfolding order
+  slice-order = cases r lt-below gt-above
+    where
+      cases : (r : Ordering) → is_lt r ≡ below a b → is_gt r ≡ below b a → r ≡ pick (below a b) Less (pick (below b a) Greater Equal)
+      cases Less e f = rw (← e)
+      cases Equal e f = rw (← e, ← f)
+      cases Greater e f = rw (← e, ← f)
 
-  pub order-gt : i < length a → i < length b → get_or b i 0 < get_or a i 0 → Above ≡ y
-  unfolding order below order_from
-  order-gt h k t =
-      let u : get_or b i 0 ≤ get_or a i 0 = omega arith in
-      found (rw (drop-cons a i 0, drop-cons b i 0, le-ltb (get_or a i 0) (get_or b i 0), lt-ltb (get_or b i 0) (get_or a i 0))) w
-
-  pub order-eq : i < length a → i < length b → get_or b i 0 ≤ get_or a i 0 → get_or a i 0 ≤ get_or b i 0 → order_from a b (i + 1) ≡ y
-  unfolding order below order_from
-  order-eq h k t u =
-      found (rw (add-one, drop-cons a i 0, drop-cons b i 0, le-ltb (get_or a i 0) (get_or b i 0), le-ltb (get_or b i 0) (get_or a i 0))) w
-
-  pub order-longer : i < length a → length b ≤ i → Above ≡ y
-  unfolding order below order_from
-  order-longer h k = found (rw (drop-cons a i 0, drop_of_length-le b)) w
-
-  pub order-shorter : length a ≤ i → i < length b → Below ≡ y
-  unfolding order below order_from
-  order-shorter h k = found (rw (drop-cons b i 0, drop_of_length-le a)) w
-
-  pub order_same : length a ≤ i → length b ≤ i → Equal ≡ y
-  unfolding order below order_from
-  order_same h k = found (rw (drop_of_length-le a, drop_of_length-le b)) w
-
-pub ruleset comparing = (order_lt, order-gt, order-eq, order-longer, order-shorter, order_same)
-
--- the same for `below` alone, if a test finds only that two bytes differ
+-- a below b, from index i on; opaque, so that `search` reads a, b and i off it
 unfoldable pub below_from : List ℕ → List ℕ → ℕ → Bool
 below_from a b i = below (drop i a) (drop i b)
 
@@ -143,22 +126,6 @@ below-empty (x ∷ xs) = refl
 
 -- m is the length of the shorter string
 module _ (a b : List ℕ) (i : ℕ) (y : Bool) (w : below_from a b i ≡ y) (m : ℕ) (s : m ≡ min (length a) (length b)) where
-  pub below-differ : i < m → (get_or a i 0 ≡ get_or b i 0 → ⊥) → ltb (get_or a i 0) (get_or b i 0) ≡ y
-  unfolding below below_from
-  below-differ h n =
-      found (rw (drop-cons a i 0 (omega arith), drop-cons b i 0 (omega arith)) (cases (ltb (get_or a i 0) (get_or b i 0)) refl)) w
-    where
-      cases : (t : Bool) → ltb (get_or a i 0) (get_or b i 0) ≡ t
-          → pick t true (pick (ltb (get_or b i 0) (get_or a i 0)) false (below (drop (suc i) a) (drop (suc i) b))) ≡ t
-      cases true e = refl
-      cases false e = rw (lt-ltb (get_or b i 0) (get_or a i 0) (other (ltb-false (get_or a i 0) (get_or b i 0) e)))
-        where
-          other : get_or b i 0 ≤ get_or a i 0 → get_or b i 0 < get_or a i 0
-          other l = apart (get_or a i 0) (get_or b i 0) l n
-            where
-              apart : (x y : ℕ) → y ≤ x → (x ≡ y → ⊥) → y < x
-              apart x y l n = elim (dec_le (suc y) x) [ yes m ↦ m | no m ↦ absurd (n (omega arith)) ]
-
   pub below_on : i < m → get_or a i 0 ≡ get_or b i 0 → below_from a b (i + 1) ≡ y
   unfolding below below_from
   below_on h e =
@@ -172,43 +139,32 @@ module _ (a b : List ℕ) (i : ℕ) (y : Bool) (w : below_from a b i ≡ y) (m :
         le-ltb (get_or b i 0) (get_or a i 0) (omega arith),
       )) w
 
-  pub below-ended : m ≤ i → ltb i (length b) ≡ y
-  unfolding below below_from
-  below-ended h = found (cases (ltb i (length b)) refl) w
-    where
-      cases : (t : Bool) → ltb i (length b) ≡ t → below (drop i a) (drop i b) ≡ t
-      cases true e =
-          let l : i < length b = ltb-true i (length b) e in
-          rw (drop_of_length-le a {i = i} (omega arith), drop-cons b i 0 l)
-      cases false e = rw (drop_of_length-le b (ltb-false i (length b) e)) (below-empty (drop i a))
-
-pub ruleset separating = (below-differ, below_on, below-ended)
-
 -- the strings compared, a and b, are p and q
 pub below_parts : (a b p q : List ℕ) (t : Bool) → t ≡ below a b → a ≡ p → b ≡ q → t ≡ below p q
 below_parts a b p q t h e f = rw (← e, ← f) h
 
+pub order-lt : (a b : List ℕ) → is_lt (order a b) ≡ below a b
+unfolding order
+order-lt a b = cases (below a b) (below b a)
+  where
+    cases : (u v : Bool) → is_lt (pick u Less (pick v Greater Equal)) ≡ u
+    cases true v = refl
+    cases false true = refl
+    cases false false = refl
+
 -- the answer of a test on the order: t if both are equal
-abbrev pub or_else : Order → Bool → Bool
-or_else Below t = true
+abbrev pub or_else : Ordering → Bool → Bool
+or_else Less t = true
 or_else Equal t = t
-or_else Above t = false
+or_else Greater t = false
 
 -- the code found the order x of a and b to be o; y is the test's answer
-module _ (a b : List ℕ) (x o : Order) (p : x ≡ order a b) (q : x ≡ o) (y : Bool) where
+module _ (a b : List ℕ) (x o : Ordering) (p : x ≡ order a b) (q : x ≡ o) (y : Bool) where
   order-else : (t : Bool) → y ≡ or_else o t → y ≡ pick (below a b) true (pick (below b a) false t)
   unfolding order
-  order-else t e = e ∙ ap (λ (r : Order). or_else r t) (found q p) ∙ cases (below a b) (below b a)
+  order-else t e = e ∙ ap (λ (r : Ordering). or_else r t) (found q p) ∙ cases (below a b) (below b a)
     where
-      cases : (u v : Bool) → or_else (pick u Below (pick v Above Equal)) t ≡ pick u true (pick v false t)
-      cases true v = refl
-      cases false true = refl
-      cases false false = refl
-
-  pub order_below : y ≡ or_else o false → y ≡ below a b
-  order_below e = order-else false e ∙ cases (below a b) (below b a)
-    where
-      cases : (u v : Bool) → pick u true (pick v false false) ≡ u
+      cases : (u v : Bool) → or_else (pick u Less (pick v Greater Equal)) t ≡ pick u true (pick v false t)
       cases true v = refl
       cases false true = refl
       cases false false = refl
@@ -216,8 +172,6 @@ module _ (a b : List ℕ) (x o : Order) (p : x ≡ order a b) (q : x ≡ o) (y :
   pub order-key : (i j : ℕ) → y ≡ or_else o (ltb i j) → y ≡ key_below a i b j
   unfolding key_below
   order-key i j e = order-else (ltb i j) e
-
-pub ruleset ordered = (order_below, order-key)
 
 -- of concatenations whose first strings have equal lengths, the second strings decide only if the first are equal
 pub below-append : (a b c d : List ℕ) → length a ≡ length b → below (a ++ c) (b ++ d) ≡ pick (below a b) true (pick (below b a) false (below c d))
@@ -288,12 +242,3 @@ pub copy_some : (s z y : List ℕ) → length z < length s → y ≡ take (lengt
 copy_some s z y h e =
     let o : length z ≤ length s = omega arith in
     e ∙ rw (drop_of_length-le z {i = length s} o, append-nil)
-
--- y is z after a copy of the bytes from `at` on, which are all there
-pub copy-part : (s z y : List ℕ) (at : ℕ) (t : Bool) → y ≡ take (length z) (between at (at + length z) s) ++ drop (length (between at (at + length z) s)) z
-    → t ≡ leb (length z) (length s - at) → t ≡ true → y ≡ take (length z) (drop at s)
-copy-part s z y at t e q h =
-    let r : length z ≤ length s - at = leb-true (length z) (length s - at) (found q h) in
-    let d : at + length z - at ≡ length z = omega arith in
-    let n : length (take (length z) (drop at s)) ≡ length z = length-take-le (length z) (drop at s) (rw length-drop (omega arith)) in
-    e ∙ rw (d, n, drop_of_length-le z {i = length z} (le_refl (length z)), append-nil) (take_all (length z) (take (length z) (drop at s)) (omega arith))

@@ -8,9 +8,9 @@ use lib.ListN.{length, take, drop, take-append-drop}
 use lib.Seq.{take_at}
 use Rattle.wire.specs.declared.Refusal.{Refusal}
 use Rattle.wire.specs.Bytes.{Bytes, between}
-use Rattle.wire.specs.Format.{Format, Result, took, refused, on_result, Stands, read}
+use Rattle.wire.specs.Format.{Format, Parsed, took, refused, on_result, Stands, read}
 
-result-alike : {A R : Type 0} (o : Result A) (stop : Refusal → R) (go on : A → ℕ → R) → ((a : A) (m : ℕ) → o ≡ took a m → go a m ≡ on a m)
+result-alike : {A R : Type 0} (o : Parsed A) (stop : Refusal → R) (go on : A → ℕ → R) → ((a : A) (m : ℕ) → o ≡ took a m → go a m ≡ on a m)
     → on_result o stop go ≡ on_result o stop on
 result-alike (took a m) stop go on q = q a m refl
 result-alike (refused e) stop go on q = refl

@@ -4,6 +4,7 @@ pub mod Numbers
 pub mod Format
 pub mod Whole
 pub mod Orders
+pub mod Trying
 pub mod Reading
 pub mod Passing
 pub mod Refusing

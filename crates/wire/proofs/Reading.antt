@@ -3,25 +3,23 @@
 -- law is the whole goal of a `return`, z ≡ (the parse), for any answer z; its premises are what a call ensures, what the match on its answer found,
 -- and the rest of the parse. The format, s and `at` are inferred from the goal; the answer x and its fields, from the context.
 -- Assumes nothing.
+use Rattle.std.specs.Prelude.{Ok, Err, Result, Option, Some, None}
+use Rattle.std.specs.Result.{result_ok}
 use Prim.Native.Nat.{ℕ, zero, suc, ◌+◌, ◌-◌, ◌*◌, ◌^◌, ◌≤◌, ◌<◌}
-use mathlib.Core.Path.{◌≡◌, refl, sym, ap, ◌∙◌}
+use mathlib.Core.Path.{◌≡◌, refl, sym, ap, ◌∙◌, subst}
 use mathlib.Core.List.{List, [], ◌∷◌}
 use mathlib.Core.Bool.{Bool, true, false, not}
 use native.Mathlib.Omega.{arith}
 use native.Mathlib.Numerals.{sub-one}
 use native.Mathlib.Nat.{not-suc-le-zero, mul-zero, mul-suc, add_comm, mul-le-mul, le_of_lt}
 use lib.ListN.{length, take, drop, replicate, length-append, length-drop, length-replicate}
-use lib.Seq.{length-take-le}
+use lib.Seq.{length-take-le, take_all}
 use lib.Dec.{ltb, leb, eqb}
 use borrow.Author.Tests.{lt-ltb, le-ltb, le-leb, lt-leb, leb-true, eq-eqb, ne_eqb}
 use Rattle.wire.specs.declared.Refusal.{Refusal}
-use Rattle.wire.specs.declared.End.{End}
-use Rattle.wire.specs.declared.End.TheVariants as P
-use Rattle.wire.specs.declared.Integer.{Integer}
-use Rattle.wire.specs.declared.Integer.TheVariants as N
 use Rattle.wire.specs.Bytes.{value, pick, between, below}
 use Rattle.wire.specs.Numbers.{ReadingRule, by, cut_at}
-use Rattle.wire.specs.Format.{Format, Result, took, refused, on_result, read, Stands}
+use Rattle.wire.specs.Format.{Format, Parsed, took, refused, on_result, read, Stands}
 use Rattle.wire.specs.laws.Format.{refused-took, took-refused, stands-append}
 use Rattle.wire.proofs.Format.{stands-part}
 use Rattle.wire.specs.Fields.{blob, integer}
@@ -31,6 +29,7 @@ use Rattle.wire.specs.laws.Sequence.{find-is}
 use Rattle.wire.specs.Series.{left, above, increasing}
 use Rattle.wire.specs.Parsers.{list_parse, list_write, Chain, blob_parse, listed}
 use Rattle.wire.specs.code.Answer.{ended, valued, whole_at}
+use Rattle.wire.proofs.Trying.{passed-on, same-parts, ok-some, ok-none}
 use Rattle.wire.proofs.Bytes.{found, Slice, slice-bytes}
 
 -- ---- what the two cases of each answer say about the parse. A crate with answers of its own states the same for them
@@ -43,19 +42,21 @@ module _ {A R : Type 0} (F : Format A) (s : List ℕ) (at : ℕ) (stop : Refusal
   pub parse-refused : (e : Refusal) → read F s at ≡ refused e → F.parse s at stop go ≡ stop e
   parse-refused e q = F.same s at stop go ∙ ap (λ o. on_result o stop go) q
 
-pub part-next-inv : {A : Type 0} (o : Result A) (n : ℕ) → on_result o P.Refused (λ v m. P.At m) ≡ P.At n → (v : A) × (o ≡ took v n)
+pub part-next-inv : {A : Type 0} (o : Parsed A) (n : ℕ) → on_result o Err (λ v m. Ok m) ≡ Ok n → (v : A) × (o ≡ took v n)
 part-next-inv (took v m) n q = (v, ap (λ k. took v k) cc)
 part-next-inv (refused e) n q = let z : ◌≡◌ {A = ℕ} 0 1 = cc in absurd (omega arith)
 
-pub part-refused-inv : {A : Type 0} (o : Result A) (e : Refusal) → on_result o P.Refused (λ v m. P.At m) ≡ P.Refused e → o ≡ refused e
+pub part-refused-inv : {A : Type 0} (o : Parsed A) (e : Refusal) → on_result o Err (λ v m. Ok m) ≡ Err e → o ≡ refused e
 part-refused-inv (took v m) e q = let z : ◌≡◌ {A = ℕ} 0 1 = cc in absurd (omega arith)
 part-refused-inv (refused d) e q = ap refused cc
 
-pub integer-value-inv : (o : Result ℕ) (v n : ℕ) → on_result o N.Refused N.Value ≡ N.Value v n → o ≡ took v n
-integer-value-inv (took w m) v n q = let a : w ≡ v = cc in let b : m ≡ n = cc in rw (a, b)
+pub integer-value-inv : (o : Parsed ℕ) (v n : ℕ) → on_result {R = Result (ℕ × ℕ) Refusal} o Err (λ v n. Ok (v, n)) ≡ Ok (v, n) → o ≡ took v n
+integer-value-inv (took w m) v n q =
+    let (a, b) = same-parts q in
+    rw (a, b)
 integer-value-inv (refused e) v n q = let z : ◌≡◌ {A = ℕ} 0 1 = cc in absurd (omega arith)
 
-pub integer-refused-inv : (o : Result ℕ) (e : Refusal) → on_result o N.Refused N.Value ≡ N.Refused e → o ≡ refused e
+pub integer-refused-inv : (o : Parsed ℕ) (e : Refusal) → on_result {R = Result (ℕ × ℕ) Refusal} o Err (λ v n. Ok (v, n)) ≡ Err e → o ≡ refused e
 integer-refused-inv (took v m) e q = let z : ◌≡◌ {A = ℕ} 0 1 = cc in absurd (omega arith)
 integer-refused-inv (refused d) e q = ap refused cc
 
@@ -64,12 +65,9 @@ integer-refused-inv (refused d) e q = ap refused cc
 pub room-there : (k n at : ℕ) (t : Bool) → t ≡ leb k (n - at) → t ≡ true → k ≤ n - at
 room-there k n at t p h = leb-true k (n - at) (found p h)
 
--- the offset just past them fits in 64 bits, and is inside s or at its end if there is at least one byte
+-- the offset just past them fits in 64 bits
 pub room_fits : (k n at : ℕ) (t : Bool) → t ≡ leb k (n - at) → t ≡ true → n < 2 ^ 64 → at < 2 ^ 64 → at + k < 2 ^ 64
 room_fits k n at t p h i j = omega (arith, room-there k n at t p h)
-
-pub room-inside : (k n at : ℕ) (t : Bool) → t ≡ leb k (n - at) → t ≡ true → 0 < k → at + k ≤ n
-room-inside k n at t p h i = omega (arith, room-there k n at t p h)
 
 module _ {R : Type 0} (k : ℕ) (s : List ℕ) (at : ℕ) (z : R) (stop : Refusal → R) (t : Bool) where
   pub blob-there : (go : List ℕ → ℕ → R) → t ≡ leb k (length s - at) → t ≡ true → z ≡ go (take k (drop at s)) (at + k) → z ≡ (blob k).parse s at stop go
@@ -123,26 +121,26 @@ pub integer-stops : (k : ℕ) (s : List ℕ) (at : ℕ) (e : Refusal) → read (
 unfolding integer
 integer-stops k s at e q = blob-stops k s at e (cases (read (blob k) s at) (sym ((blob k).same s at refused (λ b m. took (value b) m)) ∙ q))
   where
-    cases : (o : Result (List ℕ)) → on_result o refused (λ b m. took (value b) m) ≡ refused e → o ≡ refused e
+    cases : (o : Parsed (List ℕ)) → on_result o refused (λ b m. took (value b) m) ≡ refused e → o ≡ refused e
     cases (took b m) q = took-refused (value b) m e q
     cases (refused d) q = ap refused cc
 
-module _ {A : Type 0} (F : Format A) (s : List ℕ) (at : ℕ) (x : End) where
-  pub next-took : (n : ℕ) → x ≡ ended F s at → x ≡ P.At n → (v : A) × (read F s at ≡ took v n)
-  next-took n p q = part-next-inv (read F s at) n (sym (F.same s at P.Refused (λ v n. P.At n)) ∙ found p q)
+module _ {A : Type 0} (F : Format A) (s : List ℕ) (at : ℕ) (x : Result ℕ Refusal) where
+  pub next-took : (n : ℕ) → x ≡ ended F s at → x ≡ Ok n → (v : A) × (read F s at ≡ took v n)
+  next-took n p q = part-next-inv (read F s at) n (sym (F.same s at Err (λ v n. Ok n)) ∙ found p q)
 
-  pub next-refused : (e : Refusal) → x ≡ ended F s at → x ≡ P.Refused e → read F s at ≡ refused e
-  next-refused e p q = part-refused-inv (read F s at) e (sym (F.same s at P.Refused (λ v n. P.At n)) ∙ found p q)
+  pub next-refused : (e : Refusal) → x ≡ ended F s at → x ≡ Err e → read F s at ≡ refused e
+  next-refused e p q = part-refused-inv (read F s at) e (sym (F.same s at Err (λ v n. Ok n)) ∙ found p q)
 
 -- Any format whose reader returns an `End`: a crate states these two by name for each format of its own. (Stated for any F, they would fit every
 -- parse, and `search` would try them everywhere)
 module _ {A : Type 0} (F : Format A) where
   abbrev pub Ends : Type 1
-  Ends = (R : Type 0) (s : List ℕ) (at : ℕ) (z : R) (stop : Refusal → R) (go : A → ℕ → R) (x : End) (n : ℕ) → x ≡ ended F s at → x ≡ P.At n
+  Ends = (R : Type 0) (s : List ℕ) (at : ℕ) (z : R) (stop : Refusal → R) (go : A → ℕ → R) (x : Result ℕ Refusal) (n : ℕ) → x ≡ ended F s at → x ≡ Ok n
       → ((v : A) → z ≡ go v n) → z ≡ F.parse s at stop go
 
   abbrev pub Stops : Type 1
-  Stops = (R : Type 0) (s : List ℕ) (at : ℕ) (z : R) (stop : Refusal → R) (go : A → ℕ → R) (x : End) (e : Refusal) → x ≡ ended F s at → x ≡ P.Refused e
+  Stops = (R : Type 0) (s : List ℕ) (at : ℕ) (z : R) (stop : Refusal → R) (go : A → ℕ → R) (x : Result ℕ Refusal) (e : Refusal) → x ≡ ended F s at → x ≡ Err e
       → z ≡ stop e → z ≡ F.parse s at stop go
 
   pub ends : Ends
@@ -153,11 +151,11 @@ module _ {A : Type 0} (F : Format A) where
 
 -- a list: the code keeps none of its elements
 module _ {A S R : Type 0} (E : S → Format A) (step : S → A → S) (st : S) (c : ℕ) (s : List ℕ) (at : ℕ) (z : R) (stop : Refusal → R) (go : List A → ℕ → R)
-    (x : End) where
-  pub on_list : (n : ℕ) → x ≡ ended (items E step st c) s at → x ≡ P.At n → ((l : List A) → z ≡ go l n) → z ≡ (items E step st c).parse s at stop go
+    (x : Result ℕ Refusal) where
+  pub on_list : (n : ℕ) → x ≡ ended (items E step st c) s at → x ≡ Ok n → ((l : List A) → z ≡ go l n) → z ≡ (items E step st c).parse s at stop go
   on_list = ends (items E step st c) R s at z stop go x
 
-  pub on-list-refused : (e : Refusal) → x ≡ ended (items E step st c) s at → x ≡ P.Refused e → z ≡ stop e → z ≡ (items E step st c).parse s at stop go
+  pub on-list-refused : (e : Refusal) → x ≡ ended (items E step st c) s at → x ≡ Err e → z ≡ stop e → z ≡ (items E step st c).parse s at stop go
   on-list-refused = stops (items E step st c) R s at z stop go x
 
 -- a list of elements of one width that was read: how many there are, and where they end
@@ -181,74 +179,105 @@ unfolding blob
 blob-wide k b h = h.0
 
 -- a byte string that was read is the bytes of s from `at` up to n
-part-took : (k : ℕ) (s : List ℕ) (at : ℕ) (x : End) (n : ℕ) → x ≡ ended (blob k) s at → x ≡ P.At n → read (blob k) s at ≡ took (between at n s) n
+part-took : (k : ℕ) (s : List ℕ) (at : ℕ) (x : Result ℕ Refusal) (n : ℕ) → x ≡ ended (blob k) s at → x ≡ Ok n → read (blob k) s at ≡ took (between at n s) n
 part-took k s at x n p q = let (v, t) = next-took (blob k) s at x n p q in t ∙ ap (λ b. took b n) (blob-part k s at v n t)
 
-value-took : (k : ℕ) (s : List ℕ) (at : ℕ) (x : Integer) (v n : ℕ) → x ≡ valued (integer k) s at → x ≡ N.Value v n → read (integer k) s at ≡ took v n
-value-took k s at x v n p q = integer-value-inv (read (integer k) s at) v n (sym ((integer k).same s at N.Refused N.Value) ∙ found p q)
+value-took : (k : ℕ) (s : List ℕ) (at : ℕ) (x : Result (ℕ × ℕ) Refusal) (v n : ℕ) → x ≡ valued (integer k) s at → x ≡ Ok (v, n)
+    → read (integer k) s at ≡ took v n
+value-took k s at x v n p q = integer-value-inv (read (integer k) s at) v n (sym ((integer k).same s at Err (λ v n. Ok (v, n))) ∙ found p q)
 
 module _ {R : Type 0} (k : ℕ) (s : List ℕ) (at : ℕ) (z : R) (stop : Refusal → R) where
-  module _ (go : List ℕ → ℕ → R) (x : End) where
-    pub on-part : (n : ℕ) → x ≡ ended (blob k) s at → x ≡ P.At n → z ≡ go (between at n s) n → z ≡ (blob k).parse s at stop go
+  module _ (go : List ℕ → ℕ → R) (x : Result ℕ Refusal) where
+    pub on-part : (n : ℕ) → x ≡ ended (blob k) s at → x ≡ Ok n → z ≡ go (between at n s) n → z ≡ (blob k).parse s at stop go
     on-part n p q e = e ∙ sym (parse-took (blob k) s at stop go (between at n s) n (part-took k s at x n p q))
 
     -- the same, for a need about where the bytes are
-    pub on-part-there : (n : ℕ) → x ≡ ended (blob k) s at → x ≡ P.At n → Slice s → (Stands s at ((blob k).write (between at n s)) n → z ≡ go (between at n s) n)
+    pub on-part-there : (n : ℕ) → x ≡ ended (blob k) s at → x ≡ Ok n → Slice s → (Stands s at ((blob k).write (between at n s)) n → z ≡ go (between at n s) n)
         → z ≡ (blob k).parse s at stop go
     on-part-there n p q b e = on-part n p q (e ((blob k).sound s at (between at n s) n (slice-bytes s b) (part-took k s at x n p q)).1)
 
     -- the call's own refusal, returned
-    pub on-part-refused : (e : Refusal) → x ≡ ended (blob k) s at → x ≡ P.Refused e → z ≡ stop e → z ≡ (blob k).parse s at stop go
+    pub on-part-refused : (e : Refusal) → x ≡ ended (blob k) s at → x ≡ Err e → z ≡ stop e → z ≡ (blob k).parse s at stop go
     on-part-refused = stops (blob k) R s at z stop go x
 
     -- a refusal f that the code made by a call
-    pub on-cut : (e : Refusal) → x ≡ ended (blob k) s at → x ≡ P.Refused e → (f : Refusal) → f ≡ cut_at k s at → z ≡ stop f → z ≡ (blob k).parse s at stop go
+    pub on-cut : (e : Refusal) → x ≡ ended (blob k) s at → x ≡ Err e → (f : Refusal) → f ≡ cut_at k s at → z ≡ stop f → z ≡ (blob k).parse s at stop go
     on-cut e p q f g r =
         let o = next-refused (blob k) s at x e p q in
         on-part-refused e p q (r ∙ ap stop (g ∙ sym (blob-stops k s at e o)))
 
-  module _ (go : ℕ → ℕ → R) (x : Integer) where
-    pub on_value : (v n : ℕ) → x ≡ valued (integer k) s at → x ≡ N.Value v n → z ≡ go v n → z ≡ (integer k).parse s at stop go
+  module _ (go : ℕ → ℕ → R) (x : Result (ℕ × ℕ) Refusal) where
+    pub on_value : (v n : ℕ) → x ≡ valued (integer k) s at → x ≡ Ok (v, n) → z ≡ go v n → z ≡ (integer k).parse s at stop go
     on_value v n p q e = e ∙ sym (parse-took (integer k) s at stop go v n (value-took k s at x v n p q))
 
     -- the same, for a need about where the integer is
-    pub on-value-there : (v n : ℕ) → x ≡ valued (integer k) s at → x ≡ N.Value v n → Slice s → (Stands s at ((integer k).write v) n → z ≡ go v n)
+    pub on-value-there : (v n : ℕ) → x ≡ valued (integer k) s at → x ≡ Ok (v, n) → Slice s → (Stands s at ((integer k).write v) n → z ≡ go v n)
         → z ≡ (integer k).parse s at stop go
     on-value-there v n p q b e = on_value v n p q (e ((integer k).sound s at v n (slice-bytes s b) (value-took k s at x v n p q)).1)
 
     -- the call's own refusal, returned
-    pub on-integer-refused : (e : Refusal) → x ≡ valued (integer k) s at → x ≡ N.Refused e → z ≡ stop e → z ≡ (integer k).parse s at stop go
+    pub on-integer-refused : (e : Refusal) → x ≡ valued (integer k) s at → x ≡ Err e → z ≡ stop e → z ≡ (integer k).parse s at stop go
     on-integer-refused e p q r =
         r ∙ sym (parse-refused (integer k) s at stop go e
-        (integer-refused-inv (read (integer k) s at) e (sym ((integer k).same s at N.Refused N.Value) ∙ found p q)))
+        (integer-refused-inv (read (integer k) s at) e (sym ((integer k).same s at Err (λ v n. Ok (v, n))) ∙ found p q)))
 
-    pub on-short : (e : Refusal) → x ≡ valued (integer k) s at → x ≡ N.Refused e → (f : Refusal) → f ≡ cut_at k s at → z ≡ stop f
+    pub on-short : (e : Refusal) → x ≡ valued (integer k) s at → x ≡ Err e → (f : Refusal) → f ≡ cut_at k s at → z ≡ stop f
         → z ≡ (integer k).parse s at stop go
     on-short e p q f g r =
-        let o = integer-refused-inv (read (integer k) s at) e (sym ((integer k).same s at N.Refused N.Value) ∙ found p q) in
+        let o = integer-refused-inv (read (integer k) s at) e (sym ((integer k).same s at Err (λ v n. Ok (v, n))) ∙ found p q) in
         on-integer-refused e p q (r ∙ ap stop (g ∙ sym (integer-stops k s at e o)))
+
+-- the same, if the answer went through `.ok()` and `?`
+module _ {R : Type 0} (k : ℕ) (s : List ℕ) (at : ℕ) (z : R) (stop : Refusal → R) where
+  module _ (go : List ℕ → ℕ → R) (x : Result ℕ Refusal) (p : x ≡ ended (blob k) s at) (y : Option ℕ) (o : y ≡ result_ok x) where
+    pub some-part : (n : ℕ) → y ≡ Some n → z ≡ go (between at n s) n → z ≡ (blob k).parse s at stop go
+    some-part n q = on-part k s at z stop go x n p (ok-some x y o n q)
+
+    pub none-part : y ≡ None → ((e : Refusal) → z ≡ stop e) → z ≡ (blob k).parse s at stop go
+    none-part q e = let (d, r) = ok-none x y o q in on-part-refused k s at z stop go x d p r (e d)
+
+  module _ (go : ℕ → ℕ → R) (x : Result (ℕ × ℕ) Refusal) (p : x ≡ valued (integer k) s at) (y : Option (ℕ × ℕ)) (o : y ≡ result_ok x) where
+    pub some-value : (v n : ℕ) → y ≡ Some (v, n) → z ≡ go v n → z ≡ (integer k).parse s at stop go
+    some-value v n q = on_value k s at z stop go x v n p (ok-some x y o (v, n) q)
+
+    pub none-value : y ≡ None → ((e : Refusal) → z ≡ stop e) → z ≡ (integer k).parse s at stop go
+    none-value q e = let (d, r) = ok-none x y o q in on-integer-refused k s at z stop go x d p r (e d)
+
+-- an array that is filled from the bytes, or zeros
+pub array-short : (k : ℕ) (s : List ℕ) (at : ℕ) → length s < at + k → replicate k 0 ≡ whole_at k s at
+unfolding blob blob_parse
+array-short zero s at h = rw (le-leb zero (length s - at) (omega arith))
+array-short (suc k) s at h = rw (lt-leb (suc k) (length s - at) (omega arith))
+
+-- r is what s has from `at` on
+pub array-there : (k : ℕ) (s : List ℕ) (at : ℕ) (r z : List ℕ) → r ≡ take (length s - at) (drop at s) → k ≤ length s - at → z ≡ take k r
+    → z ≡ whole_at k s at
+unfolding blob blob_parse
+array-there k s at r z d h e =
+    let i : r ≡ drop at s = d ∙ take_all (length s - at) (drop at s) (rw length-drop (omega arith)) in
+    rw (le-leb k (length s - at) h, ← i) e
 
 -- ---- an integer that encodes a type
 
 module _ {K R : Type 0} (code : K → ℕ) (decode : ℕ → K) (back : (k : K) → decode (code k) ≡ k) (w : ℕ) (ks : List K) (r : ReadingRule)
-    (s : List ℕ) (at : ℕ) (z : R) (stop : Refusal → R) (go : K → ℕ → R) (x : Integer) (p : x ≡ valued (integer w) s at) where
-  pub on-tag : (v n : ℕ) → x ≡ N.Value v n → listed code ks v ≡ true → z ≡ go (decode v) n → z ≡ (tag code decode back (integer w) ks r).parse s at stop go
+    (s : List ℕ) (at : ℕ) (z : R) (stop : Refusal → R) (go : K → ℕ → R) (x : Result (ℕ × ℕ) Refusal) (p : x ≡ valued (integer w) s at) where
+  pub on-tag : (v n : ℕ) → x ≡ Ok (v, n) → listed code ks v ≡ true → z ≡ go (decode v) n → z ≡ (tag code decode back (integer w) ks r).parse s at stop go
   unfolding tag
   on-tag v n q h e = on_value w s at z stop _ x v n p q (rw (find-is code decode back ks v (λ k. go k n) (stop (by r at)), h) e)
 
-  pub on-tag-unknown : (v n : ℕ) → x ≡ N.Value v n → listed code ks v ≡ false → z ≡ stop (by r at)
+  pub on-tag-unknown : (v n : ℕ) → x ≡ Ok (v, n) → listed code ks v ≡ false → z ≡ stop (by r at)
       → z ≡ (tag code decode back (integer w) ks r).parse s at stop go
   unfolding tag
   on-tag-unknown v n q h e = on_value w s at z stop _ x v n p q (rw (find-is code decode back ks v (λ k. go k n) (stop (by r at)), h) e)
 
-  pub on-tag-short : (e : Refusal) → x ≡ N.Refused e → (f : Refusal) → f ≡ cut_at w s at → z ≡ stop f
+  pub on-tag-short : (e : Refusal) → x ≡ Err e → (f : Refusal) → f ≡ cut_at w s at → z ≡ stop f
       → z ≡ (tag code decode back (integer w) ks r).parse s at stop go
   unfolding tag
   on-tag-short e = on-short w s at z stop _ x e p
 
 -- ---- the width of an integer or of bytes that were read, and where the parse continues
 
-module _ (k : ℕ) (s : List ℕ) (at : ℕ) (x : Integer) (v n : ℕ) (p : x ≡ valued (integer k) s at) (q : x ≡ N.Value v n) (b : Slice s) where
+module _ (k : ℕ) (s : List ℕ) (at : ℕ) (x : Result (ℕ × ℕ) Refusal) (v n : ℕ) (p : x ≡ valued (integer k) s at) (q : x ≡ Ok (v, n)) (b : Slice s) where
   value_read : (integer k).Good v × Stands s at ((integer k).write v) n
   value_read = (integer k).sound s at v n (slice-bytes s b) (value-took k s at x v n p q)
 
@@ -272,7 +301,7 @@ blob-ends k s at v n = cases (leb k (length s - at))
     cases true q = cc
     cases false q = refused-took (cut_at k s at) v n q
 
-module _ (k : ℕ) (s : List ℕ) (at : ℕ) (x : End) (n : ℕ) (p : x ≡ ended (blob k) s at) (q : x ≡ P.At n) where
+module _ (k : ℕ) (s : List ℕ) (at : ℕ) (x : Result ℕ Refusal) (n : ℕ) (p : x ≡ ended (blob k) s at) (q : x ≡ Ok n) where
   pub part-ends : n ≡ at + k
   part-ends = let (v, t) = next-took (blob k) s at x n p q in blob-ends k s at v n t
 
@@ -290,7 +319,7 @@ module _ (k : ℕ) (s : List ℕ) (at : ℕ) where
   whole_part v n = parse-took (blob k) s at (λ e. replicate k 0) (λ b n. b) v n
 
   -- the returned bytes y are those of s from `at` up to n
-  pub whole-next : (y : List ℕ) (x : End) (n : ℕ) → y ≡ whole_at k s at → x ≡ ended (blob k) s at → x ≡ P.At n → y ≡ between at n s
+  pub whole-next : (y : List ℕ) (x : Result ℕ Refusal) (n : ℕ) → y ≡ whole_at k s at → x ≡ ended (blob k) s at → x ≡ Ok n → y ≡ between at n s
   whole-next y x n w p q = w ∙ whole_part (between at n s) n (part-took k s at x n p q)
 
   pub whole_length : length (whole_at k s at) ≡ k
@@ -347,14 +376,14 @@ pub ruleset tests = (if-lt, if-not-lt, if-le, if-not-le, if-eq, if-ne, if-zero, 
 
 -- ---- a refusal f that the code made by a call, where the definition has d
 
-pub part-made : (f d : Refusal) → f ≡ d → P.Refused f ≡ P.Refused d
-part-made f d e = ap P.Refused e
+pub part-made : (f d : Refusal) → f ≡ d → ◌≡◌ {A = Result ℕ Refusal} (Err f) (Err d)
+part-made f d e = ap Err e
 
-pub integer-made : (f d : Refusal) → f ≡ d → N.Refused f ≡ N.Refused d
-integer-made f d e = ap N.Refused e
+pub integer-made : (f d : Refusal) → f ≡ d → ◌≡◌ {A = Result (ℕ × ℕ) Refusal} (Err f) (Err d)
+integer-made f d e = ap Err e
 
 -- a let-else chain up to a refusal
-pub ruleset reading = (on_value, on-short, on-part, on-cut, on-part-refused, on_list, on-list-refused, tests, part-made)
+pub ruleset reading = (on_value, on-short, on-integer-refused, passed-on, on-part, on-cut, on-part-refused, on_list, on-list-refused, tests, part-made)
 
 -- ---- a loop: the code counts down, the format goes by `suc`. The invariant: parsing what is left gives y, the answer of the whole parse
 
@@ -370,6 +399,17 @@ module _ {A S R : Type 0} (E : S → Format A) (step : S → A → S) (s : List 
   list-end st zero z y i h e = e ∙ i
   list-end st (suc n) z y i h e = absurd (not-suc-le-zero h)
 
+  -- the same by the number i of elements that were read, out of c
+  pub for_on : (st : S) (c i : ℕ) (z y : R) → (items E step st (c - i)).parse s at stop go ≡ y → i < c
+      → z ≡ (E st).parse s at stop (λ a m. (items E step (step st a) (c - (i + 1))).parse s m stop (λ l k. go (a ∷ l) k)) → z ≡ y
+  for_on st c i z y h l e =
+      let k : c - (i + 1) ≡ (c - i) - 1 = omega arith in
+      list_on st (c - i) z y h (omega arith)
+      (subst (λ (n : ℕ). z ≡ (E st).parse s at stop (λ a m. (items E step (step st a) n).parse s m stop (λ l k. go (a ∷ l) k))) k e)
+
+  pub for_end : (st : S) (c i : ℕ) (z y : R) → (items E step st (c - i)).parse s at stop go ≡ y → c ≤ i → z ≡ go [] at → z ≡ y
+  for_end st c i z y h l e = list-end st (c - i) z y h (omega arith) e
+
 module _ {A R : Type 0} (E : List ℕ → Format A) (step : List ℕ → A → List ℕ) (s : List ℕ) (n at : ℕ) (stop : Refusal → R) (go : List A → ℕ → R) where
   -- before the first element the state is empty
   pub list-start : (a : ℕ) → (items E step (between a a s) n).parse s at stop go ≡ (items E step [] n).parse s at stop go
@@ -380,12 +420,27 @@ module _ {A R : Type 0} (E : List ℕ → Format A) (step : List ℕ → A → L
   list-again p q w h = rw (stands-part s p w q h)
 
 -- without an order, the parse does not depend on the element before
-pub unordered-again : {A : Type 0} (F : Format A) (s : List ℕ) (n at : ℕ) (stop : Refusal → End) (go : List A → ℕ → End) (p q : List ℕ)
-    → (items (λ prev. F) (left (λ prev. F)) p n).parse s at stop go ≡ (items (λ prev. F) (left (λ prev. F)) q n).parse s at stop go
+pub unordered-again : {A : Type 0} (F : Format A) (s : List ℕ) (n at : ℕ) (stop : Refusal → Result ℕ Refusal) (go : List A → ℕ → Result ℕ Refusal)
+    (p q : List ℕ) → (items (λ prev. F) (left (λ prev. F)) p n).parse s at stop go ≡ (items (λ prev. F) (left (λ prev. F)) q n).parse s at stop go
 unfolding items list_parse
 unordered-again F s zero at stop go p q = refl
 unordered-again F s (suc n) at stop go p q = refl
 
 -- one turn of a loop: the code knows an element only by its offsets
-pub ruleset turn =
-    (list_on, on-value-there, on-short, on-part-there, on-cut, if-above, if-not-above, if-below, if-not-below, stands-append, list-again, part-made)
+pub ruleset turn = (
+  for_on,
+  on-value-there,
+  on-short,
+  on-integer-refused,
+  on-part-there,
+  on-cut,
+  on-part-refused,
+  passed-on,
+  if-above,
+  if-not-above,
+  if-below,
+  if-not-below,
+  stands-append,
+  list-again,
+  part-made,
+)

@@ -13,7 +13,7 @@ use Rattle.wire.specs.declared.Refusal.{Refusal}
 use Rattle.wire.specs.Bytes.{value, pick}
 use Rattle.wire.specs.Numbers.{rule_number, refusal, ReadingRule, rule_of, Ruled, by, empty_list, wrong_count, too_long, bytes_after_end}
 use Rattle.wire.specs.Numbers.{cut_short, wrong_codec, unknown_type, zero_amount, out_of_order, bad_threshold, bad_length, not_printable, bad_denomination}
-use Rattle.wire.specs.Format.{Format, Result, took, refused, on_result, read}
+use Rattle.wire.specs.Format.{Format, Parsed, took, refused, on_result, read}
 use Rattle.wire.specs.laws.Format.{refused-rule, took-refused}
 use Rattle.wire.specs.Fields.{blob, integer, constant}
 use Rattle.wire.specs.Sequence.{and_then, guard_at, guard, only, tag, items}
@@ -74,20 +74,20 @@ refuses-more F l m h f s at e q = contained m l h (rule_number e.rule) (f s at e
 module _ (P : Rule → Type 0) where
   -- ---- results of a parse
 
-  refused-by : {A : Type 0} (d e : Refusal) → P d.rule → ◌≡◌ {A = Result A} (refused d) (refused e) → P e.rule
+  refused-by : {A : Type 0} (d e : Refusal) → P d.rule → ◌≡◌ {A = Parsed A} (refused d) (refused e) → P e.rule
   refused-by {A} d e h q = subst P (sym (refused-rule {A = A} d e q)) h
 
-  pub result-refuses : {A B : Type 0} (o : Result A) (k : A → ℕ → Result B) (e : Refusal) → ((d : Refusal) → o ≡ refused d → P d.rule)
+  pub result-refuses : {A B : Type 0} (o : Parsed A) (k : A → ℕ → Parsed B) (e : Refusal) → ((d : Refusal) → o ≡ refused d → P d.rule)
       → ((a : A) (m : ℕ) → k a m ≡ refused e → P e.rule) → on_result o refused k ≡ refused e → P e.rule
   result-refuses (took a m) k e f g q = g a m q
   result-refuses {A} {B} (refused d) k e f g q = refused-by {A = B} d e (f d refl) q
 
-  pub parse-refuses : {A B : Type 0} (F : Format A) (s : List ℕ) (at : ℕ) (k : A → ℕ → Result B) (e : Refusal) → RefusesBy F P
+  pub parse-refuses : {A B : Type 0} (F : Format A) (s : List ℕ) (at : ℕ) (k : A → ℕ → Parsed B) (e : Refusal) → RefusesBy F P
       → ((a : A) (m : ℕ) → k a m ≡ refused e → P e.rule) → F.parse s at refused k ≡ refused e → P e.rule
   parse-refuses F s at k e h g q = result-refuses (read F s at) k e (h s at) g (sym (F.same s at refused k) ∙ q)
 
   -- a test that refuses if it fails
-  pub pick-refuses : {A : Type 0} (t : Bool) (d : Refusal) (o : Result A) (e : Refusal) → P d.rule → (o ≡ refused e → P e.rule)
+  pub pick-refuses : {A : Type 0} (t : Bool) (d : Refusal) (o : Parsed A) (e : Refusal) → P d.rule → (o ≡ refused e → P e.rule)
       → pick t o (refused d) ≡ refused e → P e.rule
   pick-refuses true d o e h g q = g q
   pick-refuses {A} false d o e h g q = refused-by {A = A} d e h q

@@ -12,7 +12,7 @@ use borrow.Author.Tests.{leb-true, le-leb, eqb-true, eqb-false, eq-eqb, ne_eqb}
 use Rattle.wire.specs.declared.Refusal.{Refusal}
 use Rattle.wire.specs.Bytes.{Bytes, pick}
 use Rattle.wire.specs.Numbers.{rule_number, refusal, number_of, rule_of, cut_short, too_long, bytes_after_end}
-use Rattle.wire.specs.Format.{Format, Result, took, refused, on_result, read}
+use Rattle.wire.specs.Format.{Format, Parsed, took, refused, on_result, read}
 use Rattle.wire.specs.Whole.{whole}
 use Rattle.wire.specs.laws.Format.{moved, parse-inv, parse-same, parse-stable, parse-placed, pick_inv, pick_same, pick-placed, stands-inside}
 use Rattle.wire.specs.laws.Format.{refused-rule, refused-placed, took-refused}
@@ -83,7 +83,7 @@ module _ {A : Type 0} (F : Format A) (most : ℕ) where
       behind v n true q = took-refused v n e q
       behind v n false q = let z = ap rule_number (refused-rule {A = A} (refusal bytes_after_end n) e q) in (omega arith, omega arith)
 
-      inside : (o : Result A) → read F s 0 ≡ o → on_result o refused (λ v n. pick (eqb n (length s)) (took v n) (refused (refusal bytes_after_end n)))
+      inside : (o : Parsed A) → read F s 0 ≡ o → on_result o refused (λ v n. pick (eqb n (length s)) (took v n) (refused (refusal bytes_after_end n)))
           ≡ refused e
           → (1 ≤ number_of e) × (number_of e ≤ 13)
       inside (took v n) r q = behind v n (eqb n (length s)) q

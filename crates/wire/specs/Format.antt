@@ -10,11 +10,11 @@ use Rattle.wire.specs.Bytes.{Bytes}
 use Rattle.wire.specs.Numbers.{rule_of, Ruled, cut_short, number_of}
 
 -- the result of a parse: a value and the offset just past it, or the refusal
-pub data Result (A : Type 0) : Type 0 where
-  took : A → ℕ → Result A
-  refused : Refusal → Result A
+pub data Parsed (A : Type 0) : Type 0 where
+  took : A → ℕ → Parsed A
+  refused : Refusal → Parsed A
 
-abbrev pub on_result : {A R : Type 0} → Result A → (Refusal → R) → (A → ℕ → R) → R
+abbrev pub on_result : {A R : Type 0} → Parsed A → (Refusal → R) → (A → ℕ → R) → R
 on_result (took a n) stop go = go a n
 on_result (refused e) stop go = stop e
 
@@ -47,10 +47,10 @@ pub record Format (A : Type 0) : Type 1 where
   pub placed : (s : List ℕ) (at : ℕ) (e : Refusal) → Bytes s → at ≤ length s → parse s at refused took ≡ refused e → e.place ≤ length s
 
 -- the result of the parser by itself
-abbrev pub read : {A : Type 0} → Format A → List ℕ → ℕ → Result A
+abbrev pub read : {A : Type 0} → Format A → List ℕ → ℕ → Parsed A
 read F s at = F.parse s at refused took
 
 -- the rule's number and the place that a check reports; of a value that was read, 0 and the offset just past it
-abbrev pub verdict : {A : Type 0} → Result A → ℕ × ℕ
+abbrev pub verdict : {A : Type 0} → Parsed A → ℕ × ℕ
 verdict (took v n) = (0, n)
 verdict (refused e) = (number_of e, e.place)

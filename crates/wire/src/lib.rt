@@ -2,95 +2,55 @@
 // of byte strings, and storing integers and bytes into a buffer.
 #![tactic(auto)]
 
-ghost use Rattle.std.specs.Prelude.{◌≡◌, ◌-◌, ◌%◌, ◌^◌, ◌≤◌, ◌<◌, min, ◌++◌, length, take, drop, leb};
+ghost use Rattle.std.specs.Prelude.{◌≡◌, ◌-◌, ◌%◌, ◌^◌, ◌≤◌, ◌<◌, ◌++◌, length, take, drop, leb};
 ghost use Rattle.wire.specs.Bytes.{between, value, digits, below};
 ghost use Rattle.wire.specs.Numbers.{rule_number, refusal, cut_at};
 ghost use Rattle.wire.specs.Fields.{blob, integer};
 ghost use Rattle.wire.specs.code.Order.{order, key_below};
 ghost use Rattle.wire.specs.code.Answer.{ended, valued, whole_at};
 
-// The rules by which the desk refuses, in the order of its table.
-#[derive(Clone, Copy)]
+use std::cmp::Ordering;
+
+// The rules by which the desk refuses, with their numbers in its table.
+#[derive(Clone, Copy, Debug, PartialEq, Eq)]
 pub enum Rule {
-    TooLong,
-    CutShort,
-    WrongCodec,
-    UnknownType,
-    ZeroAmount,
-    OutOfOrder,
-    BadThreshold,
-    BadLength,
-    NotPrintable,
-    BadDenomination,
-    EmptyList,
-    WrongCount,
-    BytesAfterEnd,
-    NoRoom,
-    NoEntry,
-    StepNotDue,
-    FirstNotAccepted,
-    SecondNotAccepted,
-    DraftsDiffer,
-    Conflict,
-    NotASignature,
+    TooLong = 1,
+    CutShort = 2,
+    WrongCodec = 3,
+    UnknownType = 4,
+    ZeroAmount = 5,
+    OutOfOrder = 6,
+    BadThreshold = 7,
+    BadLength = 8,
+    NotPrintable = 9,
+    BadDenomination = 10,
+    EmptyList = 11,
+    WrongCount = 12,
+    BytesAfterEnd = 13,
+    NoRoom = 14,
+    NoEntry = 15,
+    StepNotDue = 16,
+    FirstNotAccepted = 17,
+    SecondNotAccepted = 18,
+    DraftsDiffer = 19,
+    Conflict = 20,
+    NotASignature = 21,
 }
 
-// Why a parse or a request ends: the rule that is broken, and the place. `place` comes first to line up with the offset of `End::At`: in the other
+// Why a parse or a request ends: the rule that is broken, and the place. `place` comes first to line up with the offset of an `Ok`: in the other
 // order the compiler moves the answer byte by byte.
-#[derive(Clone, Copy)]
+#[derive(Clone, Copy, Debug, PartialEq, Eq)]
 pub struct Refusal {
     pub place: usize,
     pub rule: Rule,
 }
 
-// The offset just past a field that is wholly there, or why the field is refused.
-#[derive(Clone, Copy)]
-pub enum End {
-    At(usize),
-    Refused(Refusal),
-}
-
-// An integer that is wholly there and the offset just past it, or why it is refused.
-#[derive(Clone, Copy)]
-pub enum Integer {
-    Value(u64, usize),
-    Refused(Refusal),
-}
-
-// How one byte string compares with another.
-#[derive(Clone, Copy)]
-pub enum Order {
-    Below,
-    Equal,
-    Above,
-}
-
 // The number of a rule in the desk's table.
-pub fn number_of(rule: Rule) -> u32
-    ensures { result ≡ rule_number rule }
-{
-    match rule {
-        Rule::TooLong => 1,
-        Rule::CutShort => 2,
-        Rule::WrongCodec => 3,
-        Rule::UnknownType => 4,
-        Rule::ZeroAmount => 5,
-        Rule::OutOfOrder => 6,
-        Rule::BadThreshold => 7,
-        Rule::BadLength => 8,
-        Rule::NotPrintable => 9,
-        Rule::BadDenomination => 10,
-        Rule::EmptyList => 11,
-        Rule::WrongCount => 12,
-        Rule::BytesAfterEnd => 13,
-        Rule::NoRoom => 14,
-        Rule::NoEntry => 15,
-        Rule::StepNotDue => 16,
-        Rule::FirstNotAccepted => 17,
-        Rule::SecondNotAccepted => 18,
-        Rule::DraftsDiffer => 19,
-        Rule::Conflict => 20,
-        Rule::NotASignature => 21,
+impl From<Rule> for u32 {
+    ghost from_gives = { λ rule number. number ≡ rule_number rule };
+
+    fn from(rule: Rule) -> u32 {
+        rule as u32
     }
 }
 
@@ -131,13 +91,13 @@ fn are_there(s: &[u8], at: usize, width: usize) -> bool
 }
 
 // A field of `width` bytes.
-pub fn field_at(s: &[u8], at: usize, width: usize) -> End
+pub fn field_at(s: &[u8], at: usize, width: usize) -> Result<usize, Refusal>
     ensures { result ≡ ended (blob width) s.now at }
 {
     if are_there(s, at, width) {
-        return End::At(at + width);
+        return Ok(at + width);
     }
-    End::Refused(cut(s, at, width))
+    Err(cut(s, at, width))
 }
 
 // The integer in `width` bytes, all of which are there.
@@ -146,45 +106,44 @@ fn value_at(s: &[u8], at: usize, width: usize) -> u64
     ensures { result ≡ value (take width (drop at s.now)) }
 {
     let mut total: u64 = 0;
-    let mut i: usize = 0;
-    while i < width {
+    for i in 0..width {
         let byte = s[at + i] as u64;
         total = total * 256 + byte;
-        i += 1;
     }
     total
 }
 
 // An integer of any width that fits a u64.
-fn integer_at(s: &[u8], at: usize, width: usize) -> Integer
+fn integer_at(s: &[u8], at: usize, width: usize) -> Result<(u64, usize), Refusal>
     requires { width ≤ 8 }
     ensures { result ≡ valued (integer width) s.now at }
 {
     if are_there(s, at, width) {
-        return Integer::Value(value_at(s, at, width), at + width);
+        return Ok((value_at(s, at, width), at + width));
     }
-    Integer::Refused(cut(s, at, width))
+    Err(cut(s, at, width))
 }
 
-pub fn u8_at(s: &[u8], at: usize) -> Integer
+// The format's four widths by their names: one function with a const width would have to ask that it is at most 8, and no public function asks.
+pub fn u8_at(s: &[u8], at: usize) -> Result<(u64, usize), Refusal>
     ensures { result ≡ valued (integer 1) s.now at }
 {
     integer_at(s, at, 1)
 }
 
-pub fn u16_at(s: &[u8], at: usize) -> Integer
+pub fn u16_at(s: &[u8], at: usize) -> Result<(u64, usize), Refusal>
     ensures { result ≡ valued (integer 2) s.now at }
 {
     integer_at(s, at, 2)
 }
 
-pub fn u32_at(s: &[u8], at: usize) -> Integer
+pub fn u32_at(s: &[u8], at: usize) -> Result<(u64, usize), Refusal>
     ensures { result ≡ valued (integer 4) s.now at }
 {
     integer_at(s, at, 4)
 }
 
-pub fn u64_at(s: &[u8], at: usize) -> Integer
+pub fn u64_at(s: &[u8], at: usize) -> Result<(u64, usize), Refusal>
     ensures { result ≡ valued (integer 8) s.now at }
 {
     integer_at(s, at, 8)
@@ -217,80 +176,31 @@ pub fn put_bytes(room: &mut [u8], from: &[u8])
     room.copy_from_slice(&from[..room.len()]);
 }
 
-// Fills `room`, which is not empty, with the bytes from `at` on; leaves it unchanged if they are not all there. It copies `room.len()` bytes, so
-// where the compiler knows that length it copies without a loop.
-fn copy_field(room: &mut [u8], s: &[u8], at: usize)
-    requires { 0 < length room.old }
-    ensures { room.new ≡ (blob (length room.old)).parse s.now at (λ e. room.old) (λ b n. b) }
+// The `N` bytes of an identifier or an address, or zeros if they are not all there.
+pub fn array_at<const N: usize>(s: &[u8], at: usize) -> [u8; N]
+    ensures { result ≡ whole_at N s.now at }
 {
-    if are_there(s, at, room.len()) {
-        put_bytes(room, &s[at..at + room.len()]);
+    let Some(rest) = s.get(at..) else {
+        return [0u8; N];
+    };
+    match rest.first_chunk() {
+        Some(field) => *field,
+        None => [0u8; N],
     }
 }
 
-// The 32 bytes of an identifier, or zeros if they are not all there.
-pub fn id_at(s: &[u8], at: usize) -> [u8; 32]
-    ensures { result ≡ whole_at 32 s.now at }
-{
-    let mut id = [0u8; 32];
-    copy_field(&mut id, s, at);
-    id
-}
-
-// The 20 bytes of an address, or zeros if they are not all there.
-pub fn address_at(s: &[u8], at: usize) -> [u8; 20]
-    ensures { result ≡ whole_at 20 s.now at }
-{
-    let mut address = [0u8; 20];
-    copy_field(&mut address, s, at);
-    address
-}
-
-// Compares two byte strings three ways, for identifiers and addresses that callers hold by value.
-pub fn order_of(a: &[u8], b: &[u8]) -> Order
+// Compares two byte strings three ways.
+pub fn order_of(a: &[u8], b: &[u8]) -> Ordering
     ensures { result ≡ order a.now b.now }
 {
-    let mut i: usize = 0;
-    while i < a.len() {
-        if b.len() <= i {
-            return Order::Above;
-        }
-        if a[i] < b[i] {
-            return Order::Below;
-        }
-        if b[i] < a[i] {
-            return Order::Above;
-        }
-        i += 1;
-    }
-    if i < b.len() {
-        return Order::Below;
-    }
-    Order::Equal
+    a.cmp(b)
 }
 
-fn shorter(a: usize, b: usize) -> usize
-    ensures { result ≡ min a b }
-{
-    if a <= b {
-        return a;
-    }
-    b
-}
-
-// Whether `a` is strictly below `b`. Long elements usually differ late, so equal bytes cost one comparison.
+// Whether `a` is strictly below `b`.
 pub fn is_below(a: &[u8], b: &[u8]) -> bool
     ensures { result ≡ below a.now b.now }
 {
-    let most = shorter(a.len(), b.len());
-    let mut i: usize = 0;
-    while i < most {
-        if a[i] != b[i] {
-            return a[i] < b[i];
-        }
-        i += 1;
-    }
-    i < b.len()
+    order_of(a, b).is_lt()
 }
 
 // Whether, of the adjacent byte ranges from `start` up to `middle` and from `middle` up to `end`, the second is strictly below the first.
@@ -309,30 +219,20 @@ pub fn next_below(s: &[u8], start: usize, middle: usize, end: usize) -> bool
     is_below(&s[middle..end], &s[start..middle])
 }
 
-fn id_order(a: [u8; 32], b: [u8; 32]) -> Order
-    ensures { result ≡ order a b }
-{
-    order_of(&a, &b)
-}
-
 pub fn address_below(a: [u8; 20], b: [u8; 20]) -> bool
     ensures { result ≡ below a b }
 {
-    match order_of(&a, &b) {
-        Order::Below => true,
-        Order::Equal => false,
-        Order::Above => false,
-    }
+    is_below(&a, &b)
 }
 
 // Compares keys by identifier, then by index.
 pub fn key_below(a: [u8; 32], a_index: u64, b: [u8; 32], b_index: u64) -> bool
     ensures { result ≡ key_below a a_index b b_index }
 {
-    match id_order(a, b) {
-        Order::Below => true,
-        Order::Equal => a_index < b_index,
-        Order::Above => false,
+    match order_of(&a, &b) {
+        Ordering::Less => true,
+        Ordering::Equal => a_index < b_index,
+        Ordering::Greater => false,
     }
 }
 
@@ -340,11 +240,9 @@ pub fn key_below(a: [u8; 32], a_index: u64, b: [u8; 32], b_index: u64) -> bool
 pub fn put_integer(room: &mut [u8], value: u64)
     ensures { room.new ≡ digits (length room.old) (value % 256 ^ length room.old) }
 {
-    let mut i = room.len();
     let mut rest = value;
-    while 0 < i {
-        i -= 1;
+    for i in (0..room.len()).rev() {
         room[i] = (rest % 256) as u8;
-        rest = rest / 256;
+        rest /= 256;
     }
 }

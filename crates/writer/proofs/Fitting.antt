@@ -1,4 +1,6 @@
 -- What a step adds by its name is what the plan has there. Assumes nothing.
+use Rattle.std.specs.Prelude.{Result}
+use Rattle.wire.specs.declared.Refusal.{Refusal}
 use Prim.Native.Nat.{ℕ, suc, ◌+◌}
 use mathlib.Core.Path.{◌≡◌, refl, sym, ap, ap₂, ◌∙◌}
 use mathlib.Core.Bool.{Bool, true, false, ◌&&◌, false≢true}
@@ -13,7 +15,6 @@ use Rattle.transaction.specs.declared.FieldName.{FieldName}
 use Rattle.transaction.specs.declared.FieldName.TheVariants as F
 use Rattle.transaction.specs.declared.ListName.{ListName}
 use Rattle.transaction.specs.declared.ListName.TheVariants as L
-use Rattle.writer_rules.specs.declared.Verdict.{Verdict}
 use Rattle.writer_rules.specs.Given.{Given}
 use Rattle.writer_rules.specs.Judged.{refused_by, judged}
 use Rattle.writer_rules.proofs.Verdicts.{both_true}
@@ -44,12 +45,12 @@ pub same-field : (f h : FieldName) → same_field f h ≡ true → h ≡ f
 same-field f h e = sym (field_at-code h) ∙ ap field_at (sym (eqb-true (field_code f) (field_code h) e)) ∙ field_at-code f
 
 -- lists with the same code judge an element alike
-module _ (last : List ℕ) (g : Given) (v : Verdict) where
-  abbrev list_judged : ListName → Verdict
+module _ (last : List ℕ) (g : Given) (v : Result (Unit {0}) Refusal) where
+  abbrev list_judged : ListName → Result (Unit {0}) Refusal
   list_judged l = judged ((elements_of l).element last) g v
 
   -- the verdict by a list's code
-  abbrev integer_judged : ℕ → Verdict
+  abbrev integer_judged : ℕ → Result (Unit {0}) Refusal
   integer_judged n = list_judged (pick (eqb n 0) L.Output (pick (eqb n 1) L.Input (pick (eqb n 2) L.State L.Operation)))
 
   integer-judged : (l : ListName) → integer_judged (list_code l) ≡ list_judged l
@@ -83,11 +84,11 @@ module _ (most : ℕ) (w : Writer) (s : List ℕ) (f : FieldName) (g : Given) wh
   other-field r h (many l least q) e = kept_out w s (refused_by step_not_due) w s _ refl r h
 
   -- the verdict on the field once it is due; `opens` says whether a list is next
-  abbrev pub field_verdict : Bool → Verdict
+  abbrev pub field_verdict : Bool → Result (Unit {0}) Refusal
   field_verdict opens = guarded true w s (judged (content_of most f) g (room_for (w.at + length (g.bytes ++ count_of opens)) s))
 
   -- the step where the field is due
-  abbrev pub field_step : Verdict → Bool → Turn
+  abbrev pub field_step : Result (Unit {0}) Refusal → Bool → Turn
   field_step v opens =
       answered v w s
       record {
@@ -137,7 +138,7 @@ module _ (w : Writer) (s : List ℕ) (l : ListName) (g : Given) where
   other-list r h (many m least q) e = kept_out w s _ _ _ _ (guarded-not (same_list l m && sane w) w s _ e) r h
 
   -- the verdict on the element once it is due
-  abbrev pub element_verdict : Verdict
+  abbrev pub element_verdict : Result (Unit {0}) Refusal
   element_verdict = guarded true w s (judged ((elements_of l).element (prev w s)) g (room_for (w.at + length g.bytes) s))
 
   pub element-put : (q : Plan) → (is_open l (due_of q) && sane w) ≡ true
@@ -147,5 +148,5 @@ module _ (w : Writer) (s : List ℕ) (l : ListName) (g : Given) where
   element-put end e = no e
   element-put (field f q) e = no e
   element-put (many m least q) e =
-      ap₂ (λ (t : Bool) (v : Verdict). answered (guarded t w s v) w s (grown w (length g.bytes)) (appended w s g.bytes)) (sym e)
+      ap₂ (λ (t : Bool) (v : Result (Unit {0}) Refusal). answered (guarded t w s v) w s (grown w (length g.bytes)) (appended w s g.bytes)) (sym e)
       (sym (same-list (prev w s) g (room_for (w.at + length g.bytes) s) l m (both_true (same_list l m) (sane w) e).0))

@@ -1,4 +1,5 @@
 -- A step that names a segment is the step that the plan has there. Assumes nothing.
+use Rattle.std.specs.Prelude.{Ok, Err, Result}
 use Prim.Native.Nat.{ℕ, ◌+◌, ◌≤◌, ◌<◌}
 use mathlib.Core.Path.{◌≡◌, refl, sym, ap, ◌∙◌}
 use mathlib.Core.Bool.{Bool, true, false, not, ◌&&◌, false≢true}
@@ -11,8 +12,6 @@ use Rattle.transaction.specs.Plan.{content_of, elements_of, Plan, shut, end, fie
 use Rattle.transaction.specs.Avm.{avm}
 use Rattle.transaction.specs.declared.FieldName.{FieldName}
 use Rattle.transaction.specs.declared.ListName.{ListName}
-use Rattle.writer_rules.specs.declared.Verdict.{Verdict}
-use Rattle.writer_rules.specs.declared.Verdict.TheVariants as J
 use Rattle.writer_rules.specs.Given.{Given}
 use Rattle.writer_rules.specs.Judged.{judged}
 use Rattle.writer_rules.specs.code.Judged.{on_allowed}
@@ -27,9 +26,9 @@ use Rattle.writer_buffer.specs.code.Stores.{count_of}
 use Rattle.writer_buffer.proofs.Stores.{room-inv}
 use Rattle.writer.specs.declared.Writer.{Writer}
 use Rattle.writer.specs.declared.Step.{Step}
-use Rattle.writer.specs.Steps.{answered, prev, sane, grown, appended, put_field, put_element, after}
+use Rattle.writer.specs.Steps.{guarded_in, answered, prev, sane, grown, appended, put_field, put_element, after}
 use Rattle.writer.specs.code.Answer.{refused_step, not_due_step, no_room_step, due_at, segment_step, opens_next, element_step}
-use Rattle.writer.proofs.Laws.{guarded-fine, guarded-short, not-true, not-false}
+use Rattle.writer.proofs.Laws.{guarded-fine, guarded-short, not-true, not-false, by-unready}
 use Rattle.writer.proofs.Entering.{kept_out}
 use Rattle.writer.proofs.Fitting.{other-field, field_verdict, field_step, field_put, other-list, element_verdict, element-put}
 
@@ -73,23 +72,30 @@ module _ (w : Writer) (s : List ℕ) (f : FieldName) (t : Bool) (ht : t ≡ is_f
       field-short k r h = kept_out w s _ _ _ _ (guarded-short true w s _ refl k) r h ∙ field-here
 
       -- x is the verdict of the field's rules
-      module _ (long : w.at ≤ length s) (x : Verdict) (hx : x ≡ judged (content_of most f) g J.Allowed) where
-        abbrev room : Verdict
+      module _ (long : w.at ≤ length s) (x : Result (Unit {0}) Refusal) (hx : x ≡ judged (content_of most f) g (Ok tt)) where
+        abbrev room : Result (Unit {0}) Refusal
         room = room_for (w.at + length (g.bytes ++ count_of (opens_next w))) s
 
-        field-judged : (v : Verdict) → x ≡ v → field_verdict most w s f g (opens_next w) ≡ on_allowed v room
+        field-judged : (v : Result (Unit {0}) Refusal) → x ≡ v → field_verdict most w s f g (opens_next w) ≡ on_allowed v room
         field-judged v e =
-            guarded-fine true w s _ refl long ∙ judged-on (content_of most f) g room ∙ ap (λ (y : Verdict). on_allowed y room) (sym hx ∙ e)
+            guarded-fine true w s _ refl long ∙ judged-on (content_of most f) g room ∙ ap (λ (y : Result (Unit {0}) Refusal). on_allowed y room) (sym hx ∙ e)
 
-        pub field-refused : (d : Refusal) → x ≡ J.Refuse d → (r : Step) → r ≡ refused_step w d → after r s ≡ put_field (avm most) w s f g
-        field-refused d e r h = kept_out w s _ _ _ d (field-judged (J.Refuse d) e) r h ∙ field-here
+        pub field-refused : (d : Refusal) → x ≡ Err d → (r : Step) → r ≡ refused_step w d → after r s ≡ put_field (avm most) w s f g
+        field-refused d e r h = kept_out w s _ _ _ d (field-judged (Err d) e) r h ∙ field-here
 
         -- zs is what the code has written of the field
-        pub field_is : x ≡ J.Allowed → (zs : List ℕ) → zs ≡ g.bytes → (r : Step) (u : List ℕ) → after r u ≡ segment_step w s zs (opens_next w)
+        pub field_is : x ≡ (Ok tt) → (zs : List ℕ) → zs ≡ g.bytes → (r : Step) (u : List ℕ) → after r u ≡ segment_step w s zs (opens_next w)
             → after r u ≡ put_field (avm most) w s f g
         field_is e zs hz r u h =
             h ∙ ap (λ (y : List ℕ). segment_step w s y (opens_next w)) hz
-            ∙ ap (λ (v : Verdict). field_step most w s f g v (opens_next w)) (sym (field-judged J.Allowed e)) ∙ field-here
+            ∙ ap (λ (v : Result (Unit {0}) Refusal). field_step most w s f g v (opens_next w)) (sym (field-judged (Ok tt) e)) ∙ field-here
+
+  -- the step's first tests refuse it
+  pub field-unready : (x : Result (Unit {0}) Refusal) → x ≡ guarded_in t w (length s) (Ok tt) → (d : Refusal) → x ≡ Err d → (r : Step) → r ≡ refused_step w d
+      → (most : ℕ) (g : Given) → after r s ≡ put_field (avm most) w s f g
+  field-unready x p d e r h most g =
+      by-unready t w (length s) x p d e (λ n i. field-not (ap not n) r (h ∙ ap (refused_step w) i) most g)
+      (λ n k i. field-short (ap not n) most g k r (h ∙ ap (refused_step w) i))
 
 -- ---- elements
 
@@ -98,12 +104,12 @@ element-bytes : (w : Writer) (s ys zs : List ℕ) → length ys ≡ length zs �
 unfolding answered
 element-bytes w s ys zs long e = go (room_for (w.at + length ys) s) refl
   where
-    go : (v : Verdict) → room_for (w.at + length ys) s ≡ v → element_step w s ys ≡ element_step w s zs
-    go J.Allowed f = ap (element_step w s) (e (omega (arith, (room-inv (w.at + length ys) s f).1)))
-    go (J.Refuse d) f =
-        let k : room_for (w.at + length zs) s ≡ J.Refuse d = ap (λ (i : ℕ). room_for (w.at + i) s) (sym long) ∙ f in
-        ap (λ (v : Verdict). answered v w s (grown w (length ys)) (appended w s ys)) f
-        ∙ ap (λ (v : Verdict). answered v w s (grown w (length zs)) (appended w s zs)) (sym k)
+    go : (v : Result (Unit {0}) Refusal) → room_for (w.at + length ys) s ≡ v → element_step w s ys ≡ element_step w s zs
+    go (Ok tt) f = ap (element_step w s) (e (omega (arith, (room-inv (w.at + length ys) s f).1)))
+    go (Err d) f =
+        let k : room_for (w.at + length zs) s ≡ Err d = ap (λ (i : ℕ). room_for (w.at + i) s) (sym long) ∙ f in
+        ap (λ (v : Result (Unit {0}) Refusal). answered v w s (grown w (length ys)) (appended w s ys)) f
+        ∙ ap (λ (v : Result (Unit {0}) Refusal). answered v w s (grown w (length zs)) (appended w s zs)) (sym k)
 
 -- t says whether the element is due
 module _ (w : Writer) (s : List ℕ) (l : ListName) (t : Bool) (ht : t ≡ (is_open l (due_at w) && sane w)) where
@@ -127,20 +133,28 @@ module _ (w : Writer) (s : List ℕ) (l : ListName) (t : Bool) (ht : t ≡ (is_o
       element-short k r h = kept_out w s _ _ _ _ (guarded-short true w s _ refl k) r h ∙ element-here
 
       -- x is the verdict of the element's rules
-      module _ (long : w.at ≤ length s) (x : Verdict) (hx : x ≡ judged ((elements_of l).element (prev w s)) g J.Allowed) where
-        abbrev space : Verdict
+      module _ (long : w.at ≤ length s) (x : Result (Unit {0}) Refusal) (hx : x ≡ judged ((elements_of l).element (prev w s)) g (Ok tt)) where
+        abbrev space : Result (Unit {0}) Refusal
         space = room_for (w.at + length g.bytes) s
 
-        element-judged : (v : Verdict) → x ≡ v → element_verdict w s l g ≡ on_allowed v space
+        element-judged : (v : Result (Unit {0}) Refusal) → x ≡ v → element_verdict w s l g ≡ on_allowed v space
         element-judged v e =
-            guarded-fine true w s _ refl long ∙ judged-on ((elements_of l).element (prev w s)) g space ∙ ap (λ (y : Verdict). on_allowed y space) (sym hx ∙ e)
+            guarded-fine true w s _ refl long ∙ judged-on ((elements_of l).element (prev w s)) g space
+            ∙ ap (λ (y : Result (Unit {0}) Refusal). on_allowed y space) (sym hx ∙ e)
 
-        pub element-refused : (d : Refusal) → x ≡ J.Refuse d → (r : Step) → r ≡ refused_step w d → after r s ≡ put_element (avm most) w s l g
-        element-refused d e r h = kept_out w s _ _ _ d (element-judged (J.Refuse d) e) r h ∙ element-here
+        pub element-refused : (d : Refusal) → x ≡ Err d → (r : Step) → r ≡ refused_step w d → after r s ≡ put_element (avm most) w s l g
+        element-refused d e r h = kept_out w s _ _ _ d (element-judged (Err d) e) r h ∙ element-here
 
         -- zs is what the code has written of the element
-        pub element-is : x ≡ J.Allowed → (zs : List ℕ) → length zs ≡ length g.bytes → (length zs ≤ most_bytes → zs ≡ g.bytes)
+        pub element-is : x ≡ (Ok tt) → (zs : List ℕ) → length zs ≡ length g.bytes → (length zs ≤ most_bytes → zs ≡ g.bytes)
             → (r : Step) (u : List ℕ) → after r u ≡ element_step w s zs → after r u ≡ put_element (avm most) w s l g
         element-is e zs same i r u h =
             h ∙ element-bytes w s zs g.bytes same i
-            ∙ ap (λ (v : Verdict). answered v w s (grown w (length g.bytes)) (appended w s g.bytes)) (sym (element-judged J.Allowed e)) ∙ element-here
+            ∙ ap (λ (v : Result (Unit {0}) Refusal). answered v w s (grown w (length g.bytes)) (appended w s g.bytes)) (sym (element-judged (Ok tt) e))
+            ∙ element-here
+
+  pub element-unready : (x : Result (Unit {0}) Refusal) → x ≡ guarded_in t w (length s) (Ok tt) → (d : Refusal) → x ≡ Err d → (r : Step) → r ≡ refused_step w d
+      → (most : ℕ) (g : Given) → after r s ≡ put_element (avm most) w s l g
+  element-unready x p d e r h most g =
+      by-unready t w (length s) x p d e (λ n i. element-not (ap not n) r (h ∙ ap (refused_step w) i) most g)
+      (λ n k i. element-short (ap not n) most g k r (h ∙ ap (refused_step w) i))

@@ -1,4 +1,6 @@
 -- The step that follows from the answer of a store. Assumes nothing.
+use Rattle.std.specs.Int.{from_bool}
+use Rattle.std.specs.Prelude.{Ok, Err, Result}
 use Prim.Native.Nat.{ℕ, ◌+◌, ◌-◌, ◌*◌, ◌≤◌, ◌<◌}
 use mathlib.Core.Path.{◌≡◌, refl, ap, ap₂, ◌∙◌}
 use mathlib.Core.Bool.{Bool, true, false}
@@ -8,14 +10,11 @@ use native.Mathlib.Numerals.{add-one}
 use lib.ListN.{length, take, length-append}
 use lib.Dec.{leb, ltb}
 use borrow.Author.Tests.{leb-true, ltb-true}
-use Rattle.wire.specs.Bytes.{digits, pick}
+use Rattle.wire.specs.Bytes.{digits}
 use Rattle.wire.specs.laws.Bytes.{length_digits}
 use Rattle.wire.specs.declared.Refusal.{Refusal}
-use Rattle.wire.specs.declared.End.{End}
-use Rattle.wire.specs.declared.End.TheVariants as P
 use Rattle.transaction.specs.Signed.{most_bytes}
 use Rattle.transaction.specs.Plan.{plan_of}
-use Rattle.writer_rules.specs.declared.Verdict.{Verdict}
 use Rattle.writer_rules.specs.code.Elements.{integers_bytes}
 use Rattle.writer_rules.proofs.Verdicts.{both_true}
 use Rattle.plan.specs.Due.{due, due_of, is_list}
@@ -29,34 +28,35 @@ use Rattle.writer.specs.code.Answer.{refused_step, stored_step, settled, segment
 
 -- ---- what a store answered
 
-module _ (v : Verdict) (n : ℕ) (w : Writer) (s t : List ℕ) (x : End) (u : List ℕ) (p : (x, u) ≡ stored v n s t) (w' : Writer) (r : Step) where
-  pub store-refused : (t' : List ℕ) (e : Refusal) → x ≡ P.Refused e → r ≡ refused_step w e → after r u ≡ answered v w s w' t'
+module _ (v : Result (Unit {0}) Refusal) (n : ℕ) (w : Writer) (s t : List ℕ) (x : Result ℕ Refusal) (u : List ℕ) (p : (x, u) ≡ stored v n s t) (w' : Writer)
+    (r : Step) where
+  pub store-refused : (t' : List ℕ) (e : Refusal) → x ≡ Err e → r ≡ refused_step w e → after r u ≡ answered v w s w' t'
   unfolding answered
   store-refused t' e q h = let (i, j) = stored_refused n s t x u v p e q in rw i (ap₂ after h j)
 
   -- f gives the writer's state, by the offset just past what was stored
-  pub store-done : (f : ℕ → Writer) (m : ℕ) → x ≡ P.At m → r ≡ stored_step (f m) → f n ≡ w' → after r u ≡ answered v w s w' t
+  pub store-done : (f : ℕ → Writer) (m : ℕ) → x ≡ Ok m → r ≡ stored_step (f m) → f n ≡ w' → after r u ≡ answered v w s w' t
   unfolding answered
   store-done f m q h g = let (i, k, j) = stored_at n s t x u v p m q in rw i (ap₂ after (h ∙ ap (λ (a : ℕ). stored_step (f a)) k ∙ ap stored_step g) j)
 
 -- ---- a field
 
-counts-bytes : (opens : Bool) → integers_bytes (take (pick opens 1 0) (0 ∷ [])) ≡ count_of opens
+counts-bytes : (opens : Bool) → integers_bytes (take (from_bool opens) (0 ∷ [])) ≡ count_of opens
 unfolding integers_bytes
 counts-bytes true = append-nil (digits 4 0)
 counts-bytes false = refl
 
-pub counts-few : (opens : Bool) (k : ℕ) → k ≡ pick opens 1 0 → k ≤ 1
+pub counts-few : (opens : Bool) (k : ℕ) → k ≡ from_bool opens → k ≤ 1
 counts-few true k h = omega arith
 counts-few false k h = omega arith
 
-counts-long : (opens : Bool) → length (count_of opens) ≡ 4 * pick opens 1 0
+counts-long : (opens : Bool) → length (count_of opens) ≡ 4 * from_bool opens
 counts-long true = length_digits 4 0
 counts-long false = refl
 
-module _ (w : Writer) (s : List ℕ) (first second : List ℕ) (opens : Bool) (from : Writer) (k : ℕ) (hk : k ≡ pick opens 1 0)
-    (x : End) (u : List ℕ) where
-  abbrev field_of : List ℕ → End × List ℕ
+module _ (w : Writer) (s : List ℕ) (first second : List ℕ) (opens : Bool) (from : Writer) (k : ℕ) (hk : k ≡ from_bool opens)
+    (x : Result ℕ Refusal) (u : List ℕ) where
+  abbrev field_of : List ℕ → Result ℕ Refusal × List ℕ
   field_of c =
       stored (room_for (from.at + length ((first ++ second) ++ c)) s)
       (from.at + length ((first ++ second) ++ c)) s (overwrite s from.at ((first ++ second) ++ c))
@@ -65,16 +65,16 @@ module _ (w : Writer) (s : List ℕ) (first second : List ℕ) (opens : Bool) (f
     stores : (x, u) ≡ field_of (count_of opens)
     stores = p ∙ ap (λ (i : ℕ). field_of (integers_bytes (take i (0 ∷ [])))) hk ∙ ap field_of (counts-bytes opens)
 
-    pub settle-refused : (e : Refusal) → x ≡ P.Refused e → (r : Step) → r ≡ refused_step w e → after r u ≡ settled w s (first ++ second) opens from
+    pub settle-refused : (e : Refusal) → x ≡ Err e → (r : Step) → r ≡ refused_step w e → after r u ≡ settled w s (first ++ second) opens from
     settle-refused e q r h = store-refused _ _ w s _ x u stores _ r _ e q h
 
     -- the end m is past the count, which has four bytes
-    pub settle-place : (m : ℕ) → x ≡ P.At m → 4 * k ≤ m
+    pub settle-place : (m : ℕ) → x ≡ Ok m → 4 * k ≤ m
     settle-place m q =
         let (_, i, _) = stored_at _ s _ x u _ stores m q in
         omega (arith, i, length-append (first ++ second) (count_of opens), counts-long opens, hk)
 
-    pub settle-done : (m : ℕ) → x ≡ P.At m → (r : Step)
+    pub settle-done : (m : ℕ) → x ≡ Ok m → (r : Step)
         → r ≡ stored_step record { type_id = from.type_id; phase = from.phase; at = m; list = m - 4 * k; count = 0; last = 0 }
         → after r u ≡ settled w s (first ++ second) opens from
     settle-done m q r h =
@@ -107,12 +107,12 @@ sane-inv w e =
     let (_, c) = both_true (leb w.last w.at) (ltb w.count most_bytes) b in
     (leb-true (w.list + 4) w.at a, ltb-true w.count most_bytes c)
 
-module _ (w : Writer) (s ys : List ℕ) (x : End) (u : List ℕ)
+module _ (w : Writer) (s ys : List ℕ) (x : Result ℕ Refusal) (u : List ℕ)
     (p : (x, u) ≡ stored (room_for (w.at + length ys) s) (w.at + length ys) s (overwrite s w.at ys)) where
-  pub element-refused : (e : Refusal) → x ≡ P.Refused e → (r : Step) → r ≡ refused_step w e → after r u ≡ element_step w s ys
+  pub element-refused : (e : Refusal) → x ≡ Err e → (r : Step) → r ≡ refused_step w e → after r u ≡ element_step w s ys
   element-refused e q r h = store-refused _ _ w s _ x u p _ r _ e q h
 
-  pub element-done : sane w ≡ true → (m : ℕ) → x ≡ P.At m → (z : List ℕ) → z ≡ with_integer u w.list (w.count + 1) → (r : Step)
+  pub element-done : sane w ≡ true → (m : ℕ) → x ≡ Ok m → (z : List ℕ) → z ≡ with_integer u w.list (w.count + 1) → (r : Step)
       → r ≡ stored_step record { type_id = w.type_id; phase = w.phase; at = m; list = w.list; count = w.count + 1; last = w.at }
       → after r z ≡ element_step w s ys
   unfolding answered grown appended

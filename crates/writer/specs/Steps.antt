@@ -1,6 +1,7 @@
 -- What each step of the writer answers, and what it leaves in the buffer (document 01, "Writing"), for any family. No rule is stated here: what a
 -- step would add is read by the format that is due. Assumes nothing.
-use Rattle.std.specs.Prelude.{ℕ, suc, ◌+◌, ◌-◌, Bool, true, ◌&&◌, List, [], ◌++◌, length, take, drop, ltb, leb, eqb}
+use Rattle.wire.specs.declared.Refusal.{Refusal}
+use Rattle.std.specs.Prelude.{ℕ, suc, ◌+◌, ◌-◌, Bool, true, ◌&&◌, List, [], ◌++◌, length, take, drop, ltb, leb, eqb, Ok, Err, Result}
 use Rattle.wire.specs.Bytes.{digits, pick}
 use Rattle.wire.specs.Numbers.{number_of, rule_of, empty_list, no_room, step_not_due}
 use Rattle.transaction.specs.Signed.{most_bytes}
@@ -8,16 +9,12 @@ use Rattle.transaction.specs.Plan.{content_of, elements_of, Plan, shut, end, fie
 use Rattle.transaction.specs.Family.{Family, head}
 use Rattle.transaction.specs.declared.FieldName.{FieldName}
 use Rattle.transaction.specs.declared.ListName.{ListName}
-use Rattle.writer_rules.specs.declared.Verdict.{Verdict}
-use Rattle.writer_rules.specs.declared.Verdict.TheVariants as J
 use Rattle.writer_rules.specs.Judged.{refused_by, judged}
 use Rattle.writer_rules.specs.Given.{head_bytes, Given}
 use Rattle.plan.specs.Due.{due, field_code, list_code}
 use Rattle.writer_buffer.specs.Closing.{closing, closable}
 use Rattle.writer.specs.declared.Writer.{Writer}
 use Rattle.writer.specs.declared.Step.{Step}
-use Rattle.writer.specs.declared.Written.{Written}
-use Rattle.writer.specs.declared.Written.TheVariants as W
 use Rattle.writer_buffer.specs.Stores.{room_for, overwrite}
 
 -- the writer that has written nothing
@@ -33,30 +30,30 @@ pub record Turn : Type 0 where
 abbrev pub after : Step → List ℕ → Turn
 after r s = record { step = r; buffer = s }
 
-abbrev pub turn : Writer → Written → List ℕ → Turn
+abbrev pub turn : Writer → Result ℕ Refusal → List ℕ → Turn
 turn w a s = record { step = record { next = w; answer = a }; buffer = s }
 
 -- the number and the place that an answer reports: done is 0, with the bytes written so far
-abbrev pub written_number : Written → ℕ
-written_number (W.Done n) = 0
-written_number (W.Refused e) = number_of e
+abbrev pub written_number : Result ℕ Refusal → ℕ
+written_number (Ok n) = 0
+written_number (Err e) = number_of e
 
-abbrev pub written_place : Written → ℕ
-written_place (W.Done n) = n
-written_place (W.Refused e) = e.place
+abbrev pub written_place : Result ℕ Refusal → ℕ
+written_place (Ok n) = n
+written_place (Err e) = e.place
 
 -- ---- verdicts: why a step is refused, if it is
 
 -- a step that is refused changes neither state nor buffer
-unfoldable pub answered : Verdict → Writer → List ℕ → Writer → List ℕ → Turn
-answered J.Allowed w s w' s' = turn w' (W.Done w'.at) s'
-answered (J.Refuse e) w s w' s' = turn w (W.Refused e) s
+unfoldable pub answered : Result (Unit {0}) Refusal → Writer → List ℕ → Writer → List ℕ → Turn
+answered (Ok tt) w s w' s' = turn w' (Ok w'.at) s'
+answered (Err e) w s w' s' = turn w (Err e) s
 
 -- 16 comes first; then 14, where the buffer is shorter than the bytes written
-abbrev pub guarded_in : Bool → Writer → ℕ → Verdict → Verdict
+abbrev pub guarded_in : Bool → Writer → ℕ → Result (Unit {0}) Refusal → Result (Unit {0}) Refusal
 guarded_in is_due w length v = pick is_due (pick (leb w.at length) v (refused_by no_room)) (refused_by step_not_due)
 
-abbrev pub guarded : Bool → Writer → List ℕ → Verdict → Verdict
+abbrev pub guarded : Bool → Writer → List ℕ → Result (Unit {0}) Refusal → Result (Unit {0}) Refusal
 guarded is_due w s v = guarded_in is_due w (length s) v
 
 -- ---- the buffer

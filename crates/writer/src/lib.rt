@@ -11,8 +11,8 @@ mod steps;
 
 use plan::{Due, rows};
 use transaction::{FieldName, ListName};
-use wire::{End, Refusal};
-use writer_rules::{Verdict, elements, values};
+use wire::Refusal;
+use writer_rules::{elements, values};
 use writer_transfers::{input_rules, output_rules};
 
 // How far a transaction is written: its type, how many segments are begun, and the bytes written so far; and for the open list the offset of its
@@ -27,18 +27,11 @@ pub struct Writer {
     pub last: usize,
 }
 
-// How many bytes are written so far, or why the step is refused.
-#[derive(Clone, Copy)]
-pub enum Written {
-    Done(usize),
-    Refused(Refusal),
-}
-
 // The state after a step, and its answer.
 #[derive(Clone, Copy)]
 pub struct Step {
     pub next: Writer,
-    pub answer: Written,
+    pub answer: Result<usize, Refusal>,
 }
 
 // Each step makes its tests in the same order: whether it is due, whether the buffer has the bytes written so far, its rules, and last, in the
@@ -62,13 +55,10 @@ impl Writer {
     pub fn start(self, buf: &mut [u8], type_id: u32, network: u32, chain: [u8; 32]) -> Step
         ensures { after result buf.new ≡ start (avm memo_most) self buf.old type_id network chain }
     {
-        if self.phase != 0 {
-            return steps::not_due(self);
+        if let Err(refusal) = steps::ready(self, self.phase == 0, buf.len()) {
+            return steps::refused(self, refusal);
         }
-        if buf.len() < self.at {
-            return steps::no_room(self);
-        }
-        if let Verdict::Refuse(refusal) = values::type_rules(type_id) {
+        if let Err(refusal) = values::type_rules(type_id) {
             return steps::refused(self, refusal);
         }
         let mut front = [0u8; 10];
@@ -76,10 +66,7 @@ impl Writer {
         let from = Writer {
             type_id,
             phase: 1,
-            at: 0,
-            list: 0,
-            count: 0,
-            last: 0,
+            ..Writer::fresh()
         };
         steps::settle(self, buf, &front, &chain, true, from)
     }
@@ -88,35 +75,27 @@ impl Writer {
     pub fn close(self, buf: &mut [u8]) -> Step
         ensures { after result buf.new ≡ close (avm memo_most) self buf.old }
     {
-        match rows::due_at(self.type_id, self.phase) {
-            Due::Nothing => steps::not_due(self),
-            Due::Finish => steps::not_due(self),
-            Due::Field(_) => steps::not_due(self),
-            Due::List(_, least) => {
-                if buf.len() < self.at {
-                    return steps::no_room(self);
-                }
-                if let Verdict::Refuse(refusal) = values::list_rules(self.count, least) {
-                    return steps::refused(self, refusal);
-                }
-                let none = [0u8; 1];
-                let nothing = [0u8; 1];
-                steps::put_segment(self, buf, &none[..0], &nothing[..0])
-            }
+        let Due::List(_, least) = rows::due_at(self.type_id, self.phase) else {
+            return steps::not_due(self);
+        };
+        if let Err(refusal) = steps::ready(self, true, buf.len()) {
+            return steps::refused(self, refusal);
         }
+        if let Err(refusal) = values::list_rules(self.count, least) {
+            return steps::refused(self, refusal);
+        }
+        steps::put_segment(self, buf, &[], &[])
     }
 
     // Writes the memo, at most 256 bytes.
     pub fn memo(self, buf: &mut [u8], bytes: &[u8]) -> Step
         ensures { after result buf.new ≡ put_memo memo_most self buf.old bytes.now }
     {
-        if !writer_due::field_at(self.type_id, self.phase, FieldName::Memo) {
-            return steps::not_due(self);
+        let due = writer_due::field_at(self.type_id, self.phase, FieldName::Memo);
+        if let Err(refusal) = steps::ready(self, due, buf.len()) {
+            return steps::refused(self, refusal);
         }
-        if buf.len() < self.at {
-            return steps::no_room(self);
-        }
-        if let Verdict::Refuse(refusal) = values::memo_rules(bytes.len(), transaction::MEMO_MOST) {
+        if let Err(refusal) = values::memo_rules(bytes.len(), transaction::MEMO_MOST) {
             return steps::refused(self, refusal);
         }
         let mut count = [0u8; 4];
@@ -128,13 +107,11 @@ impl Writer {
     pub fn name(self, buf: &mut [u8], bytes: &[u8]) -> Step
         ensures { after result buf.new ≡ put_name memo_most self buf.old bytes.now }
     {
-        if !writer_due::field_at(self.type_id, self.phase, FieldName::Name) {
-            return steps::not_due(self);
+        let due = writer_due::field_at(self.type_id, self.phase, FieldName::Name);
+        if let Err(refusal) = steps::ready(self, due, buf.len()) {
+            return steps::refused(self, refusal);
         }
-        if buf.len() < self.at {
-            return steps::no_room(self);
-        }
-        if let Verdict::Refuse(refusal) = values::text_rules(bytes, string::NAME_MOST as usize) {
+        if let Err(refusal) = values::text_rules(bytes, string::NAME_MOST as usize) {
             return steps::refused(self, refusal);
         }
         let mut count = [0u8; 2];
@@ -143,16 +120,15 @@ impl Writer {
     }
 
     // Writes the symbol of a new asset, 1 to 4 printable characters.
+    // Not one function with `name`: its contract would need a `requires` that ties the field to its limit.
     pub fn symbol(self, buf: &mut [u8], bytes: &[u8]) -> Step
         ensures { after result buf.new ≡ put_symbol memo_most self buf.old bytes.now }
     {
-        if !writer_due::field_at(self.type_id, self.phase, FieldName::Symbol) {
-            return steps::not_due(self);
+        let due = writer_due::field_at(self.type_id, self.phase, FieldName::Symbol);
+        if let Err(refusal) = steps::ready(self, due, buf.len()) {
+            return steps::refused(self, refusal);
         }
-        if buf.len() < self.at {
-            return steps::no_room(self);
-        }
-        if let Verdict::Refuse(refusal) = values::text_rules(bytes, string::SYMBOL_MOST as usize) {
+        if let Err(refusal) = values::text_rules(bytes, string::SYMBOL_MOST as usize) {
             return steps::refused(self, refusal);
         }
         let mut count = [0u8; 2];
@@ -164,33 +140,27 @@ impl Writer {
     pub fn denomination(self, buf: &mut [u8], value: u8) -> Step
         ensures { after result buf.new ≡ put_denomination memo_most self buf.old value }
     {
-        if !writer_due::field_at(self.type_id, self.phase, FieldName::Denomination) {
-            return steps::not_due(self);
+        let due = writer_due::field_at(self.type_id, self.phase, FieldName::Denomination);
+        if let Err(refusal) = steps::ready(self, due, buf.len()) {
+            return steps::refused(self, refusal);
         }
-        if buf.len() < self.at {
-            return steps::no_room(self);
-        }
-        if let Verdict::Refuse(refusal) = values::denomination_rules(value) {
+        if let Err(refusal) = values::denomination_rules(value) {
             return steps::refused(self, refusal);
         }
         let mut byte = [0u8; 1];
         wire::put_integer(&mut byte, value as u64);
-        let none = [0u8; 1];
-        steps::put_segment(self, buf, &byte, &none[..0])
+        steps::put_segment(self, buf, &byte, &[])
     }
 
     // Writes the source chain of an import, or the destination chain of an export.
     pub fn chain(self, buf: &mut [u8], id: [u8; 32]) -> Step
         ensures { after result buf.new ≡ put_chain memo_most self buf.old id }
     {
-        if !writer_due::field_at(self.type_id, self.phase, FieldName::Chain) {
-            return steps::not_due(self);
+        let due = writer_due::field_at(self.type_id, self.phase, FieldName::Chain);
+        if let Err(refusal) = steps::ready(self, due, buf.len()) {
+            return steps::refused(self, refusal);
         }
-        if buf.len() < self.at {
-            return steps::no_room(self);
-        }
-        let none = [0u8; 1];
-        steps::put_segment(self, buf, &none[..0], &id)
+        steps::put_segment(self, buf, &[], &id)
     }
 
     // Adds a transferable output. `addresses` holds its addresses one after the other, 20 bytes each.
@@ -205,22 +175,19 @@ impl Writer {
     ) -> Step
         ensures { after result buf.new ≡ add_output memo_most self buf.old asset amount locktime threshold addresses.now }
     {
-        if !steps::is_element_due(self, ListName::Output) {
-            return steps::not_due(self);
-        }
-        if buf.len() < self.at {
-            return steps::no_room(self);
+        let due = steps::is_element_due(self, ListName::Output);
+        if let Err(refusal) = steps::ready(self, due, buf.len()) {
+            return steps::refused(self, refusal);
         }
         let last = steps::last_of(self, &buf[..]);
         let mut head = [0u8; 60];
         let rules = output_rules(
             last, asset, amount, locktime, threshold, addresses, &mut head,
         );
-        if let Verdict::Refuse(refusal) = rules {
+        if let Err(refusal) = rules {
             return steps::refused(self, refusal);
         }
-        let none = [0u32; 1];
-        steps::put_element(self, buf, &head, addresses, &none[..0])
+        steps::put_element(self, buf, &head, addresses, &[])
     }
 
     // Adds a transferable input, base or imported.
@@ -235,55 +202,46 @@ impl Writer {
     ) -> Step
         ensures { after result buf.new ≡ add_input memo_most self buf.old txid index asset amount indices.now }
     {
-        if !steps::is_element_due(self, ListName::Input) {
-            return steps::not_due(self);
-        }
-        if buf.len() < self.at {
-            return steps::no_room(self);
+        let due = steps::is_element_due(self, ListName::Input);
+        if let Err(refusal) = steps::ready(self, due, buf.len()) {
+            return steps::refused(self, refusal);
         }
         let last = steps::last_of(self, &buf[..]);
         let mut head = [0u8; 84];
         let rules = input_rules(last, txid, index, asset, amount, indices, &mut head);
-        if let Verdict::Refuse(refusal) = rules {
+        if let Err(refusal) = rules {
             return steps::refused(self, refusal);
         }
-        let none = [0u8; 1];
-        steps::put_element(self, buf, &head, &none[..0], indices)
+        steps::put_element(self, buf, &head, &[], indices)
     }
 
     // Adds an operation, given as its bytes.
     pub fn add_operation(self, buf: &mut [u8], bytes: &[u8]) -> Step
         ensures { after result buf.new ≡ add_operation memo_most self buf.old bytes.now }
     {
-        if !steps::is_element_due(self, ListName::Operation) {
-            return steps::not_due(self);
-        }
-        if buf.len() < self.at {
-            return steps::no_room(self);
-        }
-        if let Verdict::Refuse(refusal) = elements::operation_rules(bytes) {
+        let due = steps::is_element_due(self, ListName::Operation);
+        if let Err(refusal) = steps::ready(self, due, buf.len()) {
             return steps::refused(self, refusal);
         }
-        let none = [0u32; 1];
-        steps::put_element(self, buf, &bytes[..0], bytes, &none[..0])
+        if let Err(refusal) = elements::operation_rules(bytes) {
+            return steps::refused(self, refusal);
+        }
+        steps::put_element(self, buf, &[], bytes, &[])
     }
 
     // Adds an initial state, given as its bytes.
     pub fn add_initial_state(self, buf: &mut [u8], bytes: &[u8]) -> Step
         ensures { after result buf.new ≡ add_initial_state memo_most self buf.old bytes.now }
     {
-        if !steps::is_element_due(self, ListName::State) {
-            return steps::not_due(self);
-        }
-        if buf.len() < self.at {
-            return steps::no_room(self);
-        }
-        let last = steps::last_of(self, &buf[..]);
-        if let Verdict::Refuse(refusal) = elements::state_rules(last, bytes) {
+        let due = steps::is_element_due(self, ListName::State);
+        if let Err(refusal) = steps::ready(self, due, buf.len()) {
             return steps::refused(self, refusal);
         }
-        let none = [0u32; 1];
-        steps::put_element(self, buf, &bytes[..0], bytes, &none[..0])
+        let last = steps::last_of(self, &buf[..]);
+        if let Err(refusal) = elements::state_rules(last, bytes) {
+            return steps::refused(self, refusal);
+        }
+        steps::put_element(self, buf, &[], bytes, &[])
     }
 
     // Ends the transaction with its blank credentials, in which every signature is zero bytes.
@@ -295,14 +253,14 @@ impl Writer {
         }
         let phase = self.phase + 1;
         match writer_buffer::blank::append(buf, self.at, transaction::MEMO_MOST) {
-            End::Refused(refusal) => steps::refused(self, refusal),
-            End::At(end) => steps::stored(Writer {
-                type_id: self.type_id,
+            Err(refusal) => steps::refused(self, refusal),
+            Ok(end) => steps::stored(Writer {
                 phase,
                 at: end,
                 list: end,
                 count: 0,
                 last: 0,
+                ..self
             }),
         }
     }

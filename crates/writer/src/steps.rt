@@ -1,15 +1,14 @@
 // What the methods share: whether an element is due, and, after its rules are judged, the store and the next state.
-ghost use Rattle.std.specs.Prelude.{◌≤◌, ◌≡◌, true, ◌&&◌, ◌++◌};
-ghost use Rattle.wire.specs.Bytes.{pick};
+ghost use Rattle.std.specs.Prelude.{◌≤◌, ◌≡◌, true, ◌&&◌, ◌++◌, Ok};
 ghost use Rattle.plan.specs.Due.{is_open};
 ghost use Rattle.plan.specs.code.Rows.{last_phase};
 ghost use Rattle.writer_rules.specs.code.Elements.{integers_bytes};
-ghost use Rattle.writer.specs.Steps.{prev, sane, after};
-ghost use Rattle.writer.specs.code.Answer.{refused_step, not_due_step, no_room_step, stored_step, due_at, settled, segment_step, opens_next, element_step};
+ghost use Rattle.writer.specs.Steps.{prev, sane, guarded_in, after};
+ghost use Rattle.writer.specs.code.Answer.{refused_step, not_due_step, stored_step, due_at, settled, segment_step, opens_next, element_step};
 
-use crate::{Step, Writer, Written};
+use crate::{Step, Writer};
 use transaction::ListName;
-use wire::{End, Refusal, Rule};
+use wire::{Refusal, Rule};
 
 // The answer of a refused step, which changes neither state nor buffer.
 pub fn refused(writer: Writer, refusal: Refusal) -> Step
@@ -17,7 +16,7 @@ pub fn refused(writer: Writer, refusal: Refusal) -> Step
 {
     Step {
         next: writer,
-        answer: Written::Refused(refusal),
+        answer: Err(refusal),
     }
 }
 
@@ -27,20 +26,25 @@ pub fn not_due(writer: Writer) -> Step
     refused(writer, wire::refuse(Rule::StepNotDue, 0))
 }
 
-// The answer if the buffer is shorter than the bytes written.
-pub fn no_room(writer: Writer) -> Step
-    ensures { result ≡ no_room_step writer }
+// The tests that come first in each step: whether it is due, and whether a buffer of `length` bytes has the bytes written so far.
+pub fn ready(writer: Writer, due: bool, length: usize) -> Result<(), Refusal>
+    ensures { result ≡ guarded_in due writer length (Ok tt) }
 {
-    refused(writer, wire::refuse(Rule::NoRoom, 0))
+    if !due {
+        return writer_rules::refuse_step(Rule::StepNotDue);
+    }
+    if length < writer.at {
+        return writer_rules::refuse_step(Rule::NoRoom);
+    }
+    Ok(())
 }
 
 pub fn stored(writer: Writer) -> Step
     ensures { result ≡ stored_step writer }
 {
-    let at = writer.at;
     Step {
         next: writer,
-        answer: Written::Done(at),
+        answer: Ok(writer.at),
     }
 }
 
@@ -48,16 +52,10 @@ pub fn stored(writer: Writer) -> Step
 fn is_sane(writer: Writer) -> bool
     ensures { result ≡ sane writer }
 {
-    if writer.at < 4 {
-        return false;
-    }
-    if writer.at - 4 < writer.list {
-        return false;
-    }
-    if writer.at < writer.last {
-        return false;
-    }
-    (writer.count as usize) < transaction::MOST_BYTES
+    4 <= writer.at
+        && writer.list <= writer.at - 4
+        && writer.last <= writer.at
+        && (writer.count as usize) < transaction::MOST_BYTES
 }
 
 // The bytes of the open list's last element, empty if the list is.
@@ -74,20 +72,7 @@ pub fn last_of(writer: Writer, buf: &[u8]) -> &[u8]
 pub fn is_element_due(writer: Writer, list: ListName) -> bool
     ensures { result ≡ is_open list (due_at writer) && sane writer }
 {
-    if writer_due::open_at(writer.type_id, writer.phase, list) {
-        return is_sane(writer);
-    }
-    false
-}
-
-// How many counts follow a segment: one if a list is next.
-fn counts_of(opens: bool) -> usize
-    ensures { result ≡ pick opens 1 0 }
-{
-    if opens {
-        return 1;
-    }
-    0
+    writer_due::open_at(writer.type_id, writer.phase, list) && is_sane(writer)
 }
 
 // Stores a field at `from.at`, followed by the next list's count if one opens. A refusal keeps the state `writer`.
@@ -101,17 +86,15 @@ pub fn settle(
 ) -> Step
     ensures { after result buf.new ≡ settled writer buf.old (first.now ++ second.now) opens from }
 {
-    let zero = [0u32; 1];
-    let counts = counts_of(opens);
-    match writer_buffer::store(buf, from.at, first, second, &zero[..counts]) {
-        End::Refused(refusal) => refused(writer, refusal),
-        End::At(end) => stored(Writer {
-            type_id: from.type_id,
-            phase: from.phase,
+    let counts = usize::from(opens);
+    match writer_buffer::store(buf, from.at, first, second, &[0u32][..counts]) {
+        Err(refusal) => refused(writer, refusal),
+        Ok(end) => stored(Writer {
             at: end,
             list: end - 4 * counts,
             count: 0,
             last: 0,
+            ..from
         }),
     }
 }
@@ -124,12 +107,11 @@ pub(crate) fn put_segment(writer: Writer, buf: &mut [u8], first: &[u8], second: 
     let phase = writer.phase + 1;
     let opens = writer_due::list_at(writer.type_id, phase);
     let from = Writer {
-        type_id: writer.type_id,
         phase,
-        at: writer.at,
         list: 0,
         count: 0,
         last: 0,
+        ..writer
     };
     settle(writer, buf, first, second, opens, from)
 }
@@ -147,17 +129,15 @@ pub(crate) fn put_element(
         ((first.now ++ second.now) ++ integers_bytes numbers.now) }
 {
     match writer_buffer::store(buf, writer.at, first, second, numbers) {
-        End::Refused(refusal) => refused(writer, refusal),
-        End::At(end) => {
+        Err(refusal) => refused(writer, refusal),
+        Ok(end) => {
             let count = writer.count + 1;
             writer_buffer::put_u32(buf, writer.list, count as u64);
             stored(Writer {
-                type_id: writer.type_id,
-                phase: writer.phase,
                 at: end,
-                list: writer.list,
                 count,
                 last: writer.at,
+                ..writer
             })
         }
     }

@@ -1,11 +1,12 @@
 -- Laws of blank credentials: their bytes, one after the other, and the room that they need. Assumes nothing.
+use Rattle.std.specs.Prelude.{Ok, Err, Result}
 use Prim.Native.Nat.{ℕ, zero, suc, ◌+◌, ◌*◌, ◌^◌, ◌≤◌, ◌<◌}
 use mathlib.Core.Path.{◌≡◌, refl, sym, ap, ◌∙◌}
 use mathlib.Core.Bool.{Bool, true, false}
-use mathlib.Core.List.{List, [], ◌∷◌, ◌++◌, append_assoc, append-nil}
+use mathlib.Core.List.{List, [], ◌∷◌, ◌++◌, append_assoc}
 use native.Mathlib.Omega.{arith}
 use native.Mathlib.Numerals.{add-one}
-use lib.ListN.{length, drop, set, replicate, length-append, length-replicate, replicate-append-replicate, drop_of_length-le}
+use lib.ListN.{length, drop, set, replicate, length-append, length-replicate, replicate-append-replicate}
 use lib.Dec.{leb}
 use lib.Seq.{drop-cons, set_at}
 use borrow.Author.Tests.{leb-true, leb-false, le-leb, lt-leb}
@@ -14,8 +15,6 @@ use Rattle.wire.specs.laws.Bytes.{length_digits}
 use Rattle.wire.specs.Numbers.{refusal, no_room}
 use Rattle.wire.specs.Fields.{integer}
 use Rattle.wire.specs.declared.Refusal.{Refusal}
-use Rattle.wire.specs.declared.End.{End}
-use Rattle.wire.specs.declared.End.TheVariants as P
 use Rattle.transaction.specs.Slots.{signature_width, blank}
 use Rattle.transaction.specs.Credentials.{CredentialType, secp_credential, nft_credential, credential_code, Want}
 use Rattle.transaction.specs.Credentials.{Piece, signatures, each, layout, pieces, credentials, blanks}
@@ -34,11 +33,6 @@ zero_more s i h =
     ∙ sym (append_assoc (replicate i 0) (0 ∷ []) (drop (suc i) s))
     ∙ ap (λ (r : List ℕ). r ++ drop (suc i) s) (replicate-append-replicate i 1 0)
     ∙ ap (λ (n : ℕ). replicate (i + 1) 0 ++ drop n s) (sym (add-one i))
-
-pub zeros-all : (s : List ℕ) (i : ℕ) → length s ≤ i → i ≤ length s → replicate i 0 ++ drop i s ≡ replicate (length s) 0
-zeros-all s i h k =
-    let e : i ≡ length s = omega arith in
-    ap (λ (r : List ℕ). replicate i 0 ++ r) (drop_of_length-le s h) ∙ append-nil (replicate i 0) ∙ ap (λ (n : ℕ). replicate n 0) e
 
 -- ---- the buffer
 
@@ -128,37 +122,37 @@ closing-long ws =
 
 -- ---- room
 
-pub fitted-room : (at n limit m : ℕ) → m ≡ at + n → m ≤ limit → P.At m ≡ fitted at n limit
+pub fitted-room : (at n limit m : ℕ) → m ≡ at + n → m ≤ limit → Ok m ≡ fitted at n limit
 unfolding fitted
-fitted-room at n limit m e h = rw (le-leb (at + n) limit (rw e at h)) (ap P.At e)
+fitted-room at n limit m e h = rw (le-leb (at + n) limit (rw e at h)) (ap Ok e)
 
-pub fitted-full : (at n limit : ℕ) → limit < at + n → P.Refused (refusal no_room 0) ≡ fitted at n limit
+pub fitted-full : (at n limit : ℕ) → limit < at + n → Err (refusal no_room 0) ≡ fitted at n limit
 unfolding fitted
 fitted-full at n limit h = rw (lt-leb (at + n) limit h)
 
-module _ (z : End) (at a limit : ℕ) (e : z ≡ fitted at a limit) where
-  fitted-cases : (b : Bool) → leb (at + a) limit ≡ b → (m : ℕ) → z ≡ P.At m → z ≡ pick b (P.At (at + a)) (P.Refused (refusal no_room 0))
+module _ (z : Result ℕ Refusal) (at a limit : ℕ) (e : z ≡ fitted at a limit) where
+  fitted-cases : (b : Bool) → leb (at + a) limit ≡ b → (m : ℕ) → z ≡ Ok m → z ≡ pick b (Ok (at + a)) (Err (refusal no_room 0))
       → (m ≡ at + a) × (m ≤ limit)
   fitted-cases true h m f g = let i : m ≡ at + a = cc in let k = leb-true (at + a) limit h in (i, omega arith)
   fitted-cases false h m f g = let i : ◌≡◌ {A = ℕ} 0 1 = cc in absurd (omega arith)
 
-  pub fitted-next : (m : ℕ) → z ≡ P.At m → (m ≡ at + a) × (m ≤ limit)
+  pub fitted-next : (m : ℕ) → z ≡ Ok m → (m ≡ at + a) × (m ≤ limit)
   unfolding fitted
   fitted-next m f = fitted-cases (leb (at + a) limit) refl m f e
 
-  refused-cases : (b : Bool) → leb (at + a) limit ≡ b → (r : Refusal) → z ≡ P.Refused r → z ≡ pick b (P.At (at + a)) (P.Refused (refusal no_room 0))
+  refused-cases : (b : Bool) → leb (at + a) limit ≡ b → (r : Refusal) → z ≡ Err r → z ≡ pick b (Ok (at + a)) (Err (refusal no_room 0))
       → (limit < at + a) × (r ≡ refusal no_room 0)
   refused-cases true h r f g = let i : ◌≡◌ {A = ℕ} 0 1 = cc in absurd (omega arith)
   refused-cases false h r f g = let i : r ≡ refusal no_room 0 = cc in (omega (arith, leb-false (at + a) limit h), i)
 
-  pub fitted-refused : (r : Refusal) → z ≡ P.Refused r → (limit < at + a) × (r ≡ refusal no_room 0)
+  pub fitted-refused : (r : Refusal) → z ≡ Err r → (limit < at + a) × (r ≡ refusal no_room 0)
   unfolding fitted
   fitted-refused r f = refused-cases (leb (at + a) limit) refl r f e
 
   -- if a bytes fit, then b more fit after them exactly if a + b fit
-  pub fitted-on : (m b : ℕ) → z ≡ P.At m → fitted m b limit ≡ fitted at (a + b) limit
+  pub fitted-on : (m b : ℕ) → z ≡ Ok m → fitted m b limit ≡ fitted at (a + b) limit
   unfolding fitted
   fitted-on m b f = let (i, k) = fitted-next m f in let j : m + b ≡ at + (a + b) = omega arith in rw j
 
-  pub fitted-off : (r : Refusal) (b : ℕ) → z ≡ P.Refused r → P.Refused r ≡ fitted at (a + b) limit
-  fitted-off r b f = let (k, i) = fitted-refused r f in ap P.Refused i ∙ fitted-full at (a + b) limit (omega arith)
+  pub fitted-off : (r : Refusal) (b : ℕ) → z ≡ Err r → Err r ≡ fitted at (a + b) limit
+  fitted-off r b f = let (k, i) = fitted-refused r f in ap Err i ∙ fitted-full at (a + b) limit (omega arith)

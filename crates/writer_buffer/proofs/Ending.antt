@@ -1,5 +1,6 @@
 -- The tests of the code before it writes credentials: the bytes written are there, the unsigned part is read back, its credentials have room.
 -- Assumes nothing.
+use Rattle.std.specs.Prelude.{Ok, Err, Result}
 use Prim.Native.Nat.{ℕ, zero, suc, ◌+◌, ◌≤◌, ◌<◌}
 use mathlib.Core.Path.{◌≡◌, refl, sym, ap, ap₂, ◌∙◌, subst}
 use mathlib.Core.Bool.{Bool, true, false}
@@ -14,8 +15,6 @@ use Rattle.wire.specs.laws.Bytes.{bytes_take}
 use Rattle.wire.specs.Numbers.{bytes_after_end, no_room, refusal}
 use Rattle.wire.specs.Format.{took, read}
 use Rattle.wire.specs.declared.Refusal.{Refusal}
-use Rattle.wire.specs.declared.End.{End}
-use Rattle.wire.specs.declared.End.TheVariants as P
 use Rattle.wire.proofs.Bytes.{Slice, slice-bytes}
 use Rattle.element.proofs.Reading.{answer-took}
 use Rattle.transaction.specs.Signed.{most_bytes}
@@ -24,12 +23,9 @@ use Rattle.transaction.specs.Avm.{avm}
 use Rattle.transaction.specs.Answer.{layout}
 use Rattle.transaction.specs.code.Answer.{unsigned_at}
 use Rattle.transaction.specs.declared.Layout.{Layout}
-use Rattle.transaction.specs.declared.UnsignedRead.{UnsignedRead}
-use Rattle.transaction.specs.declared.UnsignedRead.TheVariants as U
 use Rattle.transaction.proofs.Checking.{on-unsigned, on-unsigned-refused}
 use Rattle.credentials.specs.code.Wanted.{Wants, first_wanting}
 use Rattle.credentials.proofs.Besides.{credentials-stand, first-wants}
-use Rattle.writer_rules.specs.declared.Verdict.{Verdict}
 use Rattle.writer_rules.specs.Given.{given}
 use Rattle.writer_rules.specs.Judged.{refused_by, judged}
 use Rattle.writer_buffer.specs.Stores.{room_in, room_for, overwrite}
@@ -58,35 +54,35 @@ most-full k s = cases (ltb (length s) most_bytes)
 
 -- ---- the credentials of a layout
 
-module _ (l : Layout) (s : List ℕ) (at m : ℕ) (em : m ≡ most_in (length s)) (z : End)
+module _ (l : Layout) (s : List ℕ) (at m : ℕ) (em : m ≡ most_in (length s)) (z : Result ℕ Refusal)
     (e : OfAll l (take at s) (λ ws. z ≡ fitted at (length (closing_bytes ws)) m)) where
   -- the answer and the buffer are those of closing with the credentials wanted
-  abbrev Out : End → List ℕ → Type 0
+  abbrev Out : Result ℕ Refusal → List ℕ → Type 0
   Out r b = OfAll l (take at s) (λ ws. (r, b) ≡ closed s at ws)
 
-  pub close-room : AllAhead l (take at s) → (n : ℕ) → z ≡ P.At n → RoomForAll l (take at s) at (length s)
+  pub close-room : AllAhead l (take at s) → (n : ℕ) → z ≡ Ok n → RoomForAll l (take at s) at (length s)
   close-room a n f =
       let (i, k) = fitted-next z at (length (closing_bytes a.all)) m (e a.most a.all a.wants a.counts) n f in
       let (p, q) = most-inside (length s) in
       let long = closing-long a.all in
       record { ahead = a; after = omega arith; fits = omega arith; short = omega arith }
 
-  pub close-done : (n : ℕ) → z ≡ P.At n → (b : List ℕ) → OfAll l (take at s) (λ ws. b ≡ overwrite s at (closing_bytes ws)) → Out (P.At n) b
+  pub close-done : (n : ℕ) → z ≡ Ok n → (b : List ℕ) → OfAll l (take at s) (λ ws. b ≡ overwrite s at (closing_bytes ws)) → Out (Ok n) b
   unfolding stored
   close-done n f b g most ws w c =
       let ys : List ℕ = closing_bytes ws in
       let (i, k) = fitted-next z at (length ys) m (e most ws w c) n f in
       let (p, q) = most-inside (length s) in
-      ap₂ (λ (a : ℕ) (t : List ℕ). (P.At a, t)) i (g most ws w c)
-      ∙ ap (λ (v : Verdict). written v s at ys) (sym (room-fine (at + length ys) s (omega arith) (omega arith)))
+      ap₂ (λ (a : ℕ) (t : List ℕ). (Ok a, t)) i (g most ws w c)
+      ∙ ap (λ (v : Result (Unit {0}) Refusal). written v s at ys) (sym (room-fine (at + length ys) s (omega arith) (omega arith)))
 
-  pub close-full : (r : Refusal) → z ≡ P.Refused r → Out (P.Refused r) s
+  pub close-full : (r : Refusal) → z ≡ Err r → Out (Err r) s
   unfolding stored
   close-full r f most ws w c =
       let ys : List ℕ = closing_bytes ws in
       let (i, k) = fitted-refused z at (length ys) m (e most ws w c) r f in
-      ap (λ (r : Refusal). (P.Refused r, s)) k
-      ∙ ap (λ (v : Verdict). written v s at ys) (sym (most-full (at + length ys) s (omega arith)))
+      ap (λ (r : Refusal). (Err r, s)) k
+      ∙ ap (λ (v : Result (Unit {0}) Refusal). written v s at ys) (sym (most-full (at + length ys) s (omega arith)))
 
 -- ---- the unsigned part, read back
 
@@ -100,29 +96,30 @@ module _ (most : ℕ) (s : List ℕ) (at : ℕ) where
   F = avm most
 
   -- the answer and the buffer that follow from a verdict
-  abbrev Ruled : Verdict → End × List ℕ
+  abbrev Ruled : Result (Unit {0}) Refusal → Result ℕ Refusal × List ℕ
   Ruled v = written v s at (closing F at s)
 
-  pub close-short : length s < at → (P.Refused (refusal no_room 0), s) ≡ Ruled (closable F at s)
+  pub close-short : length s < at → (Err (refusal no_room 0), s) ≡ Ruled (closable F at s)
   unfolding stored closable
   close-short h = rw (lt-leb at (length s) h)
 
-  module _ (h : at ≤ length s) (x : UnsignedRead) (p : x ≡ unsigned_at most (take at s)) where
+  module _ (h : at ≤ length s) (x : Result Layout Refusal) (p : x ≡ unsigned_at most (take at s)) where
     -- the verdict on the unsigned part decides
-    ruled : (v : Verdict) → judged (unsigned F) (given (take at s)) (room_for (at + length (closing F at s)) s) ≡ v → Ruled v ≡ Ruled (closable F at s)
+    ruled : (v : Result (Unit {0}) Refusal) → judged (unsigned F) (given (take at s)) (room_for (at + length (closing F at s)) s) ≡ v
+        → Ruled v ≡ Ruled (closable F at s)
     unfolding closable
     ruled v e = ap Ruled (sym (rw (le-leb at (length s) h) e))
 
-    pub close-refused : (e : Refusal) → x ≡ U.Refused e → (P.Refused (refusal e.rule 0), s) ≡ Ruled (closable F at s)
+    pub close-refused : (e : Refusal) → x ≡ Err e → (Err (refusal e.rule 0), s) ≡ Ruled (closable F at s)
     unfolding judged stored
     close-refused e q =
         ruled (refused_by e.rule) (sym (on-unsigned-refused most (take at s) (refused_by e.rule) (λ e. refused_by e.rule) _ x p e q refl))
 
-    module _ (l : Layout) (q : x ≡ U.Whole l) (b : Slice s) where
+    module _ (l : Layout) (q : x ≡ Ok l) (b : Slice s) where
       front : Slice (take at s)
       front = slice_of (take at s) (bytes_take at s (slice-bytes s b))
 
-      pub close-after : (l.credentials_at ≡ at → ⊥) → (P.Refused (refusal bytes_after_end 0), s) ≡ Ruled (closable F at s)
+      pub close-after : (l.credentials_at ≡ at → ⊥) → (Err (refusal bytes_after_end 0), s) ≡ Ruled (closable F at s)
       unfolding judged stored
       close-after f =
           ruled (refused_by bytes_after_end)
@@ -142,7 +139,7 @@ module _ (most : ℕ) (s : List ℕ) (at : ℕ) where
       unfolding wants
       known =
           let (u, n, t, i) =
-          answer-took (unsigned F) (take at s) 0 U.Refused (λ u n. U.Whole (layout most u)) x p (U.Whole l) q
+          answer-took (unsigned F) (take at s) 0 Err (λ u n. Ok (layout most u)) x p (Ok l) q
           (λ e i. let z : ◌≡◌ {A = ℕ} 0 1 = cc in omega arith) in
           let el : l ≡ layout most u = cc in
           record {
@@ -159,12 +156,12 @@ module _ (most : ℕ) (s : List ℕ) (at : ℕ) where
           let k = known in
           (h, record { most = most; all = wants F k.u; wants = k.asks; counts = k.counts })
 
-      pub close-whole : l.credentials_at ≡ at → (r : End) (t : List ℕ)
+      pub close-whole : l.credentials_at ≡ at → (r : Result ℕ Refusal) (t : List ℕ)
           → OfAll l (take at s) (λ ws. (r, t) ≡ closed s at ws) → (r, t) ≡ Ruled (closable F at s)
       unfolding judged closing
       close-whole f r t g =
           let k = known in
-          let v : Verdict = room_for (at + length (closing F at s)) s in
+          let v : Result (Unit {0}) Refusal = room_for (at + length (closing F at s)) s in
           g most (wants F k.u) k.asks k.counts
           ∙ ap (λ (ys : List ℕ). written (room_for (at + length ys) s) s at ys) (sym (ap (blank_after F) k.stands))
           ∙ ruled v

@@ -1,4 +1,6 @@
 -- Integers of four bytes each, written one after the other. Assumes nothing.
+use Rattle.std.specs.Prelude.{Result}
+use Rattle.wire.specs.declared.Refusal.{Refusal}
 use Prim.Native.Nat.{ℕ, ◌+◌, ◌*◌, ◌≤◌, ◌<◌}
 use mathlib.Core.Path.{◌≡◌, refl, sym, ap, ◌∙◌}
 use mathlib.Core.List.{List, ◌++◌}
@@ -8,15 +10,11 @@ use lib.ListN.{length, get_or, drop, drop_of_length-le, length-append}
 use lib.Seq.{drop-cons}
 use Rattle.wire.specs.Bytes.{digits}
 use Rattle.wire.specs.laws.Bytes.{length_digits}
-use Rattle.transaction.specs.Signed.{most_bytes}
-use Rattle.writer_rules.specs.declared.Verdict.{Verdict}
-use Rattle.wire.specs.Numbers.{no_room}
-use Rattle.writer_rules.specs.Judged.{refused_by}
 use Rattle.writer_rules.specs.code.Elements.{integers_bytes}
 use Rattle.writer_rules.proofs.Integers.{Words, length-integers}
 use Rattle.writer_buffer.specs.Stores.{room_in, overwrite}
 use Rattle.writer_buffer.specs.code.Stores.{with_integer}
-use Rattle.writer_buffer.proofs.Stores.{length-overwrite, too_many, same-room, overwrite-more, overwrite-none, integer-put}
+use Rattle.writer_buffer.proofs.Stores.{length-overwrite, same-room, overwrite-more, overwrite-none, integer-put}
 
 -- ---- the loop's invariant: writing the integers that are left gives y
 
@@ -48,16 +46,8 @@ module _ (first second l : List ℕ) where
   length-all = omega (arith, length-append (first ++ second) (integers_bytes l), length-append first second, length-integers l)
 
   module _ (at limit : ℕ) where
-    pub first-long : most_bytes < length first → refused_by no_room ≡ room_in (at + length all) limit
-    first-long h = too_many (at + length all) limit (omega (arith, length-all))
-
-    pub second-long : most_bytes < length second → refused_by no_room ≡ room_in (at + length all) limit
-    second-long h = too_many (at + length all) limit (omega (arith, length-all))
-
-    pub integers-long : most_bytes < length l → refused_by no_room ≡ room_in (at + length all) limit
-    integers-long h = too_many (at + length all) limit (omega (arith, length-all))
-
-    pub room-all : (v : Verdict) → v ≡ room_in (at + (length first + length second + 4 * length l)) limit → v ≡ room_in (at + length all) limit
+    pub room-all : (v : Result (Unit {0}) Refusal) → v ≡ room_in (at + (length first + length second + 4 * length l)) limit
+        → v ≡ room_in (at + length all) limit
     room-all v h = same-room v (at + (length first + length second + 4 * length l)) (at + length all) limit h (omega (arith, length-all))
 
   module _ (s : List ℕ) (at : ℕ) (f : at + length all ≤ length s) where

@@ -1,4 +1,5 @@
 -- Room in the buffer, and stores one after the other. Assumes nothing.
+use Rattle.std.specs.Prelude.{Ok, Err, Result}
 use Prim.Native.Nat.{ℕ, ◌+◌, ◌≤◌, ◌-◌, ◌%◌, ◌^◌, ◌<◌}
 use mathlib.Core.Path.{◌≡◌, refl, sym, ap, ◌∙◌, ap₂}
 use mathlib.Core.Bool.{Bool, true, false}
@@ -13,24 +14,20 @@ use Rattle.wire.specs.Bytes.{pick, digits}
 use Rattle.wire.specs.laws.Bytes.{length_digits}
 use Rattle.wire.specs.Numbers.{no_room}
 use Rattle.wire.specs.declared.Refusal.{Refusal}
-use Rattle.wire.specs.declared.End.{End}
-use Rattle.wire.specs.declared.End.TheVariants as P
 use Rattle.transaction.specs.Signed.{most_bytes}
-use Rattle.writer_rules.specs.declared.Verdict.{Verdict}
-use Rattle.writer_rules.specs.declared.Verdict.TheVariants as J
 use Rattle.writer_rules.proofs.Verdicts.{pick-fine}
-use Rattle.writer_rules.proofs.Lent.{lent, length-lent, lent-bytes, lent-integer}
+use Rattle.writer_rules.proofs.Lent.{lent, length-lent, lent-integer}
 use Rattle.writer_rules.specs.Judged.{refused_by}
 use Rattle.writer_buffer.specs.Stores.{room_in, room_for, overwrite}
 use Rattle.writer_buffer.specs.code.Stores.{with_integer, stored}
 
 -- ---- room
 
-pub room-inv : (n : ℕ) (s : List ℕ) → room_for n s ≡ J.Allowed → (n ≤ length s) × (n ≤ most_bytes)
+pub room-inv : (n : ℕ) (s : List ℕ) → room_for n s ≡ (Ok tt) → (n ≤ length s) × (n ≤ most_bytes)
 unfolding room_for
 room-inv n s e =
     let (a, e₁) = pick-fine (leb n (length s)) _ no_room e in
-    let (b, _) = pick-fine (leb n most_bytes) J.Allowed no_room e₁ in
+    let (b, _) = pick-fine (leb n most_bytes) (Ok tt) no_room e₁ in
     (leb-true n (length s) a, leb-true n most_bytes b)
 
 module _ (n limit : ℕ) where
@@ -40,29 +37,29 @@ module _ (n limit : ℕ) where
   pub too_many : most_bytes < n → refused_by no_room ≡ room_in n limit
   too_many h = go (leb n limit)
     where
-      go : (t : Bool) → refused_by no_room ≡ pick t (pick (leb n most_bytes) J.Allowed (refused_by no_room)) (refused_by no_room)
+      go : (t : Bool) → refused_by no_room ≡ pick t (pick (leb n most_bytes) (Ok tt) (refused_by no_room)) (refused_by no_room)
       go true = rw (lt-leb n most_bytes h)
       go false = refl
 
-  pub enough : n ≤ limit → n ≤ most_bytes → J.Allowed ≡ room_in n limit
+  pub enough : n ≤ limit → n ≤ most_bytes → (Ok tt) ≡ room_in n limit
   enough h k = rw (le-leb n limit h, le-leb n most_bytes k)
 
-pub room-fine : (n : ℕ) (s : List ℕ) → n ≤ length s → n ≤ most_bytes → room_for n s ≡ J.Allowed
+pub room-fine : (n : ℕ) (s : List ℕ) → n ≤ length s → n ≤ most_bytes → room_for n s ≡ (Ok tt)
 unfolding room_for
 room-fine n s h k = sym (enough n (length s) h k)
 
 -- P holds of the verdict if it holds of `Allowed`, where there is room, and of refusal 14
-pub by-room : (n : ℕ) (s : List ℕ) (P : Verdict → Type 0) → (room_for n s ≡ J.Allowed → P J.Allowed) → P (refused_by no_room) → P (room_for n s)
+pub by-room : (n : ℕ) (s : List ℕ) (P : Result (Unit {0}) Refusal → Type 0) → (room_for n s ≡ (Ok tt) → P (Ok tt)) → P (refused_by no_room) → P (room_for n s)
 unfolding room_for
 by-room n s P f r = go (leb n (length s)) (leb n most_bytes) f
   where
-    go : (a c : Bool) → (pick a (pick c J.Allowed (refused_by no_room)) (refused_by no_room) ≡ J.Allowed → P J.Allowed)
-        → P (pick a (pick c J.Allowed (refused_by no_room)) (refused_by no_room))
+    go : (a c : Bool) → (pick a (pick c (Ok tt) (refused_by no_room)) (refused_by no_room) ≡ (Ok tt) → P (Ok tt))
+        → P (pick a (pick c (Ok tt) (refused_by no_room)) (refused_by no_room))
     go true true f = f refl
     go true false f = r
     go false c f = r
 
-pub same-room : (v : Verdict) (n m limit : ℕ) → v ≡ room_in n limit → n ≡ m → v ≡ room_in m limit
+pub same-room : (v : Result (Unit {0}) Refusal) (n m limit : ℕ) → v ≡ room_in n limit → n ≡ m → v ≡ room_in m limit
 same-room v n m limit h e = rw (← e) h
 
 -- ---- stores
@@ -131,9 +128,9 @@ module _ (s y : List ℕ) (at n : ℕ) where
   zeros-back h e = part-back (replicate n 0) (e ∙ ap (λ (k : ℕ). replicate k 0) (length-lent s at n h)) (length-replicate n 0 ∙ omega arith)
 
 -- y is a copy of b
-pub bytes_back : (s y b : List ℕ) (at : ℕ) → at + length b ≤ length s → y ≡ take (length (lent s at (length b))) b ++ drop (length b) (lent s at (length b))
+pub bytes_back : (s y b : List ℕ) (at : ℕ) → at + length b ≤ length s → y ≡ b
     → take at s ++ (y ++ drop (at + length b - at) (drop at s)) ≡ overwrite s at b
-bytes_back s y b at h e = part-back s y at (length b) b (lent-bytes s at (length b) h b y refl e) (omega arith)
+bytes_back s y b at h e = part-back s y at (length b) b e (omega arith)
 
 -- ---- an integer in the buffer
 
@@ -165,34 +162,30 @@ module _ (s : List ℕ) (at n : ℕ) where
 
 -- ---- stores made completely or not at all
 
-module _ (m : ℕ) (s : List ℕ) (x : Verdict) (p : x ≡ room_in m (length s)) where
-  pub room-made : x ≡ J.Allowed → m ≤ length s
-  unfolding room_for
-  room-made q = (room-inv m s (sym p ∙ q)).0
-
+module _ (m : ℕ) (s : List ℕ) (x : Result (Unit {0}) Refusal) (p : x ≡ room_in m (length s)) where
   module _ (n : ℕ) (t : List ℕ) where
-    pub room-refuses : (d : Refusal) → x ≡ J.Refuse d → (P.Refused d, s) ≡ stored (room_for m s) n s t
+    pub room-refuses : (d : Refusal) → x ≡ Err d → (Err d, s) ≡ stored (room_for m s) n s t
     unfolding stored room_for
     room-refuses d q = rw (sym p ∙ q)
 
-    pub all_done : x ≡ J.Allowed → (i : ℕ) → i ≡ n → (u : List ℕ) → u ≡ t → (P.At i, u) ≡ stored (room_for m s) n s t
+    pub all_done : x ≡ (Ok tt) → (i : ℕ) → i ≡ n → (u : List ℕ) → u ≡ t → (Ok i, u) ≡ stored (room_for m s) n s t
     unfolding stored room_for
-    all_done q i h u k = rw (sym p ∙ q) (ap₂ (λ (a : ℕ) (b : List ℕ). (P.At a, b)) h k)
+    all_done q i h u k = rw (sym p ∙ q) (ap₂ (λ (a : ℕ) (b : List ℕ). (Ok a, b)) h k)
 
 -- what follows from the answer of a store
-module _ (n : ℕ) (s t : List ℕ) (x : End) (u : List ℕ) where
-  pub stored_refused : (v : Verdict) → (x, u) ≡ stored v n s t → (e : Refusal) → x ≡ P.Refused e → (v ≡ J.Refuse e) × (u ≡ s)
+module _ (n : ℕ) (s t : List ℕ) (x : Result ℕ Refusal) (u : List ℕ) where
+  pub stored_refused : (v : Result (Unit {0}) Refusal) → (x, u) ≡ stored v n s t → (e : Refusal) → x ≡ Err e → (v ≡ Err e) × (u ≡ s)
   unfolding stored
-  stored_refused J.Allowed p e q = let i : x ≡ P.At n = ap (λ (z : End × List ℕ). z.0) p in let z : ◌≡◌ {A = ℕ} 0 1 = cc in absurd (omega arith)
-  stored_refused (J.Refuse d) p e q =
-      let i : x ≡ P.Refused d = ap (λ (z : End × List ℕ). z.0) p in
+  stored_refused (Ok tt) p e q = let i : x ≡ Ok n = ap (λ (z : Result ℕ Refusal × List ℕ). z.0) p in let z : ◌≡◌ {A = ℕ} 0 1 = cc in absurd (omega arith)
+  stored_refused (Err d) p e q =
+      let i : x ≡ Err d = ap (λ (z : Result ℕ Refusal × List ℕ). z.0) p in
       let j : d ≡ e = cc in
-      (ap J.Refuse j, ap (λ (z : End × List ℕ). z.1) p)
+      (ap Err j, ap (λ (z : Result ℕ Refusal × List ℕ). z.1) p)
 
-  pub stored_at : (v : Verdict) → (x, u) ≡ stored v n s t → (m : ℕ) → x ≡ P.At m → (v ≡ J.Allowed) × (m ≡ n) × (u ≡ t)
+  pub stored_at : (v : Result (Unit {0}) Refusal) → (x, u) ≡ stored v n s t → (m : ℕ) → x ≡ Ok m → (v ≡ (Ok tt)) × (m ≡ n) × (u ≡ t)
   unfolding stored
-  stored_at J.Allowed p m q =
-      let i : x ≡ P.At n = ap (λ (z : End × List ℕ). z.0) p in
+  stored_at (Ok tt) p m q =
+      let i : x ≡ Ok n = ap (λ (z : Result ℕ Refusal × List ℕ). z.0) p in
       let j : m ≡ n = cc in
-      (refl, j, ap (λ (z : End × List ℕ). z.1) p)
-  stored_at (J.Refuse d) p m q = let i : x ≡ P.Refused d = ap (λ (z : End × List ℕ). z.0) p in let z : ◌≡◌ {A = ℕ} 0 1 = cc in absurd (omega arith)
+      (refl, j, ap (λ (z : Result ℕ Refusal × List ℕ). z.1) p)
+  stored_at (Err d) p m q = let i : x ≡ Err d = ap (λ (z : Result ℕ Refusal × List ℕ). z.0) p in let z : ◌≡◌ {A = ℕ} 0 1 = cc in absurd (omega arith)

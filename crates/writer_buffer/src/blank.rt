@@ -7,30 +7,19 @@ ghost use Rattle.writer_buffer.specs.Closing.{closing, closable};
 ghost use Rattle.writer_buffer.specs.code.Closing.{OfAhead, Room, AllAhead, OfAll, RoomForAll, blank_credential, credential_width, blank_bytes};
 ghost use Rattle.writer_buffer.specs.code.Closing.{closing_bytes, fitted, most_in, closed};
 
-use credentials::{Wanted, Wanting, asking};
-use transaction::{Layout, UnsignedRead};
-use wire::{End, Rule};
+use credentials::{Wanting, asking};
+use transaction::Layout;
+use wire::{Refusal, Rule};
 
 // The bytes of a credential before its signatures: its type and their count.
 const HEAD_WIDTH: usize = 8;
-
-// Fills `room` with zeros.
-fn clear(room: &mut [u8])
-    ensures { room.new ≡ replicate (length room.old) 0 }
-{
-    let mut i: usize = 0;
-    while i < room.len() {
-        room[i] = 0;
-        i += 1;
-    }
-}
 
 // Writes `count` zeros from `at` on.
 fn put_zeros(buf: &mut [u8], at: usize, count: usize)
     requires { at + count ≤ length buf.old }
     ensures { buf.new ≡ overwrite buf.old at (replicate count 0) }
 {
-    clear(&mut buf[at..at + count]);
+    buf[at..at + count].fill(0);
 }
 
 // Writes a credential of `count` blank signatures from `at` on. Returns the offset just past it.
@@ -48,104 +37,64 @@ fn put_blank(buf: &mut [u8], at: usize, code: u64, count: u64) -> usize
 }
 
 // The offset just past a credential of `count` signatures from `at` on, which must end by `limit`.
-fn blank_end(at: usize, count: u64, limit: usize) -> End
+fn blank_end(at: usize, count: u64, limit: usize) -> Result<usize, Refusal>
     ensures { result ≡ fitted at (credential_width count) limit }
 {
-    let full = End::Refused(wire::refuse(Rule::NoRoom, 0));
-    if limit < at {
-        return full;
+    if limit < at
+        || limit - at < HEAD_WIDTH
+        || (limit - at - HEAD_WIDTH) / transaction::SIGNATURE_WIDTH < count as usize
+    {
+        return Err(wire::refuse(Rule::NoRoom, 0));
     }
-    if limit - at < HEAD_WIDTH {
-        return full;
-    }
-    if (limit - at - HEAD_WIDTH) / transaction::SIGNATURE_WIDTH < count as usize {
-        return full;
-    }
-    End::At(at + HEAD_WIDTH + transaction::SIGNATURE_WIDTH * count as usize)
+    Ok(at + HEAD_WIDTH + transaction::SIGNATURE_WIDTH * count as usize)
 }
 
 // The offset just past the `count` credentials wanted after the cursor `from`, if they are written from `start` on. They must end by `limit`.
-fn blanks_end(s: &[u8], type_id: u32, from: Wanting, count: u64, start: usize, limit: usize) -> End
+fn blanks_end(
+    s: &[u8],
+    type_id: u32,
+    from: Wanting,
+    count: u64,
+    start: usize,
+    limit: usize,
+) -> Result<usize, Refusal>
     requires { start ≤ limit }
     ensures { OfAhead type_id s.now from count (λ ws. result ≡ fitted start (length (blank_bytes ws)) limit) }
 {
-    let mut phase = from.phase;
-    let mut asks = from.asks;
-    let mut cursor_at = from.at;
-    let mut elements = from.left;
-    let mut left = count;
+    let mut cursor = from;
     let mut at = start;
-    while 0 < left {
-        let cursor = Wanting {
-            phase,
-            asks,
-            at: cursor_at,
-            left: elements,
+    for _ in 0..count {
+        let Some(wanted) = asking::next_wanted(s, type_id, cursor) else {
+            return Ok(at);
         };
-        let Wanted::Credential(_, signatures, next) = asking::next_wanted(s, type_id, cursor) else {
-            return End::At(at);
-        };
-        match blank_end(at, signatures, limit) {
-            End::Refused(refusal) => {
-                return End::Refused(refusal);
-            }
-            End::At(end) => {
-                phase = next.phase;
-                asks = next.asks;
-                cursor_at = next.at;
-                elements = next.left;
-                at = end;
-                left -= 1;
-            }
-        }
+        at = blank_end(at, wanted.signatures, limit)?;
+        cursor = wanted.next;
     }
-    End::At(at)
+    Ok(at)
 }
 
-// Writes the `count` credentials wanted after the cursor `from`, from `start` on. The elements that want them are in the first `end` bytes.
-fn put_blanks(buf: &mut [u8], end: usize, type_id: u32, from: Wanting, count: u64, start: usize)
-    requires { Room type_id (take end buf.old) from count end start (length buf.old) }
-    ensures { OfAhead type_id (take end buf.old) from count (λ ws. buf.new ≡ overwrite buf.old start (blank_bytes ws)) }
+// Writes the `owed` credentials wanted after the cursor `from`, from `start` on. The elements that want them are in the first `end` bytes.
+fn put_blanks(buf: &mut [u8], end: usize, type_id: u32, from: Wanting, owed: u64, start: usize)
+    requires { Room type_id (take end buf.old) from owed end start (length buf.old) }
+    ensures { OfAhead type_id (take end buf.old) from owed (λ ws. buf.new ≡ overwrite buf.old start (blank_bytes ws)) }
 {
-    let mut phase = from.phase;
-    let mut asks = from.asks;
-    let mut cursor_at = from.at;
-    let mut elements = from.left;
-    let mut owed = count;
+    let mut cursor = from;
     let mut at = start;
-    while 0 < owed {
-        let cursor = Wanting {
-            phase,
-            asks,
-            at: cursor_at,
-            left: elements,
-        };
-        let Wanted::Credential(code, signatures, next) = asking::next_wanted(
-            &buf[..end],
-            type_id,
-            cursor,
-        ) else {
+    for _ in 0..owed {
+        let Some(wanted) = asking::next_wanted(&buf[..end], type_id, cursor) else {
             return;
         };
-        at = put_blank(buf, at, code, signatures);
-        phase = next.phase;
-        asks = next.asks;
-        cursor_at = next.at;
-        elements = next.left;
-        owed -= 1;
+        at = put_blank(buf, at, wanted.credential, wanted.signatures);
+        cursor = wanted.next;
     }
 }
 
 // The offset just past all credentials and their count, from `at` on. They must end by `limit`.
-fn closing_end(s: &[u8], layout: Layout, at: usize, limit: usize) -> End
+fn closing_end(s: &[u8], layout: Layout, at: usize, limit: usize) -> Result<usize, Refusal>
     ensures { OfAll layout s.now (λ ws. result ≡ fitted at (length (closing_bytes ws)) limit) }
 {
-    let full = End::Refused(wire::refuse(Rule::NoRoom, 0));
-    if limit < at {
-        return full;
-    }
-    if limit - at < 4 {
-        return full;
+    if limit < at || limit - at < 4 {
+        return Err(wire::refuse(Rule::NoRoom, 0));
     }
     let from = asking::first_wanting(layout);
     blanks_end(
@@ -173,42 +122,36 @@ fn put_closing(buf: &mut [u8], at: usize, layout: Layout)
 fn most_in(length: usize) -> usize
     ensures { result ≡ most_in length }
 {
-    if length < transaction::MOST_BYTES {
-        return length;
-    }
-    transaction::MOST_BYTES
+    length.min(transaction::MOST_BYTES)
 }
 
 // Writes all credentials of a layout, if there is room. Returns the offset just past them.
-fn close_layout(buf: &mut [u8], at: usize, layout: Layout) -> End
+fn close_layout(buf: &mut [u8], at: usize, layout: Layout) -> Result<usize, Refusal>
     requires { (at ≤ length buf.old) × AllAhead layout (take at buf.old) }
     ensures { OfAll layout (take at buf.old) (λ ws. (result, buf.new) ≡ closed buf.old at ws) }
 {
     let limit = most_in(buf.len());
-    match closing_end(&buf[..at], layout, at, limit) {
-        End::Refused(refusal) => End::Refused(refusal),
-        End::At(end) => {
-            put_closing(buf, at, layout);
-            End::At(end)
-        }
-    }
+    let end = closing_end(&buf[..at], layout, at, limit)?;
+    put_closing(buf, at, layout);
+    Ok(end)
 }
 
 // Reads back the unsigned part, which ends at `at`, and writes its blank credentials after it. Returns the offset just past them.
 //
 // A memo may have at most `most` bytes.
-pub fn append(buf: &mut [u8], at: usize, most: u64) -> End
+pub fn append(buf: &mut [u8], at: usize, most: u64) -> Result<usize, Refusal>
     ensures { (result, buf.new)
         ≡ written (closable (avm most) at buf.old) buf.old at (closing (avm most) at buf.old) }
 {
     if buf.len() < at {
-        return End::Refused(wire::refuse(Rule::NoRoom, 0));
+        return Err(wire::refuse(Rule::NoRoom, 0));
     }
+    // With `map_err` and `?` the check found no proof by itself, and no answer for that form was tried.
     match checker::body::unsigned_at(&buf[..at], most) {
-        UnsignedRead::Refused(refusal) => End::Refused(wire::without_place(refusal)),
-        UnsignedRead::Whole(layout) => {
+        Err(refusal) => Err(wire::without_place(refusal)),
+        Ok(layout) => {
             if layout.credentials_at != at {
-                return End::Refused(wire::refuse(Rule::BytesAfterEnd, 0));
+                return Err(wire::refuse(Rule::BytesAfterEnd, 0));
             }
             close_layout(buf, at, layout)
         }

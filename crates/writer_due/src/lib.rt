@@ -3,7 +3,7 @@
 
 ghost use Rattle.std.specs.Prelude.{◌≡◌};
 ghost use Rattle.transaction.specs.Plan.{plan_of};
-ghost use Rattle.plan.specs.Due.{field_code, list_code, due, due_of, is_list, is_field, is_open, is_finish};
+ghost use Rattle.plan.specs.Due.{list_code, due, due_of, is_list, is_field, is_open, is_finish};
 
 use plan::{Due, rows};
 use transaction::{FieldName, ListName};
@@ -12,36 +12,14 @@ use transaction::{FieldName, ListName};
 pub fn list_at(type_id: u32, phase: u32) -> bool
     ensures { result ≡ is_list (due_of (due phase (plan_of type_id))) }
 {
-    match rows::due_at(type_id, phase) {
-        Due::Nothing => false,
-        Due::Finish => false,
-        Due::Field(_) => false,
-        Due::List(_, _) => true,
-    }
+    matches!(rows::due_at(type_id, phase), Due::List(_, _))
 }
 
 // Whether only the finish is due.
 pub fn end_at(type_id: u32, phase: u32) -> bool
     ensures { result ≡ is_finish (due_of (due phase (plan_of type_id))) }
 {
-    match rows::due_at(type_id, phase) {
-        Due::Nothing => false,
-        Due::Finish => true,
-        Due::Field(_) => false,
-        Due::List(_, _) => false,
-    }
-}
-
-fn field_code(field: FieldName) -> u32
-    ensures { result ≡ field_code field }
-{
-    match field {
-        FieldName::Memo => 0,
-        FieldName::Name => 1,
-        FieldName::Symbol => 2,
-        FieldName::Denomination => 3,
-        FieldName::Chain => 4,
-    }
+    matches!(rows::due_at(type_id, phase), Due::Finish)
 }
 
 // Lists that are written by the same step have the same code.
@@ -62,22 +40,12 @@ fn list_code(list: ListName) -> u32
 pub fn field_at(type_id: u32, phase: u32, field: FieldName) -> bool
     ensures { result ≡ is_field field (due_of (due phase (plan_of type_id))) }
 {
-    match rows::due_at(type_id, phase) {
-        Due::Nothing => false,
-        Due::Finish => false,
-        Due::List(_, _) => false,
-        Due::Field(name) => field_code(field) == field_code(name),
-    }
+    matches!(rows::due_at(type_id, phase), Due::Field(name) if name == field)
 }
 
 // Whether this list, or another that is written by the same step, is due.
 pub fn open_at(type_id: u32, phase: u32, list: ListName) -> bool
     ensures { result ≡ is_open list (due_of (due phase (plan_of type_id))) }
 {
-    match rows::due_at(type_id, phase) {
-        Due::Nothing => false,
-        Due::Finish => false,
-        Due::Field(_) => false,
-        Due::List(name, _) => list_code(list) == list_code(name),
-    }
+    matches!(rows::due_at(type_id, phase), Due::List(name, _) if list_code(list) == list_code(name))
 }

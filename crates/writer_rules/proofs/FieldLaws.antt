@@ -1,7 +1,8 @@
 -- Reading a field back gives the same verdict as tests on what was given. Assumes nothing.
+use Rattle.std.specs.Prelude.{Ok, Result}
 use Prim.Native.Nat.{ℕ, suc, ◌+◌, ◌*◌, ◌%◌, ◌^◌, ◌≤◌, ◌<◌}
 use mathlib.Core.Path.{◌≡◌, refl, sym, ap, ap₂, ◌∙◌}
-use mathlib.Core.Bool.{Bool, true, false}
+use mathlib.Core.Bool.{Bool}
 use mathlib.Core.List.{List, [], ◌∷◌, ◌++◌, append-nil}
 use native.Mathlib.Omega.{arith}
 use native.Mathlib.Nat.{mod-eq_of_lt, mul_assoc, add-mul, add_assoc}
@@ -9,7 +10,7 @@ use lib.Pow.{pow-add}
 use lib.ListN.{length, drop, length-append}
 use lib.Seq.{drop_at}
 use lib.Dec.{ltb, leb, eqb}
-use borrow.Author.Tests.{eq-eqb, ne_eqb, lt-ltb, le-leb}
+use borrow.Author.Tests.{eq-eqb, lt-ltb, le-leb}
 use Rattle.wire.specs.Bytes.{pick, Bytes, value, digits}
 use Rattle.wire.specs.laws.Bytes.{drop-step, bytes-append, length_digits, bytes-digits, value-digits, digits_value}
 use Rattle.wire.specs.Numbers.{rule_of, unknown_type, bad_length, not_printable, bad_denomination, bytes_after_end}
@@ -21,10 +22,8 @@ use Rattle.wire.specs.declared.Refusal.{Refusal}
 use Rattle.string.specs.Strings.{string, text, printable, denomination}
 use Rattle.string.specs.Characters.{unprintable}
 use Rattle.transaction.specs.Family.{head}
-use Rattle.transaction.specs.Plan.{type_id, type_of, type_of-id, types, is_type}
+use Rattle.transaction.specs.Plan.{type_id, type_of, type_of-id, types}
 use Rattle.transaction.specs.Avm.{avm}
-use Rattle.writer_rules.specs.declared.Verdict.{Verdict}
-use Rattle.writer_rules.specs.declared.Verdict.TheVariants as J
 use Rattle.writer_rules.specs.Judged.{refused_by, judged}
 use Rattle.writer_rules.specs.Given.{head_bytes, given}
 use Rattle.writer_rules.specs.code.Texts.{type_rules, text_rules, denomination_rules}
@@ -53,7 +52,7 @@ module _ {X : Type 0} (w n : ℕ) (b : List ℕ) (stop : Refusal → X) where
       bytes-at (digits (suc w) n ++ b) (0 + suc w) stop (length b) b go refl (drop_at (digits (suc w) n) b (0 + suc w) (omega arith)) ∙ ap (go b) there
 
 -- at the end of the bytes nothing is left over
-all_read : (ys : List ℕ) → pick (eqb (length ys) (length ys)) J.Allowed (refused_by bytes_after_end) ≡ J.Allowed
+all_read : (ys : List ℕ) → pick (eqb (length ys) (length ys)) (Ok tt) (refused_by bytes_after_end) ≡ (Ok tt)
 all_read ys = rw (eq-eqb (length ys) (length ys) refl)
 
 -- ---- strings
@@ -67,20 +66,22 @@ unfolding text named and_then guard printable guard_at integer blob
 text-write most b = refl
 
 pub string-judged : (most : ℕ) (b : List ℕ)
-    → judged (string 4 most) (given (digits 4 (length b) ++ b)) J.Allowed ≡ pick (leb (length b) most) J.Allowed (refused_by (rule_of bad_length))
+    → judged (string 4 most) (given (digits 4 (length b) ++ b)) (Ok tt) ≡ pick (leb (length b) most) (Ok tt) (refused_by (rule_of bad_length))
 unfolding judged string named and_then guard
 string-judged most b =
     integer-front 3 (length b) b _ _
-    ∙ ap (λ (x : Verdict). pick (leb (length b) most) x (refused_by (rule_of bad_length))) (bytes_after 3 (length b) b _ _
+    ∙ ap (λ (x : Result (Unit {0}) Refusal). pick (leb (length b) most) x (refused_by (rule_of bad_length))) (bytes_after 3 (length b) b _ _
     ∙ all_read (digits 4 (length b) ++ b))
 
-pub text-judged : (most : ℕ) (b : List ℕ) → judged (text most) (given (digits 2 (length b) ++ b)) J.Allowed ≡ text_rules most b
+pub text-judged : (most : ℕ) (b : List ℕ) → judged (text most) (given (digits 2 (length b) ++ b)) (Ok tt) ≡ text_rules most b
 unfolding judged text named and_then guard printable guard_at
 text-judged most b =
     integer-front 1 (length b) b _ _
-    ∙ ap (λ (x : Verdict). pick (ltb 0 (length b)) (pick (leb (length b) most) x (refused_by (rule_of bad_length))) (refused_by (rule_of bad_length)))
+    ∙ ap (λ (x : Result (Unit {0}) Refusal). pick (ltb 0 (length b)) (pick (leb (length b) most) x (refused_by (rule_of bad_length))) (refused_by
+    (rule_of bad_length)))
     (bytes_after 1 (length b) b _ _
-    ∙ ap (λ (x : Verdict). pick (eqb (unprintable b) (length b)) x (refused_by (rule_of not_printable))) (all_read (digits 2 (length b) ++ b)))
+    ∙ ap (λ (x : Result (Unit {0}) Refusal). pick (eqb (unprintable b) (length b)) x (refused_by (rule_of not_printable))) (all_read (digits 2
+    (length b) ++ b)))
 
 -- ---- integers and identifiers
 
@@ -88,40 +89,30 @@ pub denomination-write : (n : ℕ) → denomination.write n ≡ digits 1 n ++ []
 unfolding denomination guard integer
 denomination-write n = sym (append-nil (digits 1 n))
 
-pub denomination-judged : (n : ℕ) → judged denomination (given (digits 1 n ++ [])) J.Allowed ≡ denomination_rules n
+pub denomination-judged : (n : ℕ) → judged denomination (given (digits 1 n ++ [])) (Ok tt) ≡ denomination_rules n
 unfolding judged denomination guard
 denomination-judged n =
     integer-front 0 n [] _ _
-    ∙ ap (λ (t : Bool). pick (leb n 32) (pick t J.Allowed (refused_by bytes_after_end)) (refused_by (rule_of bad_denomination)))
+    ∙ ap (λ (t : Bool). pick (leb n 32) (pick t (Ok tt) (refused_by bytes_after_end)) (refused_by (rule_of bad_denomination)))
     (eq-eqb (0 + 1) (length (digits 1 n ++ [])) (omega (arith, length-append (digits 1 n) [], length_digits 1 n)))
 
-pub id-judged : (c : List ℕ) → length c ≡ 32 → judged (blob 32) (given c) J.Allowed ≡ J.Allowed
+pub id-judged : (c : List ℕ) → length c ≡ 32 → judged (blob 32) (given c) (Ok tt) ≡ (Ok tt)
 unfolding judged
 id-judged c e = bytes-at c 0 _ 32 c _ e refl ∙ rw (eq-eqb (0 + 32) (length c) (omega arith))
 
 -- ---- a text's tests, given the offset of its first unprintable character
 
 module _ (most : ℕ) (b : List ℕ) (x : ℕ) (p : x ≡ unprintable b) (some : 1 ≤ length b) (few : length b ≤ most) where
-  pub text-fine : x ≡ length b → J.Allowed ≡ text_rules most b
+  pub text-fine : x ≡ length b → (Ok tt) ≡ text_rules most b
   text-fine e = rw (lt-ltb 0 (length b) (omega arith), le-leb (length b) most few, eq-eqb (unprintable b) (length b) (sym p ∙ e))
 
-  pub text-unprintable : (x ≡ length b → ⊥) → (v : Verdict) → v ≡ refused_by (rule_of not_printable) → v ≡ text_rules most b
-  text-unprintable e v h = h ∙ rw (lt-ltb 0 (length b) (omega arith), le-leb (length b) most few, ne_eqb (unprintable b) (length b) (λ i. e (p ∙ i)))
-
 -- ---- the head
-
-module _ (type_number : ℕ) (b : Bool) (p : b ≡ is_type type_number) where
-  pub type-known : b ≡ true → J.Allowed ≡ type_rules type_number
-  type-known h = rw (sym p ∙ h)
-
-  pub type-unknown : b ≡ false → (v : Verdict) → v ≡ refused_by (rule_of unknown_type) → v ≡ type_rules type_number
-  type-unknown h v e = e ∙ rw (sym p ∙ h)
 
 module _ (most type_number network : ℕ) (chain : List ℕ) (long : length chain ≡ 32) where
   abbrev headed : List ℕ
   headed = head_bytes type_number network chain
 
-  pub head-judged : judged (head (avm most)) (given headed) J.Allowed ≡ type_rules type_number
+  pub head-judged : judged (head (avm most)) (given headed) (Ok tt) ≡ type_rules type_number
   unfolding judged head named and_then constant guard tag digits
   head-judged =
       let e₂ : drop (0 + 2) headed ≡ digits 4 type_number ++ (digits 4 network ++ chain) = drop_at (digits 2 0)
@@ -141,10 +132,10 @@ module _ (most type_number network : ℕ) (chain : List ℕ) (long : length chai
       ) in
       integer-at headed 0 _ 1 0 (digits 4 type_number ++ (digits 4 network ++ chain)) _ refl
       ∙ integer-at headed (0 + 2) _ 3 type_number (digits 4 network ++ chain) _ e₂
-      ∙ ap (λ (x : Verdict). find type_id types type_number (λ k. x) (refused_by (rule_of unknown_type)))
+      ∙ ap (λ (x : Result (Unit {0}) Refusal). find type_id types type_number (λ k. x) (refused_by (rule_of unknown_type)))
       (integer-at headed (0 + 2 + 4) _ 3 network chain _ e₆ ∙ bytes-at headed (0 + 2 + 4 + 4) _ 32 chain _ long e₁₀
       ∙ rw (eq-eqb (0 + 2 + 4 + 4 + 32) (length headed) (sym whole)))
-      ∙ find-is type_id type_of type_of-id types type_number (λ k. J.Allowed) (refused_by (rule_of unknown_type))
+      ∙ find-is type_id type_of type_of-id types type_number (λ k. (Ok tt)) (refused_by (rule_of unknown_type))
 
 -- ---- codec, type and network as one integer of ten bytes
 

@@ -1,10 +1,10 @@
 -- What a call leaves in a range lent to it. Assumes nothing.
 use Prim.Native.Nat.{ℕ, ◌+◌, ◌-◌, ◌%◌, ◌^◌, ◌≤◌}
 use mathlib.Core.Path.{◌≡◌, ap, ◌∙◌}
-use mathlib.Core.List.{List, ◌++◌, append-nil}
+use mathlib.Core.List.{List}
 use native.Mathlib.Omega.{arith}
-use lib.ListN.{length, take, drop, length-drop, drop_of_length-le}
-use lib.Seq.{length-take-le, take_all}
+use lib.ListN.{length, take, drop, length-drop}
+use lib.Seq.{length-take-le}
 use Rattle.wire.specs.Bytes.{digits}
 
 -- n bytes of s are lent from `at` on
@@ -14,11 +14,6 @@ lent s at n = take (at + n - at) (drop at s)
 module _ (s : List ℕ) (at n : ℕ) (h : at + n ≤ length s) where
   pub length-lent : length (lent s at n) ≡ n
   length-lent = let d : at + n - at ≡ n = omega arith in rw d (length-take-le n (drop at s) (rw length-drop (omega arith)))
-
-  -- y is a copy of b that fits exactly
-  pub lent-bytes : (b y : List ℕ) → length b ≡ n → y ≡ take (length (lent s at n)) b ++ drop (length b) (lent s at n) → y ≡ b
-  lent-bytes b y l e =
-      e ∙ rw (length-lent, l, drop_of_length-le (lent s at n) {i = n} (omega (arith, length-lent)), append-nil) (take_all n b (omega arith))
 
   -- y is an integer of n bytes
   pub lent-integer : (v : ℕ) (y : List ℕ) → y ≡ digits (length (lent s at n)) (v % 256 ^ length (lent s at n)) → y ≡ digits n (v % 256 ^ n)

@@ -9,16 +9,9 @@ use wire::{Refusal, Rule};
 pub mod elements;
 pub mod values;
 
-// Whether a step is allowed, or why it is refused.
-#[derive(Clone, Copy)]
-pub enum Verdict {
-    Allowed,
-    Refuse(Refusal),
-}
-
 // Refuses a step by a rule. The place is 0: what the step would add is not in the buffer yet.
-pub fn refuse_step(rule: Rule) -> Verdict
+pub fn refuse_step(rule: Rule) -> Result<(), Refusal>
     ensures { result ≡ refused_by rule }
 {
-    Verdict::Refuse(wire::refuse(rule, 0))
+    Err(wire::refuse(rule, 0))
 }

@@ -1,4 +1,5 @@
 -- Calls of the methods are steps over what the code can be given. Assumes nothing.
+use Rattle.std.specs.Prelude.{Ok}
 use Prim.Native.Nat.{ℕ, ◌*◌, ◌/◌, ◌%◌, ◌≤◌, ◌<◌, ◌^◌}
 use mathlib.Core.Path.{◌≡◌, refl, sym, ap, ap₂, ◌∙◌, subst}
 use mathlib.Core.Bool.{Bool, true, false≢true}
@@ -45,7 +46,6 @@ use Rattle.writer_rules.proofs.Integers.{length-integers}
 use Rattle.writer_transfers.proofs.Inputs.{written-input}
 use Rattle.plan.specs.Due.{list_code}
 use Rattle.writer.specs.declared.Writer.{Writer}
-use Rattle.writer.specs.declared.Written.TheVariants as W
 use Rattle.writer.specs.Steps.{fresh, Turn, put_element_at, due_for, put_element, finish}
 use Rattle.writer_theorems.specs.Runs.{Act, starts, puts_field, puts_element, closes, finishes, Fair, AllFair, act, run, AllDone, element_acts}
 use Rattle.writer_theorems.specs.Runs.{plan_acts, spelled}
@@ -118,7 +118,7 @@ module _ (most : ℕ) where
   do-done (c ∷ l) [] h w s d = absurd h
   do-done (c ∷ l) (a ∷ m) (h, hs) w s (d, ds) =
       let t : Turn = act (avm most) a w s in
-      subst (λ (t : Turn). (t.step.answer ≡ W.Done t.step.next.at) × C.AllCallsDone most l t.step.next t.buffer) (sym (h w s))
+      subst (λ (t : Turn). (t.step.answer ≡ Ok t.step.next.at) × C.AllCallsDone most l t.step.next t.buffer) (sym (h w s))
       (d, do-done l m hs t.step.next t.buffer ds)
 
   do-finish : (l : List Call) (m : List Act) → Do l m → (s : List ℕ) → C.finish_after most l s ≡ finish_after (avm most) m s
@@ -326,7 +326,7 @@ module _ (most : ℕ) where
     done : C.AllCallsDone most (C.reading_calls most v.0) fresh s
     done = do-done most (C.reading_calls most v.0) (spelled (avm most) v.0) spells fresh s ((avm-round-trip most).steps-done d v n bs e s room)
 
-    finish-done : (C.finish_after most (C.reading_calls most v.0) s).step.answer ≡ W.Done (length d)
+    finish-done : (C.finish_after most (C.reading_calls most v.0) s).step.answer ≡ Ok (length d)
     finish-done = ap (λ (x : Turn). x.step.answer) ends-alike ∙ (avm-round-trip most).finish-done d v n bs e s room
 
     pub blank-written : take (length d) (C.finish_after most (C.reading_calls most v.0) s).buffer

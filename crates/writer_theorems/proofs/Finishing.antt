@@ -1,4 +1,5 @@
 -- Every run of steps keeps the buffer's invariant, and what a run finishes is accepted. Assumes nothing.
+use Rattle.std.specs.Prelude.{Ok, Err, Result}
 use Prim.Native.Nat.{ℕ, suc, ◌+◌, ◌≤◌, ◌<◌, ◌^◌}
 use mathlib.Core.Path.{◌≡◌, refl, sym, ap, ◌∙◌, subst}
 use mathlib.Core.Logic.{◌⊎◌, inl, inr}
@@ -30,8 +31,6 @@ use Rattle.transaction.proofs.CredentialLaws.{blank-good}
 use Rattle.transaction.proofs.Signed.{accepted-of}
 use Rattle.writer_rules.specs.Given.{Given, head_bytes, given}
 use Rattle.writer_rules.specs.Judged.{judged}
-use Rattle.writer_rules.specs.declared.Verdict.{Verdict}
-use Rattle.writer_rules.specs.declared.Verdict.TheVariants as J
 use Rattle.writer_rules.proofs.Verdicts.{pick-fine, judged-whole, judged-then, judged-inv, judged-own}
 use Rattle.plan.specs.Due.{due}
 use Rattle.plan.proofs.RowLaws.{due-next}
@@ -39,7 +38,6 @@ use Rattle.writer_buffer.specs.Stores.{room_for, overwrite}
 use Rattle.writer_buffer.proofs.Stores.{room-inv, by-room, take-overwrite, length-overwrite}
 use Rattle.writer_buffer.specs.Closing.{blank_of, blank_after, closing, closable}
 use Rattle.writer.specs.declared.Writer.{Writer}
-use Rattle.writer.specs.declared.Written.TheVariants as W
 use Rattle.writer.specs.Steps.{fresh, Turn, answered, guarded, sane, grown, opening, opened, not_due, same_field, same_list}
 use Rattle.writer.specs.Steps.{put_field_at, put_element_at, close_at, finish_at, plan_for, due_for, start, put_field, put_element, close, finish}
 use Rattle.writer.proofs.Laws.{guarded-inv, guarded-fine, answered-keeps}
@@ -112,7 +110,7 @@ module _ (F : Family) where
       answered-keeps Kept _ w s _ _ (still first good (many m least q) w s b type is_due reach (es, o)) λ e.
       let E = (elements_of m).element in
       let (_, _, e₁) = guarded-inv (same_list l m && sane w) w s _ e in
-      let e₂ = subst (λ (z : List ℕ). judged (E z) g (room_for (w.at + length g.bytes) s) ≡ J.Allowed) o.before e₁ in
+      let e₂ = subst (λ (z : List ℕ). judged (E z) g (room_for (w.at + length g.bytes) s) ≡ (Ok tt)) o.before e₁ in
       let (f, k) = room-inv (w.at + length g.bytes) s (judged-then (E (leaves E [] es)) g _ e₂) in
       let (x, gx, ex) = judged-inv (E (leaves E [] es)) g _ e₂ (fair (judged-whole (E (leaves E [] es)) g _ e₂) (omega arith)) in
       running
@@ -272,10 +270,10 @@ module _ (F : Family) where
     unfolding finish_at closable
     finish-is =
         let ys : List ℕ = closing F w.at s in
-        let v : Verdict = room_for (w.at + length ys) s in
+        let v : Result (Unit {0}) Refusal = room_for (w.at + length ys) s in
         let rules : judged (unsigned F) (given (take w.at s)) v ≡ v =
         subst (λ (z : List ℕ). judged (unsigned F) (given z) v ≡ v) stands-own (judged-own (unsigned F) u v g) in
-        ap (λ (x : Verdict). answered x w s (opened w.type_id (suc w.phase) (w.at + length ys) shut) (overwrite s w.at ys))
+        ap (λ (x : Result (Unit {0}) Refusal). answered x w s (opened w.type_id (suc w.phase) (w.at + length ys) shut) (overwrite s w.at ys))
         (guarded-fine true w s (judged (unsigned F) (given (take w.at s)) v) refl h.fits ∙ rules)
         ∙ ap (λ (z : List ℕ). answered (room_for (w.at + length z) s)
         w s (opened w.type_id (suc w.phase) (w.at + length z) shut) (overwrite s w.at z)) closing-is
@@ -295,9 +293,9 @@ module _ (F : Family) where
 
   -- the ways in which finish can end
   pub data Outcome (t : Turn) : Type 0 where
-    not-due : t.step.answer ≡ W.Refused (refusal step_not_due 0) → Outcome t
-    room_missing : t.step.answer ≡ W.Refused (refusal no_room 0) → Outcome t
-    finished : (n : ℕ) → t.step.answer ≡ W.Done n → (u : Unsigned F) → AnySigned.Parts (unsigned F) (wants F) (take n t.buffer) u (blank_signed u)
+    not-due : t.step.answer ≡ Err (refusal step_not_due 0) → Outcome t
+    room_missing : t.step.answer ≡ Err (refusal no_room 0) → Outcome t
+    finished : (n : ℕ) → t.step.answer ≡ Ok n → (u : Unsigned F) → AnySigned.Parts (unsigned F) (wants F) (take n t.buffer) u (blank_signed u)
         → Outcome t
 
   whole-outcome : (w : Writer) (s b : List ℕ) → Here w s b → (u : Unsigned F) → (unsigned F).Good u → (unsigned F).write u ≡ b
@@ -308,7 +306,7 @@ module _ (F : Family) where
       let w' : Writer = opened w.type_id (suc w.phase) n shut in
       let s' : List ℕ = overwrite s w.at (blank_of F u) in
       subst Outcome (sym (finish-is w s b h u g e))
-      (by-room n s (λ (v : Verdict). Outcome (answered v w s w' s'))
+      (by-room n s (λ (v : Result (Unit {0}) Refusal). Outcome (answered v w s w' s'))
       (λ r.
       let (f, k) = room-inv n s r in
       finished (n + 0) refl u
@@ -337,7 +335,7 @@ module _ (F : Family) where
   run-outcome : (l : List Act) → AllFair l → (s : List ℕ) → Outcome (finish_after F l s)
   run-outcome l f s = finish-outcome (run F l fresh s).0 (run F l fresh s).1 (run-keeps l f fresh s (waiting refl))
 
-  done-accepted : (t : Turn) (n : ℕ) → Outcome t → t.step.answer ≡ W.Done n → accepted F (take n t.buffer) ≡ true
+  done-accepted : (t : Turn) (n : ℕ) → Outcome t → t.step.answer ≡ Ok n → accepted F (take n t.buffer) ≡ true
   done-accepted t n (not-due e) h = let c = sym e ∙ h in let z : ◌≡◌ {A = ℕ} 0 1 = cc in absurd (omega arith)
   done-accepted t n (room_missing e) h = let c = sym e ∙ h in let z : ◌≡◌ {A = ℕ} 0 1 = cc in absurd (omega arith)
   done-accepted t n (finished m e u p) h =
@@ -345,7 +343,7 @@ module _ (F : Family) where
       let i : m ≡ n = cc in
       subst (λ (k : ℕ). accepted F (take k t.buffer) ≡ true) i (accepted-of (unsigned F) (wants F) (take m t.buffer) u (blank_signed u) p)
 
-  refused-only : (t : Turn) (e : Refusal) → Outcome t → t.step.answer ≡ W.Refused e → (e.rule ≡ no_room) ⊎ (e.rule ≡ step_not_due)
+  refused-only : (t : Turn) (e : Refusal) → Outcome t → t.step.answer ≡ Err e → (e.rule ≡ no_room) ⊎ (e.rule ≡ step_not_due)
   refused-only t e (not-due d) h = let c = sym d ∙ h in let i : refusal step_not_due 0 ≡ e = cc in inr (ap (λ (r : Refusal). r.rule) (sym i))
   refused-only t e (room_missing d) h = let c = sym d ∙ h in let i : refusal no_room 0 ≡ e = cc in inl (ap (λ (r : Refusal). r.rule) (sym i))
   refused-only t e (finished m d u p) h = let c = sym d ∙ h in let z : ◌≡◌ {A = ℕ} 0 1 = cc in absurd (omega arith)

@@ -1,4 +1,6 @@
 -- What every call of the writer's methods guarantees. What is given as fields is judged by tests on them. Assumes nothing.
+use Rattle.std.specs.Prelude.{Ok, Err, Result}
+use Rattle.wire.specs.declared.Refusal.{Refusal}
 use Prim.Native.Nat.{ℕ, zero, suc, ◌/◌, ◌%◌, ◌≤◌, ◌<◌}
 use mathlib.Core.Path.{◌≡◌, refl, sym, ap, ◌∙◌, subst}
 use mathlib.Core.Bool.{Bool, true, false, not, false≢true}
@@ -38,8 +40,6 @@ use Rattle.transaction.proofs.Refusing.{unsigned_numbers, unsigned-numbers}
 use Rattle.writer_rules.specs.Given.{Given, head_bytes, given, addresses_of, output_given, input_given}
 use Rattle.writer_rules.specs.code.Elements.{rising, each_above}
 use Rattle.writer_rules.specs.Judged.{refused_by, judged}
-use Rattle.writer_rules.specs.declared.Verdict.{Verdict}
-use Rattle.writer_rules.specs.declared.Verdict.TheVariants as J
 use Rattle.writer_rules.proofs.FieldLaws.{string-write, text-write, string-judged, text-judged}
 use Rattle.writer_rules.proofs.FieldLaws.{denomination-write, denomination-judged, id-judged, head-judged}
 use Rattle.writer_rules.proofs.Integers as Integers
@@ -55,11 +55,11 @@ use Rattle.writer_theorems.proofs.Owing.{field-owed, element-owed, close-owed, f
 -- ---- steps by their names, with memos of at most `most` bytes
 
 module _ (P : Rule → Type 0) (room : P no_room) (most : ℕ) (w : Writer) (s : List ℕ) (g : Given) where
-  put-field-owed : (f : FieldName) → Numbered P (judged (content_of most f) g J.Allowed) → Owed P (field_due f w) w s (put_field (avm most) w s f g)
+  put-field-owed : (f : FieldName) → Numbered P (judged (content_of most f) g (Ok tt)) → Owed P (field_due f w) w s (put_field (avm most) w s f g)
   unfolding put_field
   put-field-owed f h = field-owed P room most (due_for (avm most) w) w s f g h
 
-  put-element-owed : (l : ListName) → Numbered P (judged ((elements_of l).element (prev w s)) g J.Allowed)
+  put-element-owed : (l : ListName) → Numbered P (judged ((elements_of l).element (prev w s)) g (Ok tt))
       → Owed P (element_due l w) w s (put_element (avm most) w s l g)
   unfolding put_element
   put-element-owed l h = element-owed P room (due_for (avm most) w) w s l g h
@@ -74,59 +74,60 @@ words-fit (n ∷ l) (h, hs) (suc j) = words-fit l hs j
 module _ (P : Rule → Type 0) where
   output-numbered : (asset : List ℕ) (amount locktime threshold : ℕ) (addresses last : List ℕ) → length asset ≡ 32
       → P (rule_of cut_short) → P (rule_of zero_amount) → P (rule_of out_of_order) → P (rule_of bad_threshold)
-      → Numbered P (judged (not_below transferable_output last) (output_given asset amount locktime threshold addresses) J.Allowed)
+      → Numbered P (judged (not_below transferable_output last) (output_given asset amount locktime threshold addresses) (Ok tt))
   output-numbered asset amount locktime threshold addresses last h short nothing order high =
       let built : List ℕ = Outputs.built asset amount locktime threshold addresses in
-      let after : Verdict = pick (not (below built last)) J.Allowed (refused_by (rule_of out_of_order)) in
-      let rises : Verdict = pick (each_above (blob 20) [] (addresses_of (length addresses / 20) addresses)) after (refused_by (rule_of out_of_order)) in
-      let bound : Verdict = pick (threshold_fits threshold (length addresses / 20)) rises (refused_by (rule_of bad_threshold)) in
-      let some : Verdict = pick (ltb 0 amount) bound (refused_by (rule_of zero_amount)) in
+      let after : Result (Unit {0}) Refusal = pick (not (below built last)) (Ok tt) (refused_by (rule_of out_of_order)) in
+      let rises : Result (Unit {0}) Refusal = pick (each_above (blob 20) [] (addresses_of (length addresses / 20) addresses)) after (refused_by
+      (rule_of out_of_order)) in
+      let bound : Result (Unit {0}) Refusal = pick (threshold_fits threshold (length addresses / 20)) rises (refused_by (rule_of bad_threshold)) in
+      let some : Result (Unit {0}) Refusal = pick (ltb 0 amount) bound (refused_by (rule_of zero_amount)) in
       subst (Numbered P)
       (Outputs.as-output asset amount locktime threshold addresses last (pick (eqb (length addresses % 20) 0) some (refused_by (rule_of cut_short))) h refl)
       (pick-numbered P (eqb (length addresses % 20) 0) some (rule_of cut_short)
       (pick-numbered P (ltb 0 amount) bound (rule_of zero_amount)
       (pick-numbered P (threshold_fits threshold (length addresses / 20)) rises (rule_of bad_threshold)
       (pick-numbered P (each_above (blob 20) [] (addresses_of (length addresses / 20) addresses)) after (rule_of out_of_order)
-      (pick-numbered P (not (below built last)) J.Allowed (rule_of out_of_order) tt order) order) high) nothing) short)
+      (pick-numbered P (not (below built last)) (Ok tt) (rule_of out_of_order) tt order) order) high) nothing) short)
 
   input-numbered : (txid : List ℕ) (index : ℕ) (asset : List ℕ) (amount : ℕ) (indices last : List ℕ) → length txid ≡ 32 → length asset ≡ 32
       → Words indices → P (rule_of zero_amount) → P (rule_of out_of_order)
-      → Numbered P (judged (input last) (input_given txid index asset amount indices) J.Allowed)
+      → Numbered P (judged (input last) (input_given txid index asset amount indices) (Ok tt))
   input-numbered txid index asset amount indices last h k words nothing order =
-      let rises : Verdict = pick (rising indices) J.Allowed (refused_by (rule_of out_of_order)) in
-      let some : Verdict = pick (ltb 0 amount) rises (refused_by (rule_of zero_amount)) in
+      let rises : Result (Unit {0}) Refusal = pick (rising indices) (Ok tt) (refused_by (rule_of out_of_order)) in
+      let some : Result (Unit {0}) Refusal = pick (ltb 0 amount) rises (refused_by (rule_of zero_amount)) in
       let after : Bool = below (take 36 last) (txid ++ digits 4 index) in
       subst (Numbered P)
       (Inputs.as-input txid index asset amount indices last (pick after some (refused_by (rule_of out_of_order))) h k (words-fit indices words) refl)
       (pick-numbered P after some (rule_of out_of_order)
-      (pick-numbered P (ltb 0 amount) rises (rule_of zero_amount) (pick-numbered P (rising indices) J.Allowed (rule_of out_of_order) tt order) nothing) order)
+      (pick-numbered P (ltb 0 amount) rises (rule_of zero_amount) (pick-numbered P (rising indices) (Ok tt) (rule_of out_of_order) tt order) nothing) order)
 
-  memo-numbered : (most : ℕ) (b : List ℕ) → P (rule_of bad_length) → Numbered P (judged (memo most) (given ((memo most).write b)) J.Allowed)
+  memo-numbered : (most : ℕ) (b : List ℕ) → P (rule_of bad_length) → Numbered P (judged (memo most) (given ((memo most).write b)) (Ok tt))
   memo-numbered most b h =
-      subst (Numbered P) (sym (ap (λ (z : List ℕ). judged (memo most) (given z) J.Allowed) (string-write 4 most b) ∙ string-judged most b))
-      (pick-numbered P (leb (length b) most) J.Allowed (rule_of bad_length) tt h)
+      subst (Numbered P) (sym (ap (λ (z : List ℕ). judged (memo most) (given z) (Ok tt)) (string-write 4 most b) ∙ string-judged most b))
+      (pick-numbered P (leb (length b) most) (Ok tt) (rule_of bad_length) tt h)
 
   text-numbered : (most : ℕ) (b : List ℕ) → P (rule_of bad_length) → P (rule_of not_printable)
-      → Numbered P (judged (text most) (given ((text most).write b)) J.Allowed)
+      → Numbered P (judged (text most) (given ((text most).write b)) (Ok tt))
   text-numbered most b h k =
-      subst (Numbered P) (sym (ap (λ (z : List ℕ). judged (text most) (given z) J.Allowed) (text-write most b) ∙ text-judged most b))
+      subst (Numbered P) (sym (ap (λ (z : List ℕ). judged (text most) (given z) (Ok tt)) (text-write most b) ∙ text-judged most b))
       (pick-numbered P (ltb 0 (length b)) _ (rule_of bad_length)
       (pick-numbered P (leb (length b) most) _ (rule_of bad_length)
-      (pick-numbered P (eqb (unprintable b) (length b)) J.Allowed (rule_of not_printable) tt k) h) h)
+      (pick-numbered P (eqb (unprintable b) (length b)) (Ok tt) (rule_of not_printable) tt k) h) h)
 
-  denomination-numbered : (n : ℕ) → P (rule_of bad_denomination) → Numbered P (judged denomination (given (denomination.write n)) J.Allowed)
+  denomination-numbered : (n : ℕ) → P (rule_of bad_denomination) → Numbered P (judged denomination (given (denomination.write n)) (Ok tt))
   denomination-numbered n h =
-      subst (Numbered P) (sym (ap (λ (z : List ℕ). judged denomination (given z) J.Allowed) (denomination-write n) ∙ denomination-judged n))
-      (pick-numbered P (leb n 32) J.Allowed (rule_of bad_denomination) tt h)
+      subst (Numbered P) (sym (ap (λ (z : List ℕ). judged denomination (given z) (Ok tt)) (denomination-write n) ∙ denomination-judged n))
+      (pick-numbered P (leb n 32) (Ok tt) (rule_of bad_denomination) tt h)
 
-  chain-numbered : (c : List ℕ) → length c ≡ 32 → Numbered P (judged (blob 32) (given ((blob 32).write c)) J.Allowed)
+  chain-numbered : (c : List ℕ) → length c ≡ 32 → Numbered P (judged (blob 32) (given ((blob 32).write c)) (Ok tt))
   unfolding blob
   chain-numbered c h = subst (Numbered P) (sym (id-judged c h)) tt
 
   head-numbered : (most type network : ℕ) (chain : List ℕ) → length chain ≡ 32 → P (rule_of unknown_type)
-      → Numbered P (judged (head (avm most)) (given (head_bytes type network chain)) J.Allowed)
+      → Numbered P (judged (head (avm most)) (given (head_bytes type network chain)) (Ok tt))
   head-numbered most type network chain h k =
-      subst (Numbered P) (sym (head-judged most type network chain h)) (pick-numbered P (is_type type) J.Allowed (rule_of unknown_type) tt k)
+      subst (Numbered P) (sym (head-judged most type network chain h)) (pick-numbered P (is_type type) (Ok tt) (rule_of unknown_type) tt k)
 
 -- ---- each call answers a number of its own list
 
@@ -222,7 +223,7 @@ rules-some F s at e r =
 some-room : Some no_room
 some-room = (omega arith, omega arith)
 
-some-numbered : {A : Type 0} (F : Format A) (g : Given) → Numbered Some (judged F g J.Allowed)
+some-numbered : {A : Type 0} (F : Format A) (g : Given) → Numbered Some (judged F g (Ok tt))
 some-numbered F g = judged-numbered Some F g (rules-some F) (omega arith, omega arith) (omega arith, omega arith)
 
 module _ (most : ℕ) (w : Writer) (s : List ℕ) (g : Given) where
@@ -258,47 +259,48 @@ two-or-more most c w s =
     let o = call-some most c w s in
     guarded-numbered AtLeastTwo (omega arith) (omega arith) (is_due c w) w s o.rules (λ e. weaker o.rules (o.numbered e))
   where
-    weaker : (v : Verdict) → Numbered Some v → Numbered AtLeastTwo v
-    weaker J.Allowed h = tt
-    weaker (J.Refuse e) ((least, _), z) = (least, z)
+    weaker : (v : Result (Unit {0}) Refusal) → Numbered Some v → Numbered AtLeastTwo v
+    weaker (Ok tt) h = tt
+    weaker (Err e) ((least, _), z) = (least, z)
 
 -- ---- what follows from an answer
 
 module _ (w : Writer) (s : List ℕ) (w' : Writer) (s' : List ℕ) where
-  abbrev number_by : Verdict → ℕ
+  abbrev number_by : Result (Unit {0}) Refusal → ℕ
   number_by v = written_number (answered v w s w' s').step.answer
 
-  answered-number : (l : List ℕ) → OneOf 0 l → (v : Verdict) → Numbered (NumberIn l) v → OneOf (number_by v) l
+  answered-number : (l : List ℕ) → OneOf 0 l → (v : Result (Unit {0}) Refusal) → Numbered (NumberIn l) v → OneOf (number_by v) l
   unfolding answered
-  answered-number l z J.Allowed h = z
-  answered-number l z (J.Refuse e) h = h.0
+  answered-number l z (Ok tt) h = z
+  answered-number l z (Err e) h = h.0
 
   -- a step that is refused changes nothing and reports place 0; one that is done reports the bytes written
-  answered-refused : (v : Verdict) → Numbered AtLeastTwo v → (number_by v ≡ 0 → ⊥)
+  answered-refused : (v : Result (Unit {0}) Refusal) → Numbered AtLeastTwo v → (number_by v ≡ 0 → ⊥)
       → ((answered v w s w' s').step.next ≡ w) × ((answered v w s w' s').buffer ≡ s) × (written_place (answered v w s w' s').step.answer ≡ 0)
   unfolding answered
-  answered-refused J.Allowed k h = absurd (h refl)
-  answered-refused (J.Refuse e) k h = (refl, refl, k.1)
+  answered-refused (Ok tt) k h = absurd (h refl)
+  answered-refused (Err e) k h = (refl, refl, k.1)
 
-  answered-done : (v : Verdict) → Numbered AtLeastTwo v → number_by v ≡ 0
+  answered-done : (v : Result (Unit {0}) Refusal) → Numbered AtLeastTwo v → number_by v ≡ 0
       → written_place (answered v w s w' s').step.answer ≡ (answered v w s w' s').step.next.at
   unfolding answered
-  answered-done J.Allowed k h = refl
-  answered-done (J.Refuse e) k h = absurd (omega (arith, k.0))
+  answered-done (Ok tt) k h = refl
+  answered-done (Err e) k h = absurd (omega (arith, k.0))
 
-  answered-long : (v : Verdict) → (v ≡ J.Allowed → length s' ≡ length s) → length (answered v w s w' s').buffer ≡ length s
+  answered-long : (v : Result (Unit {0}) Refusal) → (v ≡ (Ok tt) → length s' ≡ length s) → length (answered v w s w' s').buffer ≡ length s
   unfolding answered
-  answered-long J.Allowed h = h refl
-  answered-long (J.Refuse e) h = refl
+  answered-long (Ok tt) h = h refl
+  answered-long (Err e) h = refl
 
   -- no rule refuses by 16
-  answered-rules : (v : Verdict) → Numbered Some v → number_by v ≡ rule_number step_not_due → ⊥
+  answered-rules : (v : Result (Unit {0}) Refusal) → Numbered Some v → number_by v ≡ rule_number step_not_due → ⊥
   unfolding answered
-  answered-rules J.Allowed h e = absurd (omega arith)
-  answered-rules (J.Refuse d) ((_, most), _) e = absurd (omega arith)
+  answered-rules (Ok tt) h e = absurd (omega arith)
+  answered-rules (Err d) ((_, most), _) e = absurd (omega arith)
 
   -- a step answers 16 exactly if it is not due, and 14 if it is due and the buffer is short
-  guarded-not-due : (is_due : Bool) (v : Verdict) → (is_due ≡ true → Numbered Some v) → (number_by (guarded is_due w s v) ≡ rule_number step_not_due)
+  guarded-not-due : (is_due : Bool) (v : Result (Unit {0}) Refusal) → (is_due ≡ true → Numbered Some v)
+      → (number_by (guarded is_due w s v) ≡ rule_number step_not_due)
       ↔ (is_due ≡ false)
   unfolding answered
   guarded-not-due true v h =
@@ -306,7 +308,8 @@ module _ (w : Writer) (s : List ℕ) (w' : Writer) (s' : List ℕ) where
       (λ e. absurd (answered-rules (guarded true w s v) rules e), λ e. absurd (false≢true (sym e)))
   guarded-not-due false v h = (λ e. refl, λ e. refl)
 
-  guarded-short : (is_due : Bool) (v : Verdict) → length s < w.at → number_by (guarded is_due w s v) ≡ rule_number (pick is_due no_room step_not_due)
+  guarded-short : (is_due : Bool) (v : Result (Unit {0}) Refusal) → length s < w.at
+      → number_by (guarded is_due w s v) ≡ rule_number (pick is_due no_room step_not_due)
   unfolding answered
   guarded-short true v h = rw (lt-leb w.at (length s) h)
   guarded-short false v h = refl

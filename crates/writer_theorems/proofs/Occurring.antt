@@ -1,4 +1,6 @@
 -- Each number in a call's list occurs, as the computed answer of some call. Assumes nothing.
+use Rattle.std.specs.Prelude.{Ok, Result}
+use Rattle.wire.specs.declared.Refusal.{Refusal}
 use Prim.Native.Nat.{ℕ, zero, suc, ◌<◌, ◌^◌}
 use mathlib.Core.Path.{◌≡◌, refl, sym, ap, ◌∙◌, subst}
 use mathlib.Core.Logic.{⊎_elim}
@@ -28,8 +30,6 @@ use Rattle.element.specs.Operations.{terms, action, fx_id, state_outputs, initia
 use Rattle.transaction.specs.Credentials.{credentials}
 use Rattle.transaction.specs.Form.{at_least, form}
 use Rattle.transaction.specs.Family.{head, unsigned, wants}
-use Rattle.writer_rules.specs.declared.Verdict.{Verdict}
-use Rattle.writer_rules.specs.declared.Verdict.TheVariants as J
 use Rattle.writer_rules.specs.Given.{Given, given, addresses_of}
 use Rattle.writer_rules.specs.Judged.{refused_by, judged}
 use Rattle.writer_rules.specs.code.Judged.{on_allowed}
@@ -127,11 +127,12 @@ module _ (P : ℕ → Type 0) where
   one-occurs ((k, p) ∷ l) n h = ⊎_elim (λ e. subst P (sym e) p) (one-occurs l n) h
 
 -- what a format refuses is refused whatever is judged after it
-refused-number : {A : Type 0} (F : Format A) (g : Given) (v : Verdict) (x : Rule) → judged F g J.Allowed ≡ refused_by x
+refused-number : {A : Type 0} (F : Format A) (g : Given) (v : Result (Unit {0}) Refusal) (x : Rule) → judged F g (Ok tt) ≡ refused_by x
     → (w : Writer) (s : List ℕ) (w' : Writer) (s' : List ℕ) → written_number (answered (judged F g v) w s w' s').step.answer ≡ rule_number x
 unfolding answered
 refused-number F g v x e w s w' s' =
-    ap (λ (u : Verdict). written_number (answered u w s w' s').step.answer) (judged-on F g v ∙ ap (λ (u : Verdict). on_allowed u v) e)
+    ap (λ (u : Result (Unit {0}) Refusal). written_number (answered u w s w' s').step.answer) (judged-on F g v
+    ∙ ap (λ (u : Result (Unit {0}) Refusal). on_allowed u v) e)
 
 -- ---- the calls, with memos of at most `most` bytes
 
@@ -252,8 +253,8 @@ module _ (most : ℕ) where
   unfolding put_field put_field_at answered
   long-refused =
       let ys : List ℕ = (Strings.memo most).write long in
-      let over : judged (Strings.memo most) (given ys) J.Allowed ≡ refused_by (rule_of bad_length) =
-      ap (λ (z : List ℕ). judged (Strings.memo most) (given z) J.Allowed) (string-write 4 most long) ∙ string-judged most long
+      let over : judged (Strings.memo most) (given ys) (Ok tt) ≡ refused_by (rule_of bad_length) =
+      ap (λ (z : List ℕ). judged (Strings.memo most) (given z) (Ok tt)) (string-write 4 most long) ∙ string-judged most long
       ∙ rw (lt-leb (length long) most (omega (arith, length-replicate {A = ℕ} (suc most) 0))) in
       refused-number (Strings.memo most) (given ys) _ (rule_of bad_length) over (at 0 3 0) [] _ _
 

@@ -1,4 +1,6 @@
 -- The steps that write a reading are all done, and leave its bytes. Assumes nothing.
+use Rattle.std.specs.Prelude.{Ok, Result}
+use Rattle.wire.specs.declared.Refusal.{Refusal}
 use Prim.Native.Nat.{ℕ, suc, ◌+◌, ◌≤◌}
 use mathlib.Core.Path.{◌≡◌, refl, sym, ap, ◌∙◌, subst}
 use mathlib.Core.Bool.{true, ◌&&◌}
@@ -21,8 +23,6 @@ use Rattle.transaction.specs.Family.{Family}
 use Rattle.transaction.specs.declared.FieldName.{FieldName}
 use Rattle.transaction.specs.declared.ListName.{ListName}
 use Rattle.writer_rules.specs.Judged.{judged}
-use Rattle.writer_rules.specs.declared.Verdict.{Verdict}
-use Rattle.writer_rules.specs.declared.Verdict.TheVariants as J
 use Rattle.writer_rules.specs.Given.{given}
 use Rattle.writer_rules.proofs.Verdicts.{judged-own}
 use Rattle.plan.specs.Due.{field_code, list_code}
@@ -30,7 +30,6 @@ use Rattle.plan.proofs.RowLaws.{due-next}
 use Rattle.writer_buffer.specs.Stores.{room_for, overwrite}
 use Rattle.writer_buffer.proofs.Stores.{room-fine, length-overwrite}
 use Rattle.writer.specs.declared.Writer.{Writer}
-use Rattle.writer.specs.declared.Written.TheVariants as W
 use Rattle.writer.specs.Steps.{turn, answered, sane, grown, appended, opening, opened, same_field, same_list}
 use Rattle.writer.specs.Steps.{put_field_at, put_element_at, close_at, plan_for, due_for, put_field, put_element, close}
 use Rattle.writer.proofs.Laws.{guarded-fine}
@@ -44,11 +43,11 @@ module _ (most : ℕ) (f : FieldName) (w : Writer) (s b : List ℕ) where
   put-field : (q : Plan) (v : Content f) → (content_of most f).Good v → Here w s b → (ys : List ℕ) → (content_of most f).write v ≡ ys
       → w.at + length (ys ++ opening q) ≤ length s → w.at + length (ys ++ opening q) ≤ most_bytes
       → put_field_at most (field f q) w s f (given ys)
-      ≡ answered J.Allowed w s (opened w.type_id (suc w.phase) (w.at + length ys) q) (overwrite s w.at (ys ++ opening q))
+      ≡ answered (Ok tt) w s (opened w.type_id (suc w.phase) (w.at + length ys) q) (overwrite s w.at (ys ++ opening q))
   unfolding put_field_at
   put-field q v g h ys e fits k =
-      let R : Verdict = room_for (w.at + length (ys ++ opening q)) s in
-      ap (λ (x : Verdict). answered x w s (opened w.type_id (suc w.phase) (w.at + length ys) q) (overwrite s w.at (ys ++ opening q)))
+      let R : Result (Unit {0}) Refusal = room_for (w.at + length (ys ++ opening q)) s in
+      ap (λ (x : Result (Unit {0}) Refusal). answered x w s (opened w.type_id (suc w.phase) (w.at + length ys) q) (overwrite s w.at (ys ++ opening q)))
       (guarded-fine (same_field f f) w s _ (eq-eqb (field_code f) (field_code f) refl) h.fits
       ∙ subst (λ (z : List ℕ). judged (content_of most f) (given z) R ≡ R) e (judged-own (content_of most f) v R g)
       ∙ room-fine (w.at + length (ys ++ opening q)) s fits k)
@@ -69,21 +68,21 @@ module _ (l : ListName) (w : Writer) (s b : List ℕ) (least : ℕ) (q : Plan) (
 
   put-element : (v : (elements_of l).Element) → (E (leaves E [] es)).Good v → (ys : List ℕ) → (E (leaves E [] es)).write v ≡ ys
       → w.at + length ys ≤ length s → w.at + length ys ≤ most_bytes
-      → put_element_at (many l least q) w s l (given ys) ≡ answered J.Allowed w s (grown w (length ys)) (appended w s ys)
+      → put_element_at (many l least q) w s l (given ys) ≡ answered (Ok tt) w s (grown w (length ys)) (appended w s ys)
   unfolding put_element_at
   put-element v g ys e f k =
-      let R : Verdict = room_for (w.at + length ys) s in
-      ap (λ (x : Verdict). answered x w s (grown w (length ys)) (appended w s ys))
+      let R : Result (Unit {0}) Refusal = room_for (w.at + length ys) s in
+      ap (λ (x : Result (Unit {0}) Refusal). answered x w s (grown w (length ys)) (appended w s ys))
       (guarded-fine (same_list l l && sane w) w s _ open-sane o.here.fits
       ∙ ap (λ (z : List ℕ). judged (E z) (given ys) R) o.before
       ∙ subst (λ (z : List ℕ). judged (E (leaves E [] es)) (given z) R ≡ R) e (judged-own (E (leaves E [] es)) v R g)
       ∙ room-fine (w.at + length ys) s f k)
 
   close-list : least ≤ w.count → w.at + length (opening q) ≤ length s → w.at + length (opening q) ≤ most_bytes
-      → close_at (many l least q) w s ≡ answered J.Allowed w s (opened w.type_id (suc w.phase) w.at q) (overwrite s w.at (opening q))
+      → close_at (many l least q) w s ≡ answered (Ok tt) w s (opened w.type_id (suc w.phase) w.at q) (overwrite s w.at (opening q))
   unfolding close_at
   close-list n f k =
-      ap (λ (x : Verdict). answered x w s (opened w.type_id (suc w.phase) w.at q) (overwrite s w.at (opening q)))
+      ap (λ (x : Result (Unit {0}) Refusal). answered x w s (opened w.type_id (suc w.phase) w.at q) (overwrite s w.at (opening q)))
       (guarded-fine true w s _ refl o.here.fits ∙ rw (le-leb least w.count n) (room-fine (w.at + length (opening q)) s f k))
 
 length-appended : (w : Writer) (s ys : List ℕ) → w.at + length ys ≤ length s → w.list + 4 ≤ length s → length (appended w s ys) ≡ length s
@@ -115,7 +114,7 @@ module _ (F : Family) where
   -- each step is done, and the last leaves w' and s'
   abbrev pub Does : List Act → Writer → List ℕ → Writer → List ℕ → Type 0
   Does [] w s w' s' = (w ≡ w') × (s ≡ s')
-  Does (a ∷ l) w s w' s' = (w₁ : Writer) × (s₁ : List ℕ) × (act F a w s ≡ turn w₁ (W.Done w₁.at) s₁) × Does l w₁ s₁ w' s'
+  Does (a ∷ l) w s w' s' = (w₁ : Writer) × (s₁ : List ℕ) × (act F a w s ≡ turn w₁ (Ok w₁.at) s₁) × Does l w₁ s₁ w' s'
 
   does-append : (l m : List Act) (w : Writer) (s : List ℕ) (w₁ : Writer) (s₁ : List ℕ) (w₂ : Writer) (s₂ : List ℕ) → Does l w s w₁ s₁ → Does m w₁ s₁ w₂ s₂
       → Does (l ++ m) w s w₂ s₂
@@ -170,7 +169,7 @@ module _ (F : Family) where
     added : (w : Writer) (s : List ℕ) (es : List Element) (v : Element) (ys : List ℕ) → (element (leaves element [] es)).write v ≡ ys
         → due_for F w ≡ many l least q → Holds w s es → (element (leaves element [] es)).Good v
         → w.at + length ys ≤ length s → w.at + length ys ≤ most_bytes
-        → put_element F w s l (given ys) ≡ turn (grown w (length ys)) (W.Done (grown w (length ys)).at) (appended w s ys)
+        → put_element F w s l (given ys) ≡ turn (grown w (length ys)) (Ok (grown w (length ys)).at) (appended w s ys)
     unfolding put_element answered
     added w s es v ys e d o g f k =
         ap (λ (r : Plan). put_element_at r w s l (given ys)) d ∙ put-element l w s b least q es o v g ys e f k

@@ -1,4 +1,6 @@
 -- Writing the reading of a transaction and filling its signatures gives its bytes. Assumes nothing.
+use Rattle.std.specs.Prelude.{Ok, Result}
+use Rattle.wire.specs.declared.Refusal.{Refusal}
 use Prim.Native.Nat.{ℕ, suc, ◌+◌, ◌≤◌}
 use mathlib.Core.Path.{◌≡◌, refl, sym, ap, ◌∙◌, subst}
 use mathlib.Core.List.{List, [], ◌++◌}
@@ -22,14 +24,11 @@ use Rattle.transaction.proofs.CredentialLaws.{same_length}
 use Rattle.transaction.proofs.Signed.{parts-took}
 use Rattle.writer_rules.specs.Judged.{judged}
 use Rattle.writer_rules.specs.Given.{head_bytes, given}
-use Rattle.writer_rules.specs.declared.Verdict.{Verdict}
-use Rattle.writer_rules.specs.declared.Verdict.TheVariants as J
 use Rattle.writer_rules.proofs.Verdicts.{judged-own}
 use Rattle.writer_buffer.specs.Stores.{room_for, overwrite}
 use Rattle.writer_buffer.proofs.Stores.{room-fine, length-overwrite}
 use Rattle.writer_buffer.specs.Closing.{blank_of}
 use Rattle.writer.specs.declared.Writer.{Writer}
-use Rattle.writer.specs.declared.Written.TheVariants as W
 use Rattle.writer.specs.Steps.{fresh, Turn, turn, answered, opening, opened, finish_at, plan_for, due_for, start, finish}
 use Rattle.writer.proofs.Laws.{guarded-fine}
 use Rattle.writer_theorems.specs.Runs.{run, AllDone, Ends, spelled}
@@ -56,11 +55,11 @@ module _ (F : Family) (ends : (k : F.TransactionType) → Ends (F.plan k)) where
     first = opened (F.type_id h.type) 1 (length ys) q
 
     started : length (ys ++ opening q) ≤ length s → length (ys ++ opening q) ≤ most_bytes
-        → start F fresh s (F.type_id h.type) h.network h.chain ≡ turn first (W.Done first.at) (overwrite s 0 (ys ++ opening q))
+        → start F fresh s (F.type_id h.type) h.network h.chain ≡ turn first (Ok first.at) (overwrite s 0 (ys ++ opening q))
     unfolding start answered ys q first
     started f k =
-        let R : Verdict = room_for (length (ys ++ opening q)) s in
-        ap (λ (x : Verdict). answered x fresh s first (overwrite s 0 (ys ++ opening q)))
+        let R : Result (Unit {0}) Refusal = room_for (length (ys ++ opening q)) s in
+        ap (λ (x : Result (Unit {0}) Refusal). answered x fresh s first (overwrite s 0 (ys ++ opening q)))
         (guarded-fine (eqb 0 0) fresh s _ (eq-eqb 0 0 refl) (omega arith)
         ∙ subst (λ (z : List ℕ). judged (head F) (given z) R ≡ R) (head_bytes_lem h) (judged-own (head F) h _ good)
         ∙ room-fine (length (ys ++ opening q)) s f k)
@@ -102,7 +101,7 @@ module _ (F : Family) (ends : (k : F.TransactionType) → Ends (F.plan k)) where
   -- finish after those steps is done and leaves the transaction with empty slots
   Finishes : Unsigned F → List ℕ → ℕ → Type 0
   Finishes u s n =
-      AllDone F (spelled F u) fresh s × ((finish_after F (spelled F u) s).step.answer ≡ W.Done n)
+      AllDone F (spelled F u) fresh s × ((finish_after F (spelled F u) s).step.answer ≡ Ok n)
       × AnySigned.Parts (unsigned F) (wants F) (take n (finish_after F (spelled F u) s).buffer) u (blank_signed F u)
 
   finishes : (u : Unsigned F) → (unsigned F).Good u → (s : List ℕ) (n : ℕ) → n ≡ length ((unsigned F).write u) + length (blank_of F u) → n ≤ length s
@@ -123,17 +122,17 @@ module _ (F : Family) (ends : (k : F.TransactionType) → Ends (F.plan k)) where
           → finish_at F end w t
           ≡ answered (room_for (w.at + length (blank_of F u)) t)
           w t (opened w.type_id (suc w.phase) (w.at + length (blank_of F u)) shut) (overwrite t w.at (blank_of F u))
-          → room_for (w.at + length (blank_of F u)) t ≡ J.Allowed
+          → room_for (w.at + length (blank_of F u)) t ≡ (Ok tt)
           → AnySigned.Parts (unsigned F) (wants F) (take (w.at + length (blank_of F u)) (overwrite t w.at (blank_of F u))) u (blank_signed F u) → Finishes u s n
       ended u w t n all r d there is fits p =
           let x : ℕ = w.at + length (blank_of F u) in
           let w' : Writer = opened w.type_id (suc w.phase) x shut in
           let s' : List ℕ = overwrite t w.at (blank_of F u) in
-          let last : finish_after F (spelled F u) s ≡ turn w' (W.Done (x + 0)) s' =
+          let last : finish_after F (spelled F u) s ≡ turn w' (Ok (x + 0)) s' =
           ap (λ (z : Writer × List ℕ). finish F z.0 z.1) r ∙ ap (λ (z : Plan). finish_at F z w t) d ∙ is
-          ∙ ap (λ (v : Verdict). answered v w t w' s') fits in (
+          ∙ ap (λ (v : Result (Unit {0}) Refusal). answered v w t w' s') fits in (
             all,
-            ap (λ (z : Turn). z.step.answer) last ∙ ap W.Done (add-zero x ∙ there),
+            ap (λ (z : Turn). z.step.answer) last ∙ ap Ok (add-zero x ∙ there),
             subst (λ (z : Turn). AnySigned.Parts (unsigned F) (wants F) (take n z.buffer) u (blank_signed F u)) (sym last)
                 (subst (λ (i : ℕ). AnySigned.Parts (unsigned F) (wants F) (take i s') u (blank_signed F u)) there p),
           )
@@ -155,7 +154,7 @@ module _ (F : Family) (ends : (k : F.TransactionType) → Ends (F.plan k)) where
     unfolding Finishes
     trip-steps = trip.0
 
-    trip-done : (finish_after F (spelled F v.0) s).step.answer ≡ W.Done (length d)
+    trip-done : (finish_after F (spelled F v.0) s).step.answer ≡ Ok (length d)
     unfolding Finishes
     trip-done = trip.1
 

@@ -1,5 +1,5 @@
 -- Calls of the writer's methods, runs of them, and the calls that write the reading of a transaction, for any limit of the memo. Assumes nothing.
-use Rattle.std.specs.Prelude.{ℕ, ◌≤◌, ◌<◌, ◌^◌, ◌≡◌, ◌⊎◌, ◌↔◌, Bool, true, false, ◌&&◌, List, [], ◌∷◌, ◌++◌, map, length, take, eqb}
+use Rattle.std.specs.Prelude.{ℕ, ◌≤◌, ◌<◌, ◌^◌, ◌≡◌, ◌⊎◌, ◌↔◌, Bool, true, false, ◌&&◌, List, [], ◌∷◌, ◌++◌, map, length, take, eqb, Ok, Err}
 use Rattle.wire.specs.Bytes.{Bytes, pick}
 use Rattle.wire.specs.Numbers.{rule_number, no_room, step_not_due}
 use Rattle.wire.specs.Format.{took}
@@ -24,7 +24,6 @@ use Rattle.transaction.specs.declared.ListName.TheVariants as L
 use Rattle.plan.specs.Due.{due, due_of, is_list, is_field, is_open, is_finish}
 use Rattle.plan.specs.declared.Due.{Due}
 use Rattle.writer.specs.declared.Writer.{Writer}
-use Rattle.writer.specs.declared.Written.TheVariants as W
 use Rattle.writer.specs.Steps as Steps
 use Rattle.writer.specs.Steps.{Turn, written_number, written_place, sane}
 use Rattle.writer.specs.Fields.{add_output, add_input, add_operation, add_initial_state, put_memo, put_name, put_symbol, put_denomination, put_chain}
@@ -89,7 +88,7 @@ module _ (most : ℕ) where
   unfoldable pub AllCallsDone : List Call → Writer → List ℕ → Type 0
   AllCallsDone [] w s = Unit {0}
   AllCallsDone (c ∷ l) w s =
-      ((call c w s).step.answer ≡ W.Done (call c w s).step.next.at) × AllCallsDone l (call c w s).step.next (call c w s).buffer
+      ((call c w s).step.answer ≡ Ok (call c w s).step.next.at) × AllCallsDone l (call c w s).step.next (call c w s).buffer
 
 -- ---- the calls that write a reading
 
@@ -188,9 +187,9 @@ module _ (most : ℕ) where
 
   -- for every run of calls, whichever of them are refused
   pub record MethodsFinish : Type 0 where
-    pub is-accepted : (l : List Call) → AllTyped l → (s : List ℕ) (n : ℕ) → (finish_after l s).step.answer ≡ W.Done n
+    pub is-accepted : (l : List Call) → AllTyped l → (s : List ℕ) (n : ℕ) → (finish_after l s).step.answer ≡ Ok n
         → accepted (avm most) (take n (finish_after l s).buffer) ≡ true
-    pub refused-by : (l : List Call) → AllTyped l → (s : List ℕ) (e : Refusal) → (finish_after l s).step.answer ≡ W.Refused e
+    pub refused-by : (l : List Call) → AllTyped l → (s : List ℕ) (e : Refusal) → (finish_after l s).step.answer ≡ Err e
         → (e.rule ≡ no_room) ⊎ (e.rule ≡ step_not_due)
 
   -- d is accepted, v is its reading, and the buffer s has room for d, whatever s holds
@@ -199,7 +198,7 @@ module _ (most : ℕ) where
     pub calls-done : (d : List ℕ) (v : Signed (avm most)) (n : ℕ) → Bytes d → check (avm most) d ≡ took v n → (s : List ℕ) → length d ≤ length s
         → AllCallsDone most (reading_calls most v.0) Steps.fresh s
     pub finish-done : (d : List ℕ) (v : Signed (avm most)) (n : ℕ) → Bytes d → check (avm most) d ≡ took v n → (s : List ℕ) → length d ≤ length s
-        → (finish_after (reading_calls most v.0) s).step.answer ≡ W.Done (length d)
+        → (finish_after (reading_calls most v.0) s).step.answer ≡ Ok (length d)
     pub filled : (d : List ℕ) (v : Signed (avm most)) (n : ℕ) → Bytes d → check (avm most) d ≡ took v n → (s : List ℕ) → length d ≤ length s
         → put_all (AnySigned.slots_at (unsigned (avm most)) (wants (avm most)) d) (slot_at d)
         (take (length d) (finish_after (reading_calls most v.0) s).buffer) ≡ d

@@ -1,5 +1,5 @@
 -- Runs of steps, each given the state and the buffer that the last one left; and the steps that write a reading. Assumes nothing.
-use Rattle.std.specs.Prelude.{ℕ, ◌≤◌, ◌<◌, ◌^◌, ◌≡◌, true, List, [], ◌∷◌, ◌++◌, length}
+use Rattle.std.specs.Prelude.{ℕ, ◌≤◌, ◌<◌, ◌^◌, ◌≡◌, true, List, [], ◌∷◌, ◌++◌, length, Ok}
 use Rattle.wire.specs.Bytes.{Bytes}
 use Rattle.transaction.specs.Signed.{most_bytes}
 use Rattle.transaction.specs.Plan.{Plan, shut, end, field, many, content_of, elements_of}
@@ -9,7 +9,6 @@ use Rattle.transaction.specs.declared.FieldName.{FieldName}
 use Rattle.transaction.specs.declared.ListName.{ListName}
 use Rattle.writer_rules.specs.Given.{Given, given}
 use Rattle.writer.specs.declared.Writer.{Writer}
-use Rattle.writer.specs.declared.Written.TheVariants as W
 use Rattle.writer.specs.Steps.{Turn, start, put_field, put_element, close, finish}
 
 -- a step and what it is given
@@ -50,7 +49,7 @@ module _ (F : Family) where
   -- every step of the run is done
   unfoldable pub AllDone : List Act → Writer → List ℕ → Type 0
   AllDone [] w s = Unit {0}
-  AllDone (a ∷ l) w s = ((act a w s).step.answer ≡ W.Done (act a w s).step.next.at) × AllDone l (act a w s).step.next (act a w s).buffer
+  AllDone (a ∷ l) w s = ((act a w s).step.answer ≡ Ok (act a w s).step.next.at) × AllDone l (act a w s).step.next (act a w s).buffer
 
 -- ---- the steps that write a value: each field, and each element of a list followed by the list's close
 

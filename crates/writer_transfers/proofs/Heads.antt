@@ -3,11 +3,11 @@ use Prim.Native.Nat.{ℕ, ◌+◌, ◌%◌, ◌^◌, ◌≤◌}
 use mathlib.Core.Path.{◌≡◌, refl, sym, ap, ◌∙◌}
 use mathlib.Core.List.{List, ◌++◌, append_assoc}
 use native.Mathlib.Omega.{arith}
-use lib.ListN.{length, take, drop, length-append}
+use lib.ListN.{length, take, length-append}
 use lib.Seq.{length-take-le, take_at, take_all}
 use Rattle.wire.specs.Bytes.{digits}
 use Rattle.wire.specs.laws.Bytes.{length_digits}
-use Rattle.writer_rules.proofs.Lent.{lent, lent-bytes, lent-integer}
+use Rattle.writer_rules.proofs.Lent.{lent, lent-integer}
 
 -- a call leaves y in the range lent to it: if y is ys, then ys follows the bytes before
 put-after : (s y ys r : List ℕ) (at n : ℕ) → at ≤ length s → y ≡ ys → length ys ≡ n → take (at + n) (take at s ++ (y ++ r)) ≡ take at s ++ ys
@@ -15,10 +15,8 @@ put-after s y ys r at n h e l =
     rw (e, ← append_assoc) (take_at (take at s ++ ys) r (at + n) (omega (arith, length-append (take at s) ys, length-take-le at s h)))
 
 module _ (s y r : List ℕ) (at : ℕ) where
-  pub bytes_after : (b : List ℕ) (h : at + length b ≤ length s)
-      → y ≡ take (length (lent s at (length b))) b ++ drop (length b) (lent s at (length b))
-      → take (at + length b) (take at s ++ (y ++ r)) ≡ take at s ++ b
-  bytes_after b h e = put-after s y b r at (length b) (omega arith) (lent-bytes s at (length b) h b y refl e) refl
+  pub bytes_after : (b : List ℕ) (h : at + length b ≤ length s) → y ≡ b → take (at + length b) (take at s ++ (y ++ r)) ≡ take at s ++ b
+  bytes_after b h e = put-after s y b r at (length b) (omega arith) e refl
 
   pub integer-after : (n v : ℕ) (h : at + n ≤ length s) → y ≡ digits (length (lent s at n)) (v % 256 ^ length (lent s at n))
       → take (at + n) (take at s ++ (y ++ r)) ≡ take at s ++ digits n (v % 256 ^ n)

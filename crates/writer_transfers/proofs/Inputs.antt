@@ -1,14 +1,18 @@
 -- An input given as fields: the tests that judge it, and its bytes. Assumes nothing.
-use Prim.Native.Nat.{ℕ, suc, ◌+◌, ◌-◌, ◌%◌, ◌^◌, ◌≤◌, ◌<◌}
+use Rattle.std.specs.Prelude.{Ok, Result}
+use Rattle.std.specs.List.{IsAllAdjacentAnswer}
+use Rattle.wire.specs.declared.Refusal.{Refusal}
+use Prim.Native.Nat.{ℕ, zero, suc, ◌%◌, ◌^◌, ◌<◌}
 use mathlib.Core.Path.{◌≡◌, refl, sym, ap, ap₂, ◌∙◌}
 use mathlib.Core.Bool.{Bool, true, false, not}
 use mathlib.Core.List.{List, [], ◌∷◌, ◌++◌, append_assoc, append-nil}
 use native.Mathlib.Omega.{arith}
+use native.Mathlib.Numerals.{add-one}
 use native.Mathlib.Nat.{mod-eq_of_lt}
-use lib.ListN.{length, get_or, take, drop, length-append, length-drop}
-use lib.Seq.{take_at, drop-cons}
+use lib.ListN.{length, get_or, take, length-append}
+use lib.Seq.{take_at}
 use lib.Dec.{ltb, eqb}
-use borrow.Author.Tests.{eq-eqb, lt-ltb, le-ltb, not-true, not-false}
+use borrow.Author.Tests.{eq-eqb, not-true, not-false}
 use Rattle.wire.specs.Bytes.{pick, between, digits, below}
 use Rattle.wire.specs.laws.Bytes.{length_digits}
 use Rattle.wire.specs.Numbers.{rule_of, zero_amount, out_of_order, bytes_after_end}
@@ -23,8 +27,6 @@ use Rattle.wire.proofs.Reading.{tests}
 use Rattle.element.specs.Outputs as Outputs
 use Rattle.element.specs.Inputs as Inputs
 use Rattle.element.specs.Inputs.{input, input_after, key, spend}
-use Rattle.writer_rules.specs.declared.Verdict.{Verdict}
-use Rattle.writer_rules.specs.declared.Verdict.TheVariants as J
 use Rattle.writer_rules.specs.Judged.{refused_by, judged}
 use Rattle.writer_rules.specs.Given.{input_of, input_given}
 use Rattle.writer_rules.specs.code.Elements.{input_head, integers_bytes, rising, each_above}
@@ -56,33 +58,27 @@ unfolding items list_write guard integer integers_bytes
 integers-written prev [] = refl
 integers-written prev (n ∷ l) = ap (λ r. digits 4 n ++ r) (integers-written (digits 4 n) l)
 
-one-rises : (l : List ℕ) → length l ≤ 1 → rising l ≡ true
+-- what `is_sorted_by` answers
+all-below : (l : List ℕ) → ((k : ℕ) → suc k < length l → true ≡ ltb (get_or l k 0) (get_or l (suc k) 0)) → true ≡ rising l
 unfolding rising
-one-rises [] h = refl
-one-rises (m ∷ []) h = refl
-one-rises (m ∷ (n ∷ l)) h = absurd (omega arith)
+all-below [] h = refl
+all-below (m ∷ []) h = refl
+all-below (m ∷ (n ∷ l)) h = rw (sym (h 0 (omega arith))) (all-below (n ∷ l) (λ k j. h (suc k) (omega arith)))
 
--- y tells whether the integers from index i - 1 on are in order
-module _ (l : List ℕ) (i : ℕ) (y : Bool) (some : 1 ≤ i) (w : rising (drop (i - 1) l) ≡ y) where
-  next-two : i < length l → drop (i - 1) l ≡ get_or l (i - 1) 0 ∷ (get_or l i 0 ∷ drop (suc i) l)
-  next-two h =
-      let e : suc (i - 1) ≡ i = omega arith in
-      drop-cons l (i - 1) 0 (omega arith) ∙ ap (λ r. get_or l (i - 1) 0 ∷ r) (ap (λ k. drop k l) e ∙ drop-cons l i 0 h)
+some-not : (l : List ℕ) (k : ℕ) → suc k < length l → false ≡ ltb (get_or l k 0) (get_or l (suc k) 0) → false ≡ rising l
+unfolding rising
+some-not [] k j h = absurd (omega arith)
+some-not (m ∷ []) k j h = absurd (omega arith)
+some-not (m ∷ (n ∷ l)) zero j h = rw (sym h)
+some-not (m ∷ (n ∷ l)) (suc k) j h = rw (sym (some-not (n ∷ l) k (omega arith) h)) (cases (ltb m n))
+  where
+    cases : (b : Bool) → false ≡ pick b false false
+    cases true = refl
+    cases false = refl
 
-  pub rising-on : i < length l → get_or l (i - 1) 0 < get_or l i 0 → rising (drop (i + 1 - 1) l) ≡ y
-  unfolding rising
-  rising-on h k =
-      let e : i + 1 - 1 ≡ i = omega arith in
-      rw (e, drop-cons l i 0 h) (sym (ap rising (next-two h) ∙ rw (lt-ltb (get_or l (i - 1) 0) (get_or l i 0) k)) ∙ w)
-
-  pub rising-not : i < length l → get_or l i 0 ≤ get_or l (i - 1) 0 → false ≡ y
-  unfolding rising
-  rising-not h k = sym (ap rising (next-two h) ∙ rw (le-ltb (get_or l (i - 1) 0) (get_or l i 0) k)) ∙ w
-
-  pub rising-end : length l ≤ i → true ≡ y
-  rising-end h = sym (one-rises (drop (i - 1) l) (rw length-drop (omega arith))) ∙ w
-
-pub ruleset rise = (rising-on, rising-not, rising-end)
+pub sorted-rising : (l : List ℕ) (t : Bool) → IsAllAdjacentAnswer (λ x y b. b ≡ ltb x y) l t → t ≡ rising l
+sorted-rising l true h = all-below l (λ k j. rw add-one at (h k 0 (omega arith)))
+sorted-rising l false h = some-not l h.0 (omega (arith, h.1)) (rw add-one at (h.2 0))
 
 -- ---- an input
 
@@ -102,16 +98,16 @@ module _ (txid : List ℕ) (index : ℕ) (asset : List ℕ) (amount : ℕ) (indi
 
   module _ (prev : List ℕ) where
     -- the rules, in the order in which they are judged
-    abbrev rules : List ℕ → Bool → Verdict
+    abbrev rules : List ℕ → Bool → Result (Unit {0}) Refusal
     rules id ordered =
         pick (below (take 36 prev) id)
         (pick (ltb 0 amount)
         (pick ordered
-        J.Allowed
+        (Ok tt)
         (refused_by (rule_of out_of_order))) (refused_by (rule_of zero_amount))) (refused_by (rule_of out_of_order))
 
     input-parse : length txid ≡ 32 → length asset ≡ 32 → All Narrow indices
-        → (input prev).parse written 0 (λ e. refused_by e.rule) (λ a m. pick (eqb m (length written)) J.Allowed (refused_by bytes_after_end)) ≡ rules
+        → (input prev).parse written 0 (λ e. refused_by e.rule) (λ a m. pick (eqb m (length written)) (Ok tt) (refused_by bytes_after_end)) ≡ rules
         (key.write (txid, index)) (each_above (integer 4) [] indices)
     unfolding input_after key spend constant Outputs.amount Inputs.indices count_prefixed guard
     input-parse h k narrow =
@@ -126,18 +122,18 @@ module _ (txid : List ℕ) (index : ℕ) (asset : List ℕ) (amount : ℕ) (indi
         test-alike (ltb 0 amount) _ _ _
         (field_back (integer 4) count (integer-back 3 count) written _ w _ _ _ r₅ λ r₆.
         let (p, e) = list_back (integer 4) Narrow (λ v h. integer-back 3 v) [] indices written _ [] _ _ narrow (r₆.there ∙ sym (append-nil w)) in
-        e ∙ test-alike (each_above (integer 4) [] indices) _ _ _ (ap (λ b. pick b J.Allowed (refused_by bytes_after_end)) (eq-eqb _ _ r₆.ends))))
+        e ∙ test-alike (each_above (integer 4) [] indices) _ _ _ (ap (λ b. pick b (Ok tt) (refused_by bytes_after_end)) (eq-eqb _ _ r₆.ends))))
 
     -- a verdict z reached by the code's tests is the verdict of the format
-    pub as-input : (z : Verdict) → length txid ≡ 32 → length asset ≡ 32 → Words indices → z ≡ rules (txid ++ digits 4 index) (rising indices)
-        → z ≡ judged (input prev) (input_given txid index asset amount indices) J.Allowed
+    pub as-input : (z : Result (Unit {0}) Refusal) → length txid ≡ 32 → length asset ≡ 32 → Words indices → z ≡ rules (txid ++ digits 4 index) (rising indices)
+        → z ≡ judged (input prev) (input_given txid index asset amount indices) (Ok tt)
     unfolding judged key blob integer
     as-input z h k words e =
         let narrow = words-narrow indices words in
         e ∙ ap (rules (txid ++ digits 4 index)) (sym (all-rising indices narrow)) ∙ sym (input-parse h k narrow)
 
 -- the verdict z, by what a call answered, t
-module _ (t : Bool) (z x y : Verdict) where
+module _ (t : Bool) (z x y : Result (Unit {0}) Refusal) where
   pub if-rise : (l : List ℕ) → t ≡ rising l → not t ≡ false → z ≡ x → z ≡ pick (rising l) x y
   if-rise l i j e = rw (found i (not-false t j)) e
 

@@ -1,4 +1,5 @@
 -- An output given as fields: the tests that judge it, and its bytes. Assumes nothing.
+use Rattle.std.specs.Prelude.{Ok, Err, Result, is_ok}
 use Prim.Native.Nat.{ℕ, zero, suc, ◌+◌, ◌*◌, ◌/◌, ◌%◌, ◌^◌, ◌≤◌, ◌<◌}
 use mathlib.Core.Path.{◌≡◌, refl, sym, ap, ◌∙◌}
 use mathlib.Core.Bool.{Bool, true, false, not}
@@ -10,8 +11,6 @@ use lib.Seq.{length-take-le, drop-drop}
 use lib.Dec.{ltb, eqb}
 use borrow.Author.Tests.{eq-eqb, eqb-true, not-true, not-false}
 use Rattle.wire.specs.declared.Refusal.{Refusal}
-use Rattle.wire.specs.declared.End.{End}
-use Rattle.wire.specs.declared.End.TheVariants as P
 use Rattle.wire.specs.Bytes.{pick, below}
 use Rattle.wire.specs.Numbers.{rule_of, by, cut_short, zero_amount, out_of_order, bad_threshold, bytes_after_end}
 use Rattle.wire.specs.Fields.{blob, integer}
@@ -26,8 +25,6 @@ use Rattle.owners.specs.Owners.{owners, threshold_fits}
 use Rattle.owners.proofs.Reading.{if-fits, if-unfit}
 use Rattle.element.specs.Outputs as Outputs
 use Rattle.element.specs.Outputs.{transfer_body, output, transferable_output}
-use Rattle.writer_rules.specs.declared.Verdict.{Verdict}
-use Rattle.writer_rules.specs.declared.Verdict.TheVariants as J
 use Rattle.writer_rules.specs.Judged.{refused_by, judged}
 use Rattle.writer_rules.specs.Given.{addresses_of, output_of, output_given}
 use Rattle.writer_rules.specs.code.Elements.{output_front, output_head, each_above}
@@ -60,27 +57,20 @@ addresses-written (suc n) prev s h =
     ∙ sym (append_assoc (take 20 s) w (drop (20 * n) (drop 20 s))) ∙ ap (λ r. take 20 s ++ w ++ r) (drop-drop (20 * n) 20 s ∙ ap (λ k. drop k s) (sym m))
 
 -- x is the answer of reading a slice of addresses: it tells whether they are in order
-module _ (s : List ℕ) (x : End) (e : x ≡ ended (increasing (blob 20) (length s / 20)) s 0) where
-  addresses-read : (p : ℕ) × (m : ℕ) × (x ≡ pick (each_above (blob 20) [] (list_of s)) (P.At m) (P.Refused (by out_of_order p)))
+module _ (s : List ℕ) (x : Result ℕ Refusal) (e : x ≡ ended (increasing (blob 20) (length s / 20)) s 0) where
+  addresses-read : (p : ℕ) × (m : ℕ) × (x ≡ pick (each_above (blob 20) [] (list_of s)) (Ok m) (Err (by out_of_order p)))
   addresses-read =
       let h : 20 * (length s / 20) ≤ length s = omega (arith, div-add-mod' (length s) 20) in
-      let (p, q) = list_back (blob 20) (λ b. length b ≡ 20) (blob-back 20) [] (list_of s) s 0 _ P.Refused (λ l m. P.At m) (addresses-sized _ s h)
+      let (p, q) = list_back (blob 20) (λ b. length b ≡ 20) (blob-back 20) [] (list_of s) s 0 _ Err (λ l m. Ok m) (addresses-sized _ s h)
       (addresses-written _ [] s h) in
       (p, _, e ∙ ap (λ n. ended (increasing (blob 20) n) s 0) (sym (length-addresses_of (length s / 20) s)) ∙ q)
 
-  pub addresses-rise : (m : ℕ) → x ≡ P.At m → true ≡ each_above (blob 20) [] (list_of s)
-  addresses-rise m h = let (p, k, q) = addresses-read in cases (each_above (blob 20) [] (list_of s)) p k (sym q ∙ h)
+  pub addresses-rise : is_ok x ≡ each_above (blob 20) [] (list_of s)
+  addresses-rise = let (p, k, q) = addresses-read in ap is_ok q ∙ cases (each_above (blob 20) [] (list_of s)) p k
     where
-      cases : (b : Bool) (p k : ℕ) → pick b (P.At k) (P.Refused (by out_of_order p)) ≡ P.At m → true ≡ b
-      cases true p k q = refl
-      cases false p k q = let z : ◌≡◌ {A = ℕ} 0 1 = cc in absurd (omega arith)
-
-  pub addresses-fall : (d : Refusal) → x ≡ P.Refused d → false ≡ each_above (blob 20) [] (list_of s)
-  addresses-fall d h = let (p, k, q) = addresses-read in cases (each_above (blob 20) [] (list_of s)) p k (sym q ∙ h)
-    where
-      cases : (b : Bool) (p k : ℕ) → pick b (P.At k) (P.Refused (by out_of_order p)) ≡ P.Refused d → false ≡ b
-      cases true p k q = let z : ◌≡◌ {A = ℕ} 0 1 = cc in absurd (omega arith)
-      cases false p k q = refl
+      cases : (b : Bool) (p k : ℕ) → is_ok {E = Refusal} (pick b (Ok k) (Err (by out_of_order p))) ≡ b
+      cases true p k = refl
+      cases false p k = refl
 
 -- ---- an output
 
@@ -108,18 +98,18 @@ module _ (asset : List ℕ) (amount locktime threshold : ℕ) (addresses : List 
 
   module _ (prev : List ℕ) where
     -- the rules after the one on the slice's length, in the order in which they are judged
-    abbrev rules : ℕ → List ℕ → Verdict
+    abbrev rules : ℕ → List ℕ → Result (Unit {0}) Refusal
     rules count ys =
         pick (ltb 0 amount)
         (pick (threshold_fits threshold count)
         (pick (each_above (blob 20) [] (list_of addresses))
         (pick (not (below ys prev))
-        J.Allowed
+        (Ok tt)
         (refused_by (rule_of out_of_order))) (refused_by (rule_of out_of_order))) (refused_by (rule_of bad_threshold))) (refused_by (rule_of zero_amount))
 
     output-parse : length asset ≡ 32
         → (not_below transferable_output prev).parse written 0 (λ e. refused_by e.rule)
-        (λ a m. pick (eqb m (length written)) J.Allowed (refused_by bytes_after_end))
+        (λ a m. pick (eqb m (length written)) (Ok tt) (refused_by bytes_after_end))
         ≡ rules (length (list_of addresses)) written
     unfolding transferable_output output transfer_body Outputs.amount owners guard
     output-parse h =
@@ -137,9 +127,9 @@ module _ (asset : List ℕ) (amount locktime threshold : ℕ) (addresses : List 
         (let sized = addresses-sized _ addresses (omega (arith, div-add-mod' (length addresses) 20)) in
         let (p, e) = list_back (blob 20) (λ b. length b ≡ 20) (blob-back 20) [] (list_of addresses) written _ [] _ _ sized (r₆.there ∙ sym (append-nil w)) in
         e ∙ test-alike (each_above (blob 20) [] (list_of addresses)) _ _ _
-        (test-alike (not (below written prev)) _ _ _ (ap (λ b. pick b J.Allowed (refused_by bytes_after_end)) (eq-eqb _ _ r₆.ends)))))
+        (test-alike (not (below written prev)) _ _ _ (ap (λ b. pick b (Ok tt) (refused_by bytes_after_end)) (eq-eqb _ _ r₆.ends)))))
 
-    output-judged : length asset ≡ 32 → judged (not_below transferable_output prev) (output_given asset amount locktime threshold addresses) J.Allowed
+    output-judged : length asset ≡ 32 → judged (not_below transferable_output prev) (output_given asset amount locktime threshold addresses) (Ok tt)
         ≡ pick (eqb (length addresses % 20) 0) (rules (length addresses / 20) built) (refused_by (rule_of cut_short))
     unfolding judged
     output-judged h = ap (λ v. pick (eqb (length addresses % 20) 0) v (refused_by (rule_of cut_short))) (output-parse h)
@@ -152,13 +142,13 @@ module _ (asset : List ℕ) (amount locktime threshold : ℕ) (addresses : List 
         whole false e = refl
 
     -- a verdict z reached by the code's tests is the verdict of the format
-    pub as-output : (z : Verdict) → length asset ≡ 32
+    pub as-output : (z : Result (Unit {0}) Refusal) → length asset ≡ 32
         → z ≡ pick (eqb (length addresses % 20) 0) (rules (length addresses / 20) built) (refused_by (rule_of cut_short))
-        → z ≡ judged (not_below transferable_output prev) (output_given asset amount locktime threshold addresses) J.Allowed
+        → z ≡ judged (not_below transferable_output prev) (output_given asset amount locktime threshold addresses) (Ok tt)
     as-output z h e = e ∙ sym (output-judged h)
 
 -- the verdict z, by what a call answered, t
-module _ (t : Bool) (z x y : Verdict) where
+module _ (t : Bool) (z x y : Result (Unit {0}) Refusal) where
   pub if-rise : (l : List (List ℕ)) → t ≡ each_above (blob 20) [] l → not t ≡ false → z ≡ x → z ≡ pick (each_above (blob 20) [] l) x y
   if-rise l i j e = rw (found i (not-false t j)) e
 

@@ -9,8 +9,7 @@ use lib.ListN.{length, take, drop, length-append, length-drop}
 use lib.Seq.{take_at, take_all}
 use lib.Dec.{ltb}
 use borrow.Author.Tests.{lt-ltb, le-ltb}
-use Rattle.wire.specs.declared.Order.{Order}
-use Rattle.wire.specs.declared.Order.TheVariants.{Below, Equal, Above}
+use Rattle.std.proofs.Common.{Ordering, Less, Equal, Greater}
 use Rattle.wire.specs.Bytes.{Bytes, pick, between, digits, below}
 use Rattle.wire.specs.laws.Bytes.{bytes_drop, length_digits}
 use Rattle.wire.specs.code.Order.{order, key_below}
@@ -47,22 +46,22 @@ first-decides a c p e =
     cases false false = refl
 
 -- the order of a and b, as the call answered it, decides
-order-then : (a b : List ℕ) (x o : Order) → x ≡ order a b → x ≡ o → (t : Bool) → or_else o t ≡ decided a b t
+order-then : (a b : List ℕ) (x o : Ordering) → x ≡ order a b → x ≡ o → (t : Bool) → or_else o t ≡ decided a b t
 unfolding key_below
 order-then a b x o p q true = order-key a b x o p q (or_else o true) 0 1 refl
 order-then a b x o p q false = order-key a b x o p q (or_else o false) 0 0 refl
 
-module _ (a c p q : List ℕ) (x : Order) (e : x ≡ order a q) (f : q ≡ between 0 (length a) p) where
-  pieces : (o : Order) → x ≡ o → or_else o (below c (drop (length a) p)) ≡ below (a ++ c) p
+module _ (a c p q : List ℕ) (x : Ordering) (e : x ≡ order a q) (f : q ≡ between 0 (length a) p) where
+  pieces : (o : Ordering) → x ≡ o → or_else o (below c (drop (length a) p)) ≡ below (a ++ c) p
   pieces o h =
       let d : length a - 0 ≡ length a = omega arith in
       order-then a (take (length a) p) x o (e ∙ ap (order a) (f ∙ ap (λ n. take n p) d)) h (below c (drop (length a) p)) ∙ sym (below-pieces a c p)
 
-  pub pieces-below : x ≡ Below → true ≡ below (a ++ c) p
-  pieces-below = pieces Below
+  pub pieces-below : x ≡ Less → true ≡ below (a ++ c) p
+  pieces-below = pieces Less
 
-  pub pieces-above : x ≡ Above → false ≡ below (a ++ c) p
-  pieces-above = pieces Above
+  pub pieces-above : x ≡ Greater → false ≡ below (a ++ c) p
+  pieces-above = pieces Greater
 
   pub pieces-equal : (y : Bool) (r : List ℕ) → x ≡ Equal → y ≡ below c r → r ≡ between (length a) (length p) p → y ≡ below (a ++ c) p
   pieces-equal y r h i j = i ∙ ap (below c) (j ∙ take_all (length p - length a) (drop (length a) p) (rw length-drop (omega arith))) ∙ pieces Equal h

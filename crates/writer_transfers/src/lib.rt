@@ -3,7 +3,7 @@
 // The head is the bytes before the addresses or indices. It is built once: to be compared, and to be stored by the step.
 #![tactic(auto)]
 
-ghost use Rattle.std.specs.Prelude.{◌≡◌, ◌+◌, ◌/◌, ◌%◌, ◌^◌, ◌≤◌, [], ◌++◌, length, take};
+ghost use Rattle.std.specs.Prelude.{◌≡◌, ◌+◌, ◌/◌, ◌%◌, ◌^◌, ◌≤◌, [], ◌++◌, length, take, Ok};
 ghost use Rattle.wire.specs.Bytes.{digits, below};
 ghost use Rattle.wire.specs.Fields.{blob};
 ghost use Rattle.wire.specs.Series.{not_below};
@@ -13,15 +13,15 @@ ghost use Rattle.writer_rules.specs.Judged.{judged};
 ghost use Rattle.writer_rules.specs.Given.{addresses_of, output_given, input_given};
 ghost use Rattle.writer_rules.specs.code.Elements.{output_head, input_head, rising, each_above};
 
-use wire::{End, Order, Rule};
-use writer_rules::Verdict;
+use std::cmp::Ordering;
+use wire::{Refusal, Rule};
 
 // Copies `from` into `room` at offset `at`.
 fn put_bytes_after(room: &mut [u8], at: usize, from: &[u8])
     requires { at + length from.now ≤ length room.old }
     ensures { take (at + length from.now) room.new ≡ take at room.old ++ from.now }
 {
-    wire::put_bytes(&mut room[at..at + from.len()], from);
+    room[at..at + from.len()].copy_from_slice(from);
 }
 
 // Writes the lowest `width` bytes of `value` into `room` at offset `at`.
@@ -65,10 +65,7 @@ fn addresses_rise(addresses: &[u8]) -> bool
     ensures { result ≡ each_above (blob 20) [] (addresses_of (length addresses.now / 20) addresses.now) }
 {
     let count = addresses.len() / 20;
-    match owners::addresses_from(addresses, 0, count as u64) {
-        End::At(_) => true,
-        End::Refused(_) => false,
-    }
+    owners::addresses_from(addresses, 0, count as u64).is_ok()
 }
 
 // Is `head` followed by `rest`, as one string, strictly below `prev`?
@@ -76,9 +73,9 @@ fn pieces_below(head: &[u8], rest: &[u8], prev: &[u8]) -> bool
     ensures { result ≡ below (head.now ++ rest.now) prev.now }
 {
     match wire::order_of(head, wire::between(prev, 0, head.len())) {
-        Order::Below => true,
-        Order::Equal => wire::is_below(rest, wire::between(prev, head.len(), prev.len())),
-        Order::Above => false,
+        Ordering::Less => true,
+        Ordering::Equal => wire::is_below(rest, wire::between(prev, head.len(), prev.len())),
+        Ordering::Greater => false,
     }
 }
 
@@ -98,7 +95,7 @@ fn output_below(
 {
     let count = (addresses.len() / 20) as u64;
     *head = output_head(asset, amount, locktime, threshold, count);
-    if 4294967295 < count {
+    if count > u32::MAX as u64 {
         return wire::is_below(wire::between(head, 0, 56), wire::between(prev, 0, 56));
     }
     pieces_below(head, addresses, prev)
@@ -113,9 +110,9 @@ pub fn output_rules(
     threshold: u32,
     addresses: &[u8],
     head: &mut [u8; 60],
-) -> Verdict
+) -> Result<(), Refusal>
     ensures value { result ≡ judged (not_below transferable_output prev.now)
-        (output_given asset amount locktime threshold addresses.now) Verdict.Allowed }
+        (output_given asset amount locktime threshold addresses.now) (Ok tt) }
     ensures head_after { head.new ≡ output_head asset amount locktime threshold (length addresses.now / 20 % 256 ^ 4) }
 {
     let is_below = output_below(prev, asset, amount, locktime, threshold, addresses, head);
@@ -128,27 +125,17 @@ pub fn output_rules(
     if !owners::threshold_fits(threshold as u64, (addresses.len() / 20) as u64) {
         return writer_rules::refuse_step(Rule::BadThreshold);
     }
-    if !addresses_rise(addresses) {
+    if !addresses_rise(addresses) || is_below {
         return writer_rules::refuse_step(Rule::OutOfOrder);
     }
-    if is_below {
-        return writer_rules::refuse_step(Rule::OutOfOrder);
-    }
-    Verdict::Allowed
+    Ok(())
 }
 
 // Is each index strictly above the one before?
 fn indices_rise(indices: &[u32]) -> bool
     ensures { result ≡ rising indices.now }
 {
-    let mut i: usize = 1;
-    while i < indices.len() {
-        if indices[i] <= indices[i - 1] {
-            return false;
-        }
-        i += 1;
-    }
-    true
+    indices.is_sorted_by(|a, b| a < b)
 }
 
 // Judges an input that follows `prev`, the bytes of the input before it. Stores its head, whose first 36 bytes are the key.
@@ -160,8 +147,8 @@ pub fn input_rules(
     amount: u64,
     indices: &[u32],
     head: &mut [u8; 84],
-) -> Verdict
-    ensures value { result ≡ judged (input prev.now) (input_given txid index asset amount indices.now) Verdict.Allowed }
+) -> Result<(), Refusal>
+    ensures value { result ≡ judged (input prev.now) (input_given txid index asset amount indices.now) (Ok tt) }
     ensures head_after { head.new ≡ input_head txid index asset amount (length indices.now % 256 ^ 4) }
 {
     *head = input_head(txid, index, asset, amount, indices.len() as u64);
@@ -174,5 +161,5 @@ pub fn input_rules(
     if !indices_rise(indices) {
         return writer_rules::refuse_step(Rule::OutOfOrder);
     }
-    Verdict::Allowed
+    Ok(())
 }

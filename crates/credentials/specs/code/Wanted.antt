@@ -1,10 +1,10 @@
 -- The credentials that are still wanted ahead of a cursor, in an unsigned part that was read, and what the steps from one to the next return.
 -- Assumes nothing.
-use Rattle.std.specs.Prelude.{◌≡◌, ℕ, ◌<◌, List, [], ◌∷◌, ◌++◌, length}
+use Rattle.wire.specs.declared.Refusal.{Refusal}
+use Rattle.std.specs.Prelude.{◌≡◌, ℕ, ◌<◌, List, [], ◌∷◌, ◌++◌, length, Result, Option, None, Some}
 use Rattle.wire.specs.Format.{took, read}
 use Rattle.wire.specs.Series.{series_from}
 use Rattle.wire.specs.code.Answer.{ended}
-use Rattle.wire.specs.declared.End.{End}
 use Rattle.transaction.specs.Credentials.{credential_code, Want, each, pieces}
 use Rattle.transaction.specs.Plan.{elements_of, Plan, many, plan_of}
 use Rattle.transaction.specs.Form.{Value, form, element_asks, asked, wanted}
@@ -16,7 +16,6 @@ use Rattle.credentials.specs.declared.Wanting.{Wanting}
 use Rattle.credentials.specs.declared.Begun.{Begun}
 use Rattle.credentials.specs.declared.Begun.TheVariants as B
 use Rattle.credentials.specs.declared.Wanted.{Wanted}
-use Rattle.credentials.specs.declared.Wanted.TheVariants as W
 
 module _ (most : ℕ) (s : List ℕ) where
   -- the segments of p stand from `at` on and want ws
@@ -49,38 +48,38 @@ module _ (most : ℕ) (s : List ℕ) where
     pub after : others-are others
 
   -- what r says of ws, if it enters a segment that p follows
-  abbrev pub BegunAs : Plan → List Want → Begun → Type 0
-  BegunAs p ws B.Nothing = ws ≡ []
-  BegunAs p ws (B.Into asks c m) = WantsIn asks c p m ws
-  BegunAs p ws (B.Asks t n m) = First t n (WantsFrom p m) ws
+  abbrev pub BegunAs : Plan → List Want → Option Begun → Type 0
+  BegunAs p ws None = ws ≡ []
+  BegunAs p ws (Some (B.Into asks c m)) = WantsIn asks c p m ws
+  BegunAs p ws (Some (B.Asks t n m)) = First t n (WantsFrom p m) ws
 
   module _ (type_id : ℕ) where
     -- ws are wanted ahead of a cursor, in a transaction of this type
     abbrev pub Wants : Wanting → List Want → Type 0
     Wants c ws = WantsIn c.asks c.left (due c.phase (plan_of type_id)) c.at ws
 
-    abbrev pub Nexts : List Want → Wanted → Type 0
-    Nexts ws W.Nothing = ws ≡ []
-    Nexts ws (W.Credential t n c) = First t n (Wants c) ws
+    abbrev pub Nexts : List Want → Option Wanted → Type 0
+    Nexts ws None = ws ≡ []
+    Nexts ws (Some w) = First w.credential w.signatures (Wants w.next) ws
 
-abbrev pub ListBegins : ListName → List ℕ → ℕ → Begun → Type 0
+abbrev pub ListBegins : ListName → List ℕ → ℕ → Option Begun → Type 0
 ListBegins l s at r = (most least : ℕ) (p : Plan) (ws : List Want) → WantsFrom most s (many l least p) at ws → BegunAs most s p ws r
 
 -- r enters the first segment of p
-abbrev pub Begins : Plan → List ℕ → ℕ → Begun → Type 0
+abbrev pub Begins : Plan → List ℕ → ℕ → Option Begun → Type 0
 Begins p s at r = (most : ℕ) (ws : List Want) → WantsFrom most s p at ws → BegunAs most s (tail p) ws r
 
 -- a segment is entered only if one is due, so that the steps end on any bytes
-abbrev pub BegunLive : Plan → Begun → Type 0
-BegunLive p B.Nothing = Unit {0}
-BegunLive p (B.Into asks c m) = Live p
-BegunLive p (B.Asks t n m) = Live p
+abbrev pub BegunLive : Plan → Option Begun → Type 0
+BegunLive p None = Unit {0}
+BegunLive p (Some (B.Into asks c m)) = Live p
+BegunLive p (Some (B.Asks t n m)) = Live p
 
-abbrev pub NextWants : ℕ → List ℕ → Wanting → Wanted → Type 0
+abbrev pub NextWants : ℕ → List ℕ → Wanting → Option Wanted → Type 0
 NextWants type_id s c r = (most : ℕ) (ws : List Want) → Wants most s type_id c ws → Nexts most s type_id ws r
 
 -- the step inside a list does not depend on the type
-abbrev pub ElementWants : List ℕ → Wanting → Wanted → Type 0
+abbrev pub ElementWants : List ℕ → Wanting → Option Wanted → Type 0
 ElementWants s c r = (type_id : ℕ) → NextWants type_id s c r
 
 -- the cursor just past the outputs, which ask for nothing
@@ -88,5 +87,5 @@ abbrev pub first_wanting : Layout → Wanting
 first_wanting l = record { phase = 2; asks = 0; at = l.inputs_at; left = 0 }
 
 -- if `count` credentials are wanted ahead of the cursor, r is the offset just past the credentials from `at` on, or their refusal
-abbrev pub Beside : ℕ → List ℕ → Wanting → ℕ → ℕ → End → Type 0
+abbrev pub Beside : ℕ → List ℕ → Wanting → ℕ → ℕ → Result ℕ Refusal → Type 0
 Beside type_id s c count at r = (most : ℕ) (ws : List Want) → Wants most s type_id c ws → length ws ≡ count → r ≡ ended (pieces (each ws)) s at

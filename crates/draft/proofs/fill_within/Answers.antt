@@ -6,8 +6,8 @@ use Rattle.draft.proofs.fill_within.Goals as goal
 pub returns-in_default : goal.returns-in_default
 returns-in_default c = search fill-17
 
-pub overflow_add-layout : goal.overflow_add-layout
-overflow_add-layout c = search start_fits
+pub overflow_add-first : goal.overflow_add-first
+overflow_add-first c = search start_fits
 
 pub returns-in_default-place_of : goal.returns-in_default-place_of
 returns-in_default-place_of c = search fill-15

@@ -20,7 +20,7 @@ overflow_add-at c = search start_fits
 -- the search does not enter as many facts as hold here
 pub returns : goal.returns
 returns c =
-    merge-alike _ _ _ _ _ c.check_within.ensures _ _ c.in-Accepted.is c.type_inv.first
-    _ c.check_within-2.ensures _ _ c.in-Accepted-check_within.is c.type_inv.second
+    merge-alike _ _ _ _ _ c.check_within.ensures _ _ c.in-Ok.is c.type_inv.first
+    _ c.check_within-2.ensures _ _ c.in-Ok-check_within.is c.type_inv.second
     _ _ c.between.ensures c.between-2.ensures _ c.same_bytes.ensures
     (ap not c.if-not-same_bytes.false) _ c.merge_alike.ensures

@@ -1,10 +1,6 @@
-use native.Mathlib.Omega.{arith}
 use Rattle.draft_slots.proofs.Scanning.{range-ends, slots-counted}
 use Rattle.draft_slot_table.proofs.Scanning.{counting}
 use Rattle.draft_slot_table.proofs.count.Goals as goal
-
-pub loop-left-init : goal.loop-left-init
-loop-left-init c = (omega arith, omega arith)
 
 pub returns-in_default : goal.returns-in_default
 returns-in_default c = search counting
@@ -12,8 +8,8 @@ returns-in_default c = search counting
 pub overflow_add-slots : goal.overflow_add-slots
 overflow_add-slots c = search slots-counted
 
-pub loop-left-preserved : goal.loop-left-preserved
-loop-left-preserved c = (search counting, search range-ends)
+pub loop-preserved : goal.loop-preserved
+loop-preserved c = (search counting, search range-ends)
 
 pub returns : goal.returns
 returns c = search counting

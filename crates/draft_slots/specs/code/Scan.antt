@@ -1,25 +1,21 @@
 -- The slots of a draft as the code finds them, by the counts in its credentials. In an accepted transaction they are its slots (`scanned`, in
 -- draft/proofs/Scanned). A credential that is cut short has none. Assumes nothing.
-use Rattle.std.specs.Prelude.{◌&&◌, List, [], ◌∷◌, ◌++◌, ℕ, zero, suc, ◌+◌, ◌*◌, ltb, eqb, length, get_or}
-use Rattle.std.proofs.Math.Option.{Option, none, some}
+use Rattle.std.specs.Prelude.{◌&&◌, List, [], ◌∷◌, ◌++◌, ℕ, zero, suc, ◌+◌, ◌*◌, ltb, eqb, length, get_or, Some, None, Option}
 use Rattle.wire.specs.Bytes.{pick}
 use Rattle.wire.specs.Fields.{integer, blob}
 use Rattle.transaction.specs.Slots.{blank, slot_at, put_slot}
 use Rattle.draft_slots.specs.Joining.{same}
 use Rattle.draft_slots.specs.declared.SlotRange.{SlotRange}
-use Rattle.draft_slots.specs.declared.SlotRange.TheVariants as R
-use Rattle.draft_slots.specs.declared.Found.{Found}
-use Rattle.draft_slots.specs.declared.Found.TheVariants as F
 
 -- the slots of the credential that starts at `at`
-abbrev pub range_at : List ℕ → ℕ → SlotRange
+abbrev pub range_at : List ℕ → ℕ → Option SlotRange
 range_at s at =
-    (blob 4).parse s at (λ e. R.Nothing) λ t i. (integer 4).parse s i (λ e. R.Nothing) λ c first. (blob (65 * c)).parse s first (λ e. R.Nothing)
-    λ b next. R.Slots first c next
+    (blob 4).parse s at (λ e. None) λ t i. (integer 4).parse s i (λ e. None) λ c first. (blob (65 * c)).parse s first (λ e. None)
+    λ b next. Some (record { first = first; count = c; next = next })
 
-abbrev pub on_range : {A : Type 0} → SlotRange → A → (ℕ → ℕ → ℕ → A) → A
-on_range (R.Slots first c next) stop go = go first c next
-on_range R.Nothing stop go = stop
+abbrev pub on_range : {A : Type 0} → Option SlotRange → A → (ℕ → ℕ → ℕ → A) → A
+on_range (Some r) stop go = go r.first r.count r.next
+on_range None stop go = stop
 
 -- c slots from p on, one after the other
 unfoldable pub slot_range : ℕ → ℕ → List ℕ
@@ -32,13 +28,9 @@ unfolding slot_range
 scan_from zero s q = []
 scan_from (suc n) s q = on_range (range_at s q) [] λ first c next. slot_range c first ++ scan_from n s next
 
-abbrev pub found : Option ℕ → Found
-found none = F.Nothing
-found (some k) = F.At k
-
 -- the offset of slot k
-abbrev pub placed : List ℕ → ℕ → Found
-placed ps k = pick (ltb k (length ps)) (F.At (get_or ps k 0)) F.Nothing
+abbrev pub placed : List ℕ → ℕ → Option ℕ
+placed ps k = pick (ltb k (length ps)) (Some (get_or ps k 0)) None
 
 -- ---- joining in place
 

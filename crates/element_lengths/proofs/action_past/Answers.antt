@@ -1,22 +1,21 @@
--- `element_lengths::action_past` meets its contract.
--- Assumes nothing.
+-- `element_lengths::action_past` meets its contract. Assumes nothing.
 use Rattle.std.proofs.Common.{rules}
 use Rattle.wire.specs.Sequence.{and_then}
 use Rattle.element_lengths.proofs.Passing.{passing, action-answered}
 use Rattle.element_lengths.proofs.action_past.Goals as goal
 
-pub returns-in_default : goal.returns-in_default
+pub returns-in_err-type_id : goal.returns-in_err-type_id
 unfolding and_then
-returns-in_default c = action-answered _ _ (search rules) _ (search passing depth 8)
+returns-in_err-type_id c = action-answered _ _ (search rules) _ (search (passing, c.in_err-type_id.was) depth 8)
 
-pub returns-in-Refused : goal.returns-in-Refused
+pub returns-in_err-asked : goal.returns-in_err-asked
 unfolding and_then
-returns-in-Refused c = action-answered _ _ (search rules) _ (search passing depth 8)
+returns-in_err-asked c = action-answered _ _ (search rules) _ (search (passing, c.in_ok-type_id.was, c.in_err-asked.was) depth 8)
 
-pub returns-in-Refused-recipients_past : goal.returns-in-Refused-recipients_past
+pub returns-in_err-next : goal.returns-in_err-next
 unfolding and_then
-returns-in-Refused-recipients_past c = action-answered _ _ (search rules) _ (search passing depth 8)
+returns-in_err-next c = action-answered _ _ (search rules) _ (search (passing, c.in_ok-type_id.was, c.in_ok-asked.was, c.in_err-next.was) depth 8)
 
-pub returns-in-At : goal.returns-in-At
+pub returns : goal.returns
 unfolding and_then
-returns-in-At c = action-answered _ _ (search rules) _ (search passing depth 8)
+returns c = action-answered _ _ (search rules) _ (search (passing, c.in_ok-type_id.was, c.in_ok-asked.was, c.in_ok-next.was) depth 8)

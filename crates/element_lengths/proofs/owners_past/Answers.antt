@@ -1,18 +1,17 @@
--- `element_lengths::owners_past` meets its contract.
--- Assumes nothing.
+-- `element_lengths::owners_past` meets its contract. Assumes nothing.
 use Rattle.std.proofs.Common.{rules}
 use Rattle.wire.specs.Sequence.{and_then}
 use Rattle.element_lengths.proofs.Passing.{passing, owners-passed}
 use Rattle.element_lengths.proofs.owners_past.Goals as goal
 
-pub returns-in_default : goal.returns-in_default
+pub returns-in_err-addresses : goal.returns-in_err-addresses
 unfolding and_then
-returns-in_default c = owners-passed _ _ (search rules) _ (search passing depth 8)
+returns-in_err-addresses c = owners-passed _ _ (search rules) _ (search (passing, c.in_err-addresses.was) depth 8)
 
-pub returns-in-Refused : goal.returns-in-Refused
+pub returns-in_err-next : goal.returns-in_err-next
 unfolding and_then
-returns-in-Refused c = owners-passed _ _ (search rules) _ (search passing depth 8)
+returns-in_err-next c = owners-passed _ _ (search rules) _ (search (passing, c.in_ok-addresses.was, c.in_err-next.was) depth 8)
 
-pub returns-in-Value : goal.returns-in-Value
+pub returns : goal.returns
 unfolding and_then
-returns-in-Value c = owners-passed _ _ (search rules) _ (search passing depth 8)
+returns c = owners-passed _ _ (search rules) _ (search (passing, c.in_ok-addresses.was, c.in_ok-next.was) depth 8)

@@ -1,22 +1,21 @@
--- `element_lengths::terms_past` meets its contract.
--- Assumes nothing.
+-- `element_lengths::terms_past` meets its contract. Assumes nothing.
 use Rattle.std.proofs.Common.{rules}
 use Rattle.wire.specs.Sequence.{and_then}
 use Rattle.element_lengths.proofs.Passing.{passing, terms-answered}
 use Rattle.element_lengths.proofs.terms_past.Goals as goal
 
-pub returns-in_default : goal.returns-in_default
+pub returns-in_err-count : goal.returns-in_err-count
 unfolding and_then
-returns-in_default c = terms-answered _ _ (search rules) _ (search passing depth 8)
+returns-in_err-count c = terms-answered _ _ (search rules) _ (search (passing, c.in_err-count.was) depth 8)
 
-pub returns-in-Refused : goal.returns-in-Refused
+pub returns-in_err-payload : goal.returns-in_err-payload
 unfolding and_then
-returns-in-Refused c = terms-answered _ _ (search rules) _ (search passing depth 8)
+returns-in_err-payload c = terms-answered _ _ (search rules) _ (search (passing, c.in_ok-count.was, c.in_err-payload.was) depth 8)
 
-pub returns-in-Refused-string_past : goal.returns-in-Refused-string_past
+pub returns-in_err-next : goal.returns-in_err-next
 unfolding and_then
-returns-in-Refused-string_past c = terms-answered _ _ (search rules) _ (search passing depth 8)
+returns-in_err-next c = terms-answered _ _ (search rules) _ (search (passing, c.in_ok-count.was, c.in_ok-payload.was, c.in_err-next.was) depth 8)
 
-pub returns-in-At-string_past : goal.returns-in-At-string_past
+pub returns : goal.returns
 unfolding and_then
-returns-in-At-string_past c = terms-answered _ _ (search rules) _ (search passing depth 8)
+returns c = terms-answered _ _ (search rules) _ (search (passing, c.in_ok-count.was, c.in_ok-payload.was, c.in_ok-next.was) depth 8)

@@ -1,24 +1,15 @@
 -- `entry_fields::input_at` meets its contract. Assumes nothing.
-use Rattle.entry_fields.proofs.Passing.{finding}
+use Rattle.wire.proofs.Reading.{some-value, some-part}
 use Rattle.entry_fields.proofs.input_at.Goals as goal
 
-pub returns-in_default : goal.returns-in_default
-returns-in_default c = search finding depth 12
-
-pub returns-in_default-u32_at : goal.returns-in_default-u32_at
-returns-in_default-u32_at c = search finding depth 12
-
-pub returns-in_default-field_at : goal.returns-in_default-field_at
-returns-in_default-field_at c = search finding depth 12
-
-pub returns-in_default-u32_at-2 : goal.returns-in_default-u32_at-2
-returns-in_default-u32_at-2 c = search finding depth 12
-
-pub returns-in_default-u64_at : goal.returns-in_default-u64_at
-returns-in_default-u64_at c = search finding depth 12
-
-pub returns-in_default-u32_at-3 : goal.returns-in_default-u32_at-3
-returns-in_default-u32_at-3 c = search finding depth 12
-
 pub returns : goal.returns
-returns c = search finding depth 12
+returns c = search (
+  some-value,
+  some-part,
+  c.in_ok-index_at.was,
+  c.in_ok-index.was,
+  c.in_ok-type_at.was,
+  c.in_ok-amount_at.was,
+  c.in_ok-amount.was,
+  c.in_ok-indices_count.was,
+) depth 12

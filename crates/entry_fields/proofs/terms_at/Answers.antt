@@ -1,26 +1,8 @@
 -- `entry_fields::terms_at` meets its contract. Assumes nothing.
 use Rattle.std.proofs.Common.{rules}
-use Rattle.wire.proofs.Reading.{value-small, product-fits}
-use Rattle.entry_fields.proofs.Passing.{finding}
+use Rattle.wire.proofs.Reading.{product-fits}
+use Rattle.entry_fields.proofs.Passing.{some-small}
 use Rattle.entry_fields.proofs.terms_at.Goals as goal
 
-pub returns-in_default : goal.returns-in_default
-returns-in_default c = search finding depth 12
-
 pub overflow_mul-indices_count : goal.overflow_mul-indices_count
-overflow_mul-indices_count c = search (rules, product-fits, value-small)
-
-pub returns-in_default-field_at : goal.returns-in_default-field_at
-returns-in_default-field_at c = search finding depth 12
-
-pub returns-in_default-u32_at : goal.returns-in_default-u32_at
-returns-in_default-u32_at c = search finding depth 12
-
-pub returns-in_default-u32_at-2 : goal.returns-in_default-u32_at-2
-returns-in_default-u32_at-2 c = search finding depth 12
-
-pub returns-in_default-field_at-2 : goal.returns-in_default-field_at-2
-returns-in_default-field_at-2 c = search finding depth 12
-
-pub returns : goal.returns
-returns c = search finding depth 12
+overflow_mul-indices_count c = search (rules, product-fits, some-small, c.in_ok-indices_count.was)

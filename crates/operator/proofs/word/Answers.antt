@@ -2,8 +2,8 @@
 use Rattle.operator.proofs.Listing.{packing}
 use Rattle.operator.proofs.word.Goals as goal
 
-pub returns-in-Listed : goal.returns-in-Listed
-returns-in-Listed c = search packing
+pub returns-in-Ok : goal.returns-in-Ok
+returns-in-Ok c = search packing
 
-pub returns-in-Refused : goal.returns-in-Refused
-returns-in-Refused c = search packing
+pub returns-in-Err : goal.returns-in-Err
+returns-in-Err c = search packing

@@ -1,33 +1,24 @@
-use native.Mathlib.Omega.{arith}
-use Rattle.owners.proofs.Reading.{address-turn}
-use Rattle.owners.proofs.Reading.{no_address, address-first, address-gone, address-cut, address-last}
+use Rattle.wire.proofs.Trying.{passed-on}
+use Rattle.owners.proofs.Reading.{no_address, address-first, address-gone, address-cut, address-again, address-not-above, address-last}
 use Rattle.owners.proofs.addresses_from.Goals as goal
 
 pub returns-then-count-eq0 : goal.returns-then-count-eq0
 returns-then-count-eq0 c = search no_address
 
-pub loop-left-init : goal.loop-left-init
-loop-left-init c = search address-first
+pub loop-init : goal.loop-init
+loop-init c = search address-first
 
-pub returns-in_default : goal.returns-in_default
-returns-in_default c = search address-gone
+pub returns-in_err-at : goal.returns-in_err-at
+returns-in_err-at c = search (address-gone, passed-on, c.in_err-at.was)
 
-pub returns-in_default-field_at : goal.returns-in_default-field_at
-returns-in_default-field_at c = search address-cut
+pub returns-in_err-field_at : goal.returns-in_err-field_at
+returns-in_err-field_at c = search (address-cut, passed-on, c.in_ok-at.was, c.in_err-field_at.was)
 
-pub loop-left-preserved : goal.loop-left-preserved
-loop-left-preserved c =
-    let turn = address-turn _ c.type_inv.s _ c.loop-left.prev _ c.loop-left.invariant _ _ c.field_at.ensures c.in-At.is (omega arith)
-    _ _ _ c.address_below.ensures c.address_at.ensures c.address_at-in-loop-left.ensures _ c.field_at-in-loop-left.ensures
-    _ c.in-At-field_at.is in
-    turn.again c.if-address_below.true
+pub returns-then-not-address_below : goal.returns-then-not-address_below
+returns-then-not-address_below c = search (address-not-above, c.in_ok-at.was, c.in_ok-field_at.was) depth 6
 
-pub returns-else-address_below : goal.returns-else-address_below
-returns-else-address_below c =
-    let turn = address-turn _ c.type_inv.s _ c.loop-left.prev _ c.loop-left.invariant _ _ c.field_at.ensures c.in-At.is (omega arith)
-    _ _ _ c.address_below.ensures c.address_at.ensures c.address_at-in-loop-left.ensures _ c.field_at-in-loop-left.ensures
-    _ c.in-At-field_at.is in
-    turn.not_above c.if-address_below.false _ c.refuse.ensures
+pub loop-preserved : goal.loop-preserved
+loop-preserved c = search (address-again, c.in_ok-at.was, c.in_ok-field_at.was) depth 6
 
 pub returns : goal.returns
 returns c = search address-last

@@ -5,22 +5,22 @@ use Rattle.owners.proofs.Reading.{if-fits, if-unfit}
 use Rattle.owners.specs.Owners.{owners}
 use Rattle.owners.proofs.owners_at.Goals as goal
 
-pub returns-in_default : goal.returns-in_default
+pub returns-in_err-threshold_at : goal.returns-in_err-threshold_at
 unfolding owners
-returns-in_default c = search reading depth 12
+returns-in_err-threshold_at c = search (reading, c.in_err-threshold_at.was) depth 12
 
-pub returns-in_default-u32_at : goal.returns-in_default-u32_at
+pub returns-in_err-threshold : goal.returns-in_err-threshold
 unfolding owners
-returns-in_default-u32_at c = search reading depth 12
+returns-in_err-threshold c = search (reading, c.in_ok-threshold_at.was, c.in_err-threshold.was) depth 12
 
-pub returns-in_default-u32_at-2 : goal.returns-in_default-u32_at-2
+pub returns-in_err-count : goal.returns-in_err-count
 unfolding owners
-returns-in_default-u32_at-2 c = search reading depth 12
+returns-in_err-count c = search (reading, c.in_ok-threshold_at.was, c.in_ok-threshold.was, c.in_err-count.was) depth 12
 
 pub returns-then-not-threshold_fits : goal.returns-then-not-threshold_fits
 unfolding owners
-returns-then-not-threshold_fits c = search (reading, if-unfit) depth 12
+returns-then-not-threshold_fits c = search (reading, if-unfit, c.in_ok-threshold_at.was, c.in_ok-threshold.was, c.in_ok-count.was) depth 12
 
 pub returns : goal.returns
 unfolding owners
-returns c = search (reading, if-fits) depth 12
+returns c = search (reading, if-fits, c.in_ok-threshold_at.was, c.in_ok-threshold.was, c.in_ok-count.was) depth 12

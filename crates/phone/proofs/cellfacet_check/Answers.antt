@@ -6,8 +6,8 @@ use Rattle.phone.proofs.cellfacet_check.Goals as goal
 pub word-requires : goal.word-requires
 word-requires c = search refused-small
 
-pub returns-in-Accepted : goal.returns-in-Accepted
-returns-in-Accepted c = search packing
+pub returns-in-Ok : goal.returns-in-Ok
+returns-in-Ok c = search packing
 
-pub returns-in-Refused : goal.returns-in-Refused
-returns-in-Refused c = search packing
+pub returns-in-Err : goal.returns-in-Err
+returns-in-Err c = search packing

@@ -6,8 +6,8 @@ use Rattle.phone.proofs.cellfacet_merge.Goals as goal
 pub word-requires : goal.word-requires
 word-requires c = search (called-small, slice-bytes)
 
-pub returns-in-Done : goal.returns-in-Done
-returns-in-Done c = search merged-packing
+pub returns-in-Ok : goal.returns-in-Ok
+returns-in-Ok c = search merged-packing
 
-pub returns-in-Refused : goal.returns-in-Refused
-returns-in-Refused c = search merged-packing
+pub returns-in-Err : goal.returns-in-Err
+returns-in-Err c = search merged-packing

@@ -1,17 +1,13 @@
-use Rattle.string.proofs.Reading.{unprintable-all, characters}
+-- `string::first_unprintable` meets its contract. Assumes nothing.
+use Rattle.std.proofs.Common.{rules, tests}
+use Rattle.std.proofs.lemmas.Iterator.{YieldsList-from_slice}
+use Rattle.std.proofs.lemmas.Iterator.Search.{position_from_yields_List}
+use Rattle.string.proofs.Reading.{is_unprintable, unprintable-found}
 use Rattle.string.proofs.first_unprintable.Goals as goal
 
-pub loop-i-init : goal.loop-i-init
-loop-i-init c = unprintable-all _
-
-pub returns-then-s-i-lt32 : goal.returns-then-s-i-lt32
-returns-then-s-i-lt32 c = search characters
-
-pub returns-then-s-i-gt126 : goal.returns-then-s-i-gt126
-returns-then-s-i-gt126 c = search characters
-
-pub loop-i-preserved : goal.loop-i-preserved
-loop-i-preserved c = search characters
-
 pub returns : goal.returns
-returns c = search characters
+returns c =
+    let found =
+    position_from_yields_List is_unprintable _ _ _ c.position.ensures.ran (YieldsList-from_slice c.args.s.now cc)
+    (λ x b q k. search (rules, tests)) in
+    rw c.unwrap_or.ensures (unprintable-found c.args.s.now c.position.result found)

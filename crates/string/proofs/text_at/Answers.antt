@@ -1,26 +1,21 @@
 -- `string::text_at` meets its contract.
 -- Assumes nothing.
 use Rattle.std.proofs.Common.{rules}
-use Rattle.wire.proofs.Reading.{on_value, on-short, on-part, on-cut, tests}
-use Rattle.string.proofs.Reading.{unprintable-fits, if-printable, if-unprintable}
+use Rattle.string.proofs.Reading.{reading, if-length-wrong, unprintable-fits, if-printable, if-unprintable}
 use Rattle.string.specs.Strings.{text}
 use Rattle.string.proofs.text_at.Goals as goal
 
-pub returns-in_default : goal.returns-in_default
+pub returns-in_err-length : goal.returns-in_err-length
 unfolding text
-returns-in_default c = search (on_value, on-short, tests) depth 12
+returns-in_err-length c = search (reading, c.in_err-length.was) depth 12
 
 pub returns-then-length-eq0 : goal.returns-then-length-eq0
 unfolding text
-returns-then-length-eq0 c = search (on_value, on-short, tests) depth 12
+returns-then-length-eq0 c = search (reading, if-length-wrong, c.in_ok-length.was, c.then-length-eq0.either) depth 12
 
-pub returns-then-most-length : goal.returns-then-most-length
+pub returns-in_err-next : goal.returns-in_err-next
 unfolding text
-returns-then-most-length c = search (on_value, on-short, tests) depth 12
-
-pub returns-in_default-field_at : goal.returns-in_default-field_at
-unfolding text
-returns-in_default-field_at c = search (on_value, on-short, on-part, on-cut, tests) depth 12
+returns-in_err-next c = search (reading, c.in_ok-length.was, c.in_err-next.was) depth 12
 
 pub overflow_add-first : goal.overflow_add-first
 unfolding text
@@ -28,8 +23,8 @@ overflow_add-first c = search (rules, unprintable-fits)
 
 pub returns-then-printable-length : goal.returns-then-printable-length
 unfolding text
-returns-then-printable-length c = search (on_value, on-part, tests, if-unprintable) depth 12
+returns-then-printable-length c = search (reading, if-unprintable, c.in_ok-length.was, c.in_ok-next.was) depth 12
 
 pub returns : goal.returns
 unfolding text
-returns c = search (on_value, on-part, tests, if-printable) depth 12
+returns c = search (reading, if-printable, c.in_ok-length.was, c.in_ok-next.was) depth 12

@@ -2,8 +2,8 @@
 use Rattle.test_exports.proofs.Encoding.{filling}
 use Rattle.test_exports.proofs.cellfacet_test_fill.Goals as goal
 
-pub returns-in-Done : goal.returns-in-Done
-returns-in-Done c = search filling
+pub returns-in-Ok : goal.returns-in-Ok
+returns-in-Ok c = search filling
 
-pub returns-in-Refused : goal.returns-in-Refused
-returns-in-Refused c = search filling
+pub returns-in-Err : goal.returns-in-Err
+returns-in-Err c = search filling

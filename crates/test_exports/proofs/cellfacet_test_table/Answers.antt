@@ -2,8 +2,8 @@
 use Rattle.test_exports.proofs.Encoding.{encoding}
 use Rattle.test_exports.proofs.cellfacet_test_table.Goals as goal
 
-pub returns-in-Listed : goal.returns-in-Listed
-returns-in-Listed c = search encoding
+pub returns-in-Ok : goal.returns-in-Ok
+returns-in-Ok c = search encoding
 
-pub returns-in-Refused : goal.returns-in-Refused
-returns-in-Refused c = search encoding
+pub returns-in-Err : goal.returns-in-Err
+returns-in-Err c = search encoding

@@ -1,5 +1,5 @@
 -- Entry n as integers, each at its own index of a lent array. Assumes nothing.
-use Rattle.std.specs.Prelude.{ℕ, List, [], ◌∷◌, ◌++◌, length, take, drop, set}
+use Rattle.std.specs.Prelude.{ℕ, Result, Ok, Err, List, [], ◌∷◌, ◌++◌, length, take, drop, set}
 use Rattle.wire.specs.Numbers.{number_of}
 use Rattle.owners.specs.declared.OwnersFields.{OwnersFields}
 use Rattle.element.specs.declared.OutputFields.{OutputFields}
@@ -11,8 +11,8 @@ use Rattle.element.specs.declared.OperationFields.{OperationFields}
 use Rattle.transaction.specs.declared.CredentialFields.{CredentialFields}
 use Rattle.transaction.specs.declared.Entry.{Entry}
 use Rattle.transaction.specs.declared.Entry.TheVariants as E
-use Rattle.entry.specs.declared.EntryAnswer.{EntryAnswer}
-use Rattle.entry.specs.declared.EntryAnswer.TheVariants as A
+use Rattle.wire.specs.declared.Refusal.{Refusal}
+use Rattle.entry.specs.declared.Found.{Found}
 use Rattle.entry.specs.declared.EntryRead.{EntryRead}
 
 -- an index and the integer stored there
@@ -64,9 +64,9 @@ entry_values (E.InitialStateOutput f) = (2, 6) ∷ output_values f
 entry_values (E.Credential f) = (2, 7) ∷ credential_values f
 
 -- 0 number, 1 place, 3 start, 4 end
-abbrev pub answer_values : EntryAnswer → List Value
-answer_values (A.Found f start end bytes) = (0, 0) ∷ (1, bytes) ∷ (3, start) ∷ (4, end) ∷ entry_values f
-answer_values (A.Refused e) = (0, number_of e) ∷ (1, e.place) ∷ []
+abbrev pub answer_values : Result Found Refusal → List Value
+answer_values (Ok f) = (0, 0) ∷ (1, f.bytes) ∷ (3, f.start) ∷ (4, f.end) ∷ entry_values f.fields
+answer_values (Err e) = (0, number_of e) ∷ (1, e.place) ∷ []
 
 pub record ExportedEntry : Type 0 where
   pub numbers : List ℕ

@@ -2,11 +2,11 @@
 use Rattle.upload.proofs.Laying.{showing}
 use Rattle.upload.proofs.shown.Goals as goal
 
-pub returns-then-number_of-eq-CUT_SHORT : goal.returns-then-number_of-eq-CUT_SHORT
-returns-then-number_of-eq-CUT_SHORT c = search showing
+pub returns-in_err-refusal : goal.returns-in_err-refusal
+returns-in_err-refusal c = search (showing, c.in_err-refusal.was)
 
-pub returns-in-Accepted : goal.returns-in-Accepted
-returns-in-Accepted c = search showing
+pub returns-in-CutShort : goal.returns-in-CutShort
+returns-in-CutShort c = search (showing, c.in_ok-refusal.was)
 
-pub returns-else-number_of-eq-CUT_SHORT : goal.returns-else-number_of-eq-CUT_SHORT
-returns-else-number_of-eq-CUT_SHORT c = search showing
+pub returns-in_default : goal.returns-in_default
+returns-in_default c = search (showing, c.in_ok-refusal.was)

@@ -1,14 +1,7 @@
-use Rattle.wire.proofs.Bytes.{below_all, separating}
+use mathlib.Core.Path.{ap, ◌∙◌}
+use Rattle.std.specs.Ordering.{is_lt}
+use Rattle.wire.proofs.Bytes.{order-lt}
 use Rattle.wire.proofs.is_below.Goals as goal
 
-pub loop-i-init : goal.loop-i-init
-loop-i-init c = below_all _ _
-
-pub returns-then-a-i : goal.returns-then-a-i
-returns-then-a-i c = search separating
-
-pub loop-i-preserved : goal.loop-i-preserved
-loop-i-preserved c = search separating
-
 pub returns : goal.returns
-returns c = search separating
+returns c = c.is_lt.ensures ∙ ap is_lt c.order_of.ensures ∙ order-lt _ _

@@ -1,12 +1,11 @@
--- `wire::key_below` meets its contract. Assumes nothing.
-use Rattle.wire.proofs.Bytes.{ordered}
+use Rattle.wire.proofs.Bytes.{order-key}
 use Rattle.wire.proofs.key_below.Goals as goal
 
-pub returns-in-Below : goal.returns-in-Below
-returns-in-Below c = search ordered
+pub returns-in-Less : goal.returns-in-Less
+returns-in-Less c = search order-key
 
 pub returns-in-Equal : goal.returns-in-Equal
-returns-in-Equal c = search ordered
+returns-in-Equal c = search order-key
 
-pub returns-in-Above : goal.returns-in-Above
-returns-in-Above c = search ordered
+pub returns-in-Greater : goal.returns-in-Greater
+returns-in-Greater c = search order-key

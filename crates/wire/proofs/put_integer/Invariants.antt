@@ -1,5 +1,5 @@
--- `wire::put_integer` meets its contract. The invariant: the bytes from i on are written, and rest is what is left of the integer. Assumes nothing.
-use Prim.Native.Nat.{◌-◌, ◌/◌, ◌%◌, ◌^◌, ◌≤◌}
+-- The invariant: the bytes from i on are written, and rest is what is left of the integer. Assumes nothing.
+use Prim.Native.Nat.{◌-◌, ◌/◌, ◌%◌, ◌^◌}
 use mathlib.Core.Path.{◌≡◌}
 use mathlib.Core.List.{◌++◌}
 use lib.ListN.{length, take}
@@ -7,8 +7,5 @@ use Rattle.wire.specs.Bytes.{digits}
 use Rattle.wire.proofs.put_integer.Given as goal
 
 abbrev pub invariant-loop-i : goal.invariant-loop-i
-invariant-loop-i l = (l.i ≤ length l.initial.room) × (length l.room ≡ length l.initial.room) × (l.rest ≡ l.value / 256 ^ (length l.initial.room - l.i))
+invariant-loop-i l = (l.rest ≡ l.value / 256 ^ (length l.initial.room - l.i))
     × (l.room ≡ take l.i l.initial.room ++ digits (length l.initial.room - l.i) (l.value % 256 ^ (length l.initial.room - l.i)))
-
-abbrev pub decreases-loop-i : goal.decreases-loop-i
-decreases-loop-i l = l.i

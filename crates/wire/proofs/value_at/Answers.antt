@@ -1,26 +1,19 @@
-use Rattle.std.proofs.Common.{rules}
+use native.Mathlib.Omega.{arith}
 use Prim.Native.Nat.{◌+◌}
 use mathlib.Core.Path.{◌≡◌, refl}
-use native.Mathlib.Omega.{arith}
 use Rattle.wire.specs.Bytes.{value}
 use Rattle.wire.proofs.Bytes.{value-more, value_room}
 use Rattle.wire.proofs.value_at.Goals as goal
 
 pub loop-i-init : goal.loop-i-init
 unfolding value
-loop-i-init c = (search rules, refl)
-
-pub overflow_cast-byte : goal.overflow_cast-byte
-unfolding value
-overflow_cast-byte c = omega (arith, c.type_inv.s (c.args.at + c.loop-i.i))
+loop-i-init c = refl
 
 pub overflow_mul-total : goal.overflow_mul-total
-unfolding value
 overflow_mul-total c = let a = c.args in omega
     (arith, value_room a.s.now a.at c.type_inv.s c.loop-i.i (omega arith) (omega arith))
 
 pub overflow_add-total : goal.overflow_add-total
-unfolding value
 overflow_add-total c = let a = c.args in omega (
   arith,
   c.type_inv.s (a.at + c.loop-i.i),
@@ -29,9 +22,7 @@ overflow_add-total c = let a = c.args in omega (
 )
 
 pub loop-i-preserved : goal.loop-i-preserved
-unfolding value
-loop-i-preserved c = let a = c.args in (omega arith, cc (value-more a.s.now a.at c.loop-i.i (omega arith)))
+loop-i-preserved c = let a = c.args in cc (value-more a.s.now a.at c.loop-i.i (omega arith))
 
 pub returns : goal.returns
-unfolding value
 returns c = let e : c.loop-i.i ≡ c.args.width = omega arith in cc

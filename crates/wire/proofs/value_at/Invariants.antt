@@ -1,12 +1,8 @@
--- `wire::value_at` meets its contract. The invariant: i bytes are read, and total is the integer that they encode. Assumes nothing.
-use Prim.Native.Nat.{◌-◌, ◌≤◌}
+-- The invariant: i bytes are read, and total is the integer that they encode. Assumes nothing.
 use mathlib.Core.Path.{◌≡◌}
 use lib.ListN.{take, drop}
 use Rattle.wire.specs.Bytes.{value}
 use Rattle.wire.proofs.value_at.Given as goal
 
 abbrev pub invariant-loop-i : goal.invariant-loop-i
-invariant-loop-i l = (l.i ≤ l.width) × (l.total ≡ value (take l.i (drop l.at l.s)))
-
-abbrev pub decreases-loop-i : goal.decreases-loop-i
-decreases-loop-i l = l.width - l.i
+invariant-loop-i l = l.total ≡ value (take l.i (drop l.at l.s))

@@ -9,7 +9,7 @@ use Rattle.std.proofs.Math.ListN.{length, drop}
 use Rattle.wire.specs.declared.Refusal.{Refusal}
 use Rattle.wire.specs.Bytes.{Bytes}
 use Rattle.wire.specs.Numbers.{rule_of, Ruled, cut_short}
-use Rattle.wire.specs.Format.{Format, Result, took, refused, Stands, on_result}
+use Rattle.wire.specs.Format.{Format, Parsed, took, refused, Stands, on_result}
 use Rattle.wire.specs.Parsers.{list_parse, list_write, Chain, Listed}
 use Rattle.wire.specs.laws.Bytes.{bytes-append, drop-step}
 use Rattle.wire.specs.laws.Format.{moved, result-inv, result-same, result-stable, result-ruled, result-placed, parse-inv, parse-same, parse-stable}
@@ -24,9 +24,9 @@ module _ {A S : Type 0} (P : S → Format A) (step : S → A → S) where
       parse-same (P st) s at _ _ stop go λ a m.
       list_same {R = R} n (step st a) s m stop _
       ∙ result-same (list_parse P step n (step st a) s m refused took) (λ l k. took (a ∷ l) k) _ stop go (λ l k. refl)
-      ∙ ap (λ o. on_result o stop go) (sym (list_same {R = Result (List A)} n (step st a) s m refused _))
+      ∙ ap (λ o. on_result o stop go) (sym (list_same {R = Parsed (List A)} n (step st a) s m refused _))
 
-  pub list-inv : {B : Type 0} (n : ℕ) (st : S) (s : List ℕ) (at : ℕ) (k : List A → ℕ → Result B) (b : B) (next : ℕ)
+  pub list-inv : {B : Type 0} (n : ℕ) (st : S) (s : List ℕ) (at : ℕ) (k : List A → ℕ → Parsed B) (b : B) (next : ℕ)
       → list_parse P step n st s at refused k ≡ took b next
       → (l : List A) × (m : ℕ) × (list_parse P step n st s at refused took ≡ took l m) × (k l m ≡ took b next)
   list-inv n st s at k b next q = result-inv (list_parse P step n st s at refused took) k b next (sym (list_same n st s at refused k) ∙ q)

@@ -1,5 +1,5 @@
 -- What the functions that the methods call answer. Assumes nothing.
-use Rattle.std.specs.Prelude.{ℕ, suc, ◌+◌, Bool, List, ◌++◌, length}
+use Rattle.std.specs.Prelude.{ℕ, suc, ◌+◌, Bool, List, ◌++◌, length, Ok, Err}
 use Rattle.wire.specs.declared.Refusal.{Refusal}
 use Rattle.wire.specs.Numbers.{refusal, no_room, step_not_due}
 use Rattle.transaction.specs.Plan.{plan_of}
@@ -7,13 +7,12 @@ use Rattle.plan.specs.declared.Due.{Due}
 use Rattle.plan.specs.Due.{due, due_of, is_list}
 use Rattle.writer.specs.declared.Writer.{Writer}
 use Rattle.writer.specs.declared.Step.{Step}
-use Rattle.writer.specs.declared.Written.TheVariants as W
 use Rattle.writer.specs.Steps.{Turn, answered, grown, appended}
 use Rattle.writer_buffer.specs.Stores.{room_for, overwrite}
 use Rattle.writer_buffer.specs.code.Stores.{count_of}
 
 abbrev pub refused_step : Writer → Refusal → Step
-refused_step w e = record { next = w; answer = W.Refused e }
+refused_step w e = record { next = w; answer = Err e }
 
 abbrev pub not_due_step : Writer → Step
 not_due_step w = refused_step w (refusal step_not_due 0)
@@ -22,7 +21,7 @@ abbrev pub no_room_step : Writer → Step
 no_room_step w = refused_step w (refusal no_room 0)
 
 abbrev pub stored_step : Writer → Step
-stored_step w = record { next = w; answer = W.Done w.at }
+stored_step w = record { next = w; answer = Ok w.at }
 
 abbrev pub due_at : Writer → Due
 due_at w = due_of (due w.phase (plan_of w.type_id))

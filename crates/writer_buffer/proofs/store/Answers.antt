@@ -1,28 +1,16 @@
 -- `writer_buffer::store` meets its contract. Assumes nothing.
+use mathlib.Core.Path.{ap, ◌∙◌}
 use native.Mathlib.Omega.{arith}
-use Rattle.writer_buffer.proofs.Stores.{room-refuses, room-made, all_done}
-use Rattle.writer_buffer.proofs.Numbering.{length-all, sum_fits}
+use Rattle.wire.proofs.Trying.{passed-on}
+use Rattle.writer_buffer.proofs.Stores.{room-refuses, all_done}
+use Rattle.writer_buffer.proofs.Numbering.{length-all}
 use Rattle.writer_buffer.proofs.store.Goals as goal
 
-pub put_all-requires : goal.put_all-requires
-put_all-requires c = search room-made
+pub returns-in_err-room_of : goal.returns-in_err-room_of
+returns-in_err-room_of c = let a = c.args in
+    ap (λ r. (r, a.buf.now)) (passed-on _ _ c.from_residual.ensures)
+    ∙ room-refuses _ a.buf.now _ c.room_of.ensures _ _ _ c.in_err-room_of.was
 
-pub overflow_add-result : goal.overflow_add-result
-overflow_add-result c = let a = c.args in
-    omega (arith, sum_fits a.first.now a.second.now a.numbers.now a.buf.now a.at (room-made _ a.buf.now _ c.room_of.ensures c.in-Allowed.is))
-
-pub overflow_add-result-in-Allowed : goal.overflow_add-result-in-Allowed
-overflow_add-result-in-Allowed c = let a = c.args in
-    omega (arith, sum_fits a.first.now a.second.now a.numbers.now a.buf.now a.at (room-made _ a.buf.now _ c.room_of.ensures c.in-Allowed.is))
-
-pub overflow_add-result-in-Allowed-2 : goal.overflow_add-result-in-Allowed-2
-overflow_add-result-in-Allowed-2 c = let a = c.args in
-    omega (arith, sum_fits a.first.now a.second.now a.numbers.now a.buf.now a.at (room-made _ a.buf.now _ c.room_of.ensures c.in-Allowed.is))
-
-pub returns-in-Refuse : goal.returns-in-Refuse
-returns-in-Refuse c = search room-refuses
-
-pub returns-in-Allowed : goal.returns-in-Allowed
-returns-in-Allowed c = let a = c.args in
-    all_done _ a.buf.now _ c.room_of.ensures _ _ c.in-Allowed.is _
-    (omega (arith, length-all a.first.now a.second.now a.numbers.now)) _ c.put_all.ensures
+pub returns : goal.returns
+returns c = let a = c.args in
+    all_done _ a.buf.now _ c.room_of.ensures _ _ c.in_ok-room_of.was _ (omega (arith, length-all a.first.now a.second.now a.numbers.now)) _ c.put_all.ensures

@@ -1,9 +1,8 @@
 -- The blank credentials as the code writes them, and the room that they need. Assumes nothing.
-use Rattle.std.specs.Prelude.{◌≡◌, ℕ, ◌+◌, ◌*◌, ◌≤◌, List, ◌++◌, length, replicate, leb, ltb}
+use Rattle.wire.specs.declared.Refusal.{Refusal}
+use Rattle.std.specs.Prelude.{◌≡◌, ℕ, ◌+◌, ◌*◌, ◌≤◌, List, ◌++◌, length, replicate, leb, ltb, Ok, Err, Result}
 use Rattle.wire.specs.Bytes.{digits, pick}
 use Rattle.wire.specs.Numbers.{refusal, no_room}
-use Rattle.wire.specs.declared.End.{End}
-use Rattle.wire.specs.declared.End.TheVariants as P
 use Rattle.transaction.specs.Slots.{signature_width}
 use Rattle.transaction.specs.Signed.{most_bytes}
 use Rattle.transaction.specs.declared.Layout.{Layout}
@@ -28,15 +27,15 @@ abbrev pub closing_bytes : List Want → List ℕ
 closing_bytes ws = (credentials ws).write (blanks (layout ws))
 
 -- the offset just past n bytes from `at` on, which must end by `limit`
-unfoldable pub fitted : ℕ → ℕ → ℕ → End
-fitted at n limit = pick (leb (at + n) limit) (P.At (at + n)) (P.Refused (refusal no_room 0))
+unfoldable pub fitted : ℕ → ℕ → ℕ → Result ℕ Refusal
+fitted at n limit = pick (leb (at + n) limit) (Ok (at + n)) (Err (refusal no_room 0))
 
 -- the most bytes that a transaction may have in a buffer of n bytes
 abbrev pub most_in : ℕ → ℕ
 most_in n = pick (ltb n most_bytes) n most_bytes
 
 -- the answer to writing the credentials that are wanted, which only a lack of room refuses, and the buffer afterwards
-abbrev pub closed : List ℕ → ℕ → List Want → End × List ℕ
+abbrev pub closed : List ℕ → ℕ → List Want → Result ℕ Refusal × List ℕ
 closed s at ws = written (room_for (at + length (closing_bytes ws)) s) s at (closing_bytes ws)
 
 -- ---- the `count` credentials that are wanted after a cursor, in a transaction of the given type

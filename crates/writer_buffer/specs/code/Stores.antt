@@ -1,10 +1,7 @@
 -- What a store answers, and what it leaves in the buffer. Assumes nothing.
-use Rattle.std.specs.Prelude.{ℕ, ◌+◌, ◌%◌, ◌^◌, Bool, List, [], length, leb}
+use Rattle.wire.specs.declared.Refusal.{Refusal}
+use Rattle.std.specs.Prelude.{ℕ, ◌+◌, ◌%◌, ◌^◌, Bool, List, [], length, leb, Ok, Err, Result}
 use Rattle.wire.specs.Bytes.{digits, pick}
-use Rattle.wire.specs.declared.End.{End}
-use Rattle.wire.specs.declared.End.TheVariants as P
-use Rattle.writer_rules.specs.declared.Verdict.{Verdict}
-use Rattle.writer_rules.specs.declared.Verdict.TheVariants as J
 use Rattle.writer_buffer.specs.Stores.{overwrite}
 
 -- the count of 0 that is written if a list is due next
@@ -16,10 +13,10 @@ unfoldable pub with_integer : List ℕ → ℕ → ℕ → List ℕ
 with_integer s at n = pick (leb (at + 4) (length s)) (overwrite s at (digits 4 (n % 256 ^ 4))) s
 
 -- the answer of a store, and the buffer afterwards: the offset n just past it, and t; or why it is refused, and s unchanged
-unfoldable pub stored : Verdict → ℕ → List ℕ → List ℕ → End × List ℕ
-stored J.Allowed n s t = (P.At n, t)
-stored (J.Refuse e) n s t = (P.Refused e, s)
+unfoldable pub stored : Result (Unit {0}) Refusal → ℕ → List ℕ → List ℕ → Result ℕ Refusal × List ℕ
+stored (Ok tt) n s t = (Ok n, t)
+stored (Err e) n s t = (Err e, s)
 
 -- the same for ys, written from `at` on
-abbrev pub written : Verdict → List ℕ → ℕ → List ℕ → End × List ℕ
+abbrev pub written : Result (Unit {0}) Refusal → List ℕ → ℕ → List ℕ → Result ℕ Refusal × List ℕ
 written v s at ys = stored v (at + length ys) s (overwrite s at ys)

@@ -1,16 +1,11 @@
-use mathlib.Core.Path.{refl}
-use native.Mathlib.Omega.{arith}
-use Rattle.writer_transfers.proofs.Inputs.{rise}
+-- `writer_transfers::indices_rise` meets its contract. Assumes nothing.
+use Rattle.std.proofs.Common.{rules, of_calls}
+use Rattle.std.proofs.lemmas.Fn.{always_returns_same}
+use lib.Dec.{ltb}
+use Rattle.writer_transfers.proofs.Inputs.{sorted-rising}
 use Rattle.writer_transfers.proofs.indices_rise.Goals as goal
 
-pub loop-i-init : goal.loop-i-init
-loop-i-init c = (omega arith, refl)
-
-pub returns-then-indices-i : goal.returns-then-indices-i
-returns-then-indices-i c = search rise
-
-pub loop-i-preserved : goal.loop-i-preserved
-loop-i-preserved c = (omega arith, search rise)
-
 pub returns : goal.returns
-returns c = search rise
+returns c =
+    let key = always_returns_same _ _ _ (λ a r f k. search (rules, of_calls)) in
+    sorted-rising c.args.indices.now c.is_sorted_by.result (c.is_sorted_by.ensures.cases ltb key)

@@ -2,8 +2,8 @@
 use Rattle.writer_transfers.proofs.Pieces.{output-few, output-many}
 use Rattle.writer_transfers.proofs.output_below.Goals as goal
 
-pub returns-then-count-gt4294967295 : goal.returns-then-count-gt4294967295
-returns-then-count-gt4294967295 c = search output-many
+pub returns-then-count-clause-value : goal.returns-then-count-clause-value
+returns-then-count-clause-value c = search output-many
 
 pub returns : goal.returns
 returns c = search output-few

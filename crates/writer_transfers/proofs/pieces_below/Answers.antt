@@ -2,11 +2,11 @@
 use Rattle.writer_transfers.proofs.Pieces.{pieces-below, pieces-equal, pieces-above}
 use Rattle.writer_transfers.proofs.pieces_below.Goals as goal
 
-pub returns-in-Below : goal.returns-in-Below
-returns-in-Below c = search pieces-below
+pub returns-in-Less : goal.returns-in-Less
+returns-in-Less c = search pieces-below
 
 pub returns-in-Equal : goal.returns-in-Equal
 returns-in-Equal c = search pieces-equal
 
-pub returns-in-Above : goal.returns-in-Above
-returns-in-Above c = search pieces-above
+pub returns-in-Greater : goal.returns-in-Greater
+returns-in-Greater c = search pieces-above

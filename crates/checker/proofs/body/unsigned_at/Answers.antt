@@ -1,20 +1,16 @@
 -- `checker::body::unsigned_at` meets its contract. Assumes nothing.
-use Rattle.checker.proofs.Unsigned.{head_small, unsigning}
+use Rattle.checker.proofs.Unsigned.{unsigning}
 use Rattle.transaction.specs.Family.{unsigned}
 use Rattle.checker.proofs.body.unsigned_at.Goals as goal
 
-pub overflow_cast-type_id : goal.overflow_cast-type_id
+pub returns-in_err-number : goal.returns-in_err-number
 unfolding unsigned
-overflow_cast-type_id c = search head_small
+returns-in_err-number c = search (unsigning, c.in_err-number.was) depth 12
 
-pub returns-in-Refused : goal.returns-in-Refused
+pub returns-in_err-inputs_at : goal.returns-in_err-inputs_at
 unfolding unsigned
-returns-in-Refused c = search unsigning depth 12
+returns-in_err-inputs_at c = search (unsigning, c.in_ok-number.was, c.in_err-inputs_at.was) depth 12
 
-pub returns-in-Refused-outputs_at : goal.returns-in-Refused-outputs_at
+pub returns : goal.returns
 unfolding unsigned
-returns-in-Refused-outputs_at c = search unsigning depth 12
-
-pub returns-in-At : goal.returns-in-At
-unfolding unsigned
-returns-in-At c = search unsigning depth 12
+returns c = search (unsigning, c.in_ok-number.was, c.in_ok-inputs_at.was) depth 12

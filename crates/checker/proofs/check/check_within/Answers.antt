@@ -5,8 +5,8 @@ use Rattle.checker.proofs.check.check_within.Goals as goal
 pub returns-then-s-gt-MOST_BYTES : goal.returns-then-s-gt-MOST_BYTES
 returns-then-s-gt-MOST_BYTES c = search checking depth 12
 
-pub returns-in-Refused : goal.returns-in-Refused
-returns-in-Refused c = search checking depth 12
+pub returns-in_err-layout : goal.returns-in_err-layout
+returns-in_err-layout c = search (checking, c.in_err-layout.was) depth 12
 
-pub returns-in-Whole : goal.returns-in-Whole
-returns-in-Whole c = search checking depth 12
+pub returns : goal.returns
+returns c = search (checking, c.in_ok-layout.was) depth 12

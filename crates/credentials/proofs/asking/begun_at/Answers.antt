@@ -8,9 +8,6 @@ returns-then-asks-eq0 c = search beginning depth 12
 pub returns-in-Nothing : goal.returns-in-Nothing
 returns-in-Nothing c = search beginning depth 12
 
-pub returns-in-Finish : goal.returns-in-Finish
-returns-in-Finish c = search beginning depth 12
-
 pub returns-in-List : goal.returns-in-List
 returns-in-List c = search beginning depth 12
 

@@ -6,8 +6,8 @@ use Rattle.credentials.proofs.reading.signatures_at.Goals as goal
 pub overflow_mul-count : goal.overflow_mul-count
 overflow_mul-count c = search signatures-fit
 
-pub returns-in-At : goal.returns-in-At
-returns-in-At c = search signatures-all
+pub returns-in-Ok : goal.returns-in-Ok
+returns-in-Ok c = search signatures-all
 
-pub returns-in-Refused : goal.returns-in-Refused
-returns-in-Refused c = search signatures-cut
+pub returns-in-Err : goal.returns-in-Err
+returns-in-Err c = search signatures-cut

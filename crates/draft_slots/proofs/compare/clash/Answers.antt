@@ -1,12 +1,13 @@
 -- `draft_slots::compare::clash` meets its contract. Assumes nothing.
-use Rattle.draft_slots.proofs.Blocks.{clashing}
+use native.Mathlib.Omega.{arith}
+use Rattle.std.proofs.lemmas.Grind.{common_steps}
+use Rattle.draft_slots.specs.Joining.{clashes}
 use Rattle.draft_slots.proofs.compare.clash.Goals as goal
 
-pub returns-then-is_blank : goal.returns-then-is_blank
-returns-then-is_blank c = search clashing
+pub returns-then-not-is_blank-2 : goal.returns-then-not-is_blank-2
+unfolding clashes
+returns-then-not-is_blank-2 c = grind (arith, common_steps)
 
-pub returns-then-is_blank-2 : goal.returns-then-is_blank-2
-returns-then-is_blank-2 c = search clashing
-
-pub returns : goal.returns
-returns c = search clashing
+pub returns-else-not-is_blank-2 : goal.returns-else-not-is_blank-2
+unfolding clashes
+returns-else-not-is_blank-2 c = grind (arith, common_steps)

@@ -1,26 +1,20 @@
-use mathlib.Core.Path.{refl}
-use native.Mathlib.Omega.{arith}
-use Rattle.draft_slots.proofs.Scanning.{range-fits, range-starts, range-ends, slots-counted}
-use Rattle.draft_slots.proofs.Scanning.{clash-is, clashing-scan}
+use Rattle.draft_slots.proofs.Scanning.{range-fits, range-starts, range-ends, slots-counted, clashing-scan}
 use Rattle.draft_slots.proofs.ranges.first_clash.Goals as goal
 
-pub loop-left-init : goal.loop-left-init
-loop-left-init c = (refl, omega arith)
-
-pub returns-in_default : goal.returns-in_default
-returns-in_default c = search (clash-is, clashing-scan)
+pub returns-in_err-range : goal.returns-in_err-range
+returns-in_err-range c = search (clashing-scan, c.in_err-range.was)
 
 pub clash_in-requires : goal.clash_in-requires
-clash_in-requires c = search (range-fits, range-starts)
+clash_in-requires c = search (range-fits, range-starts, c.in_ok-range.was)
 
-pub returns-in-At : goal.returns-in-At
-returns-in-At c = search (clash-is, clashing-scan)
+pub returns-in-Some : goal.returns-in-Some
+returns-in-Some c = search (clashing-scan, c.in_ok-range.was)
 
 pub overflow_add-slots_before : goal.overflow_add-slots_before
-overflow_add-slots_before c = search slots-counted
+overflow_add-slots_before c = search (slots-counted, c.in_ok-range.was)
 
-pub loop-left-preserved : goal.loop-left-preserved
-loop-left-preserved c = (search clashing-scan, search range-ends)
+pub loop-preserved : goal.loop-preserved
+loop-preserved c = (search (clashing-scan, c.in_ok-range.was), search (range-ends, c.in_ok-range.was))
 
 pub returns : goal.returns
-returns c = search (clash-is, clashing-scan)
+returns c = search clashing-scan

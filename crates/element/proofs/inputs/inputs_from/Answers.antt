@@ -1,35 +1,30 @@
-use Rattle.std.proofs.Common.{rules}
-use mathlib.Core.Path.{refl}
 use Rattle.wire.specs.Sequence.{guard}
-use Rattle.wire.proofs.Reading.{list-end, value-small}
-use Rattle.element.specs.Inputs.{key, input_after}
-use Rattle.element.proofs.Reading.{key-cut, key_above, key-not-above, key-again, id-length, inputs_are, on-spend, on-spend-refused}
+use Rattle.wire.proofs.Trying.{passed-on}
+use Rattle.wire.proofs.Reading.{for_on, for_end}
+use Rattle.element.specs.Inputs.{input_after}
+use Rattle.element.proofs.Reading.{keys, on-key, key_read, if-key-follows, inputs_are, on-spend, on-spend-refused}
 use Rattle.element.proofs.inputs.inputs_from.Goals as goal
 
-pub loop-left-init : goal.loop-left-init
-unfolding guard key input_after
-loop-left-init c = (refl, search rules, inputs_are _ c.type_inv.s _ _)
+pub loop-init : goal.loop-init
+unfolding guard input_after
+loop-init c = (tt, inputs_are _ c.type_inv.s _ _)
 
-pub returns-in_default : goal.returns-in_default
-unfolding guard key input_after
-returns-in_default c = search key-cut depth 10
+pub returns-in_err-key : goal.returns-in_err-key
+unfolding guard input_after
+returns-in_err-key c = search (keys, c.in_err-key.was) depth 10
 
-pub returns-in_default-u32_at : goal.returns-in_default-u32_at
-unfolding guard key input_after
-returns-in_default-u32_at c = search key-cut depth 10
+pub returns-then-not-key_follows : goal.returns-then-not-key_follows
+unfolding guard input_after
+returns-then-not-key_follows c = search (keys, c.in_ok-key.was) depth 10
 
-pub returns-in-Refused : goal.returns-in-Refused
-unfolding guard key input_after
-returns-in-Refused c = search (key_above, on-spend-refused) depth 10
+pub returns-in_err-at : goal.returns-in_err-at
+unfolding guard input_after
+returns-in_err-at c = search (for_on, on-key, key_read, if-key-follows, on-spend-refused, passed-on, c.in_ok-key.was, c.in_err-at.was) depth 10 fits 6000
 
-pub loop-left-preserved : goal.loop-left-preserved
-unfolding guard key input_after
-loop-left-preserved c = (search id-length, search value-small, search (key_above, on-spend, key-again) depth 10)
-
-pub returns-else-key_follows : goal.returns-else-key_follows
-unfolding guard key input_after
-returns-else-key_follows c = search key-not-above depth 10
+pub loop-preserved : goal.loop-preserved
+unfolding guard input_after
+loop-preserved c = search (keys, on-spend, c.in_ok-key.was, c.in_ok-at.was) depth 10
 
 pub returns : goal.returns
-unfolding guard key input_after
-returns c = search list-end
+unfolding guard input_after
+returns c = search for_end

@@ -1,20 +1,11 @@
--- `element::inputs::inputs_from` meets its contract. The invariant: parsing what is left, given the key of the input before, gives the answer of the list.
--- Assumes nothing.
-use Prim.Native.Nat.{◌^◌, ◌<◌}
-use mathlib.Core.Path.{◌≡◌}
-use mathlib.Core.List.{[], ◌++◌}
-use lib.ListN.{length}
-use Rattle.wire.specs.Bytes.{pick}
-use Rattle.wire.specs.Fields.{integer}
+-- The invariant: parsing what is left, given the key of the input before, gives the answer of the list. Assumes nothing.
+use Rattle.std.proofs.Common.{◌≡◌, ◌-◌}
 use Rattle.wire.specs.Series.{series}
 use Rattle.wire.specs.code.Answer.{ended}
 use Rattle.element.specs.Inputs.{input}
-use Rattle.element.proofs.Reading.{inputs_after}
+use Rattle.element.proofs.Reading.{GoodBefore, key_before, inputs_after}
 use Rattle.element.proofs.inputs.inputs_from.Given as goal
 
-abbrev pub invariant-loop-left : goal.invariant-loop-left
-invariant-loop-left l = (length l.prev ≡ 32) × (l.last < 256 ^ 4)
-    × (ended (inputs_after (pick l.any (l.prev ++ (integer 4).write l.last) []) l.left) l.s l.at ≡ ended (series input l.count) l.s l.start)
-
-abbrev pub decreases-loop-left : goal.decreases-loop-left
-decreases-loop-left l = l.left
+abbrev pub invariant-loop : goal.invariant-loop
+invariant-loop l = GoodBefore l.prev
+    × (ended (inputs_after (key_before l.prev) (l.count - l.counter)) l.s l.at ≡ ended (series input l.count) l.s l.start)

@@ -3,26 +3,26 @@ use Rattle.element.proofs.Reading.{reading}
 use Rattle.element.specs.Inputs.{spend}
 use Rattle.element.proofs.inputs.spend_at.Goals as goal
 
-pub returns-in_default : goal.returns-in_default
+pub returns-in_err-type_at : goal.returns-in_err-type_at
 unfolding spend
-returns-in_default c = search reading depth 12
+returns-in_err-type_at c = search (reading, c.in_err-type_at.was) depth 12
 
-pub returns-in_default-u32_at : goal.returns-in_default-u32_at
+pub returns-in_err-type_id : goal.returns-in_err-type_id
 unfolding spend
-returns-in_default-u32_at c = search reading depth 12
+returns-in_err-type_id c = search (reading, c.in_ok-type_at.was, c.in_err-type_id.was) depth 12
 
 pub returns-then-type_id-ne-SECP_INPUT : goal.returns-then-type_id-ne-SECP_INPUT
 unfolding spend
-returns-then-type_id-ne-SECP_INPUT c = search reading depth 12
+returns-then-type_id-ne-SECP_INPUT c = search (reading, c.in_ok-type_at.was, c.in_ok-type_id.was) depth 12
 
-pub returns-in_default-u32_at-2 : goal.returns-in_default-u32_at-2
+pub returns-in_err-count_at : goal.returns-in_err-count_at
 unfolding spend
-returns-in_default-u32_at-2 c = search reading depth 12
+returns-in_err-count_at c = search (reading, c.in_ok-type_at.was, c.in_ok-type_id.was, c.in_err-count_at.was) depth 12
 
-pub returns-in-Refused : goal.returns-in-Refused
+pub returns-in_err-count : goal.returns-in_err-count
 unfolding spend
-returns-in-Refused c = search reading depth 12
+returns-in_err-count c = search (reading, c.in_ok-type_at.was, c.in_ok-type_id.was, c.in_ok-count_at.was, c.in_err-count.was) depth 12 fits 6000
 
-pub returns-in-Value-u32_at : goal.returns-in-Value-u32_at
+pub returns : goal.returns
 unfolding spend
-returns-in-Value-u32_at c = search reading depth 12
+returns c = search (reading, c.in_ok-type_at.was, c.in_ok-type_id.was, c.in_ok-count_at.was, c.in_ok-count.was) depth 12

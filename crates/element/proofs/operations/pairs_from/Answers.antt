@@ -1,31 +1,20 @@
-use Rattle.std.proofs.Common.{rules}
-use mathlib.Core.Path.{refl}
 use Rattle.wire.specs.Sequence.{guard}
-use Rattle.wire.proofs.Reading.{list-end}
-use Rattle.element.specs.Inputs.{key}
-use Rattle.element.proofs.Reading.{key-cut, key_above, key-not-above, key-again}
+use Rattle.wire.proofs.Reading.{for_end}
+use Rattle.element.proofs.Reading.{keys}
 use Rattle.element.proofs.operations.pairs_from.Goals as goal
 
-pub loop-left-init : goal.loop-left-init
-unfolding guard key
-loop-left-init c = (refl, search rules, refl)
+pub returns-in_err-key : goal.returns-in_err-key
+unfolding guard
+returns-in_err-key c = search (keys, c.in_err-key.was) depth 10
 
-pub returns-in_default : goal.returns-in_default
-unfolding guard key
-returns-in_default c = search key-cut depth 10
+pub returns-then-not-key_follows : goal.returns-then-not-key_follows
+unfolding guard
+returns-then-not-key_follows c = search (keys, c.in_ok-key.was) depth 10
 
-pub returns-in_default-u32_at : goal.returns-in_default-u32_at
-unfolding guard key
-returns-in_default-u32_at c = search key-cut depth 10
-
-pub loop-left-preserved : goal.loop-left-preserved
-unfolding guard key
-loop-left-preserved c = search (key_above, key-again) depth 10
-
-pub returns-else-key_follows : goal.returns-else-key_follows
-unfolding guard key
-returns-else-key_follows c = search key-not-above depth 10
+pub loop-preserved : goal.loop-preserved
+unfolding guard
+loop-preserved c = search (keys, c.in_ok-key.was) depth 10
 
 pub returns : goal.returns
-unfolding guard key
-returns c = search list-end
+unfolding guard
+returns c = search for_end

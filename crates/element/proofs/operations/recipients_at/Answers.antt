@@ -1,17 +1,16 @@
--- `element::operations::recipients_at` meets its contract.
--- Assumes nothing.
+-- `element::operations::recipients_at` meets its contract. Assumes nothing.
 use Rattle.wire.specs.Series.{count_prefixed}
 use Rattle.element.proofs.Reading.{reading, if-mint, if-transfer}
 use Rattle.element.proofs.operations.recipients_at.Goals as goal
 
-pub returns-in_default : goal.returns-in_default
+pub returns-in_err-count : goal.returns-in_err-count
 unfolding count_prefixed
-returns-in_default c = search (reading, if-mint, if-transfer) depth 12
+returns-in_err-count c = search (reading, if-mint, if-transfer, c.in_err-count.was) depth 12
 
-pub returns-then-type_id-eq-MINT_OPERATION : goal.returns-then-type_id-eq-MINT_OPERATION
+pub returns-in_ok-count : goal.returns-in_ok-count
 unfolding count_prefixed
-returns-then-type_id-eq-MINT_OPERATION c = search (reading, if-mint, if-transfer) depth 12
+returns-in_ok-count c = search (reading, if-mint, if-transfer, c.in_ok-count.was) depth 12
 
-pub returns : goal.returns
+pub returns-else-type_id-eq-MINT_OPERATION : goal.returns-else-type_id-eq-MINT_OPERATION
 unfolding count_prefixed
-returns c = search (reading, if-mint, if-transfer) depth 12
+returns-else-type_id-eq-MINT_OPERATION c = search (reading, if-mint, if-transfer) depth 12

@@ -3,10 +3,10 @@ use Rattle.element.proofs.Reading.{reading}
 use Rattle.element.specs.Outputs.{transfer_body}
 use Rattle.element.proofs.outputs.transfer_body_at.Goals as goal
 
-pub returns-in-Refused : goal.returns-in-Refused
+pub returns-in_err-after_amount : goal.returns-in_err-after_amount
 unfolding transfer_body
-returns-in-Refused c = search reading depth 12
+returns-in_err-after_amount c = search (reading, c.in_err-after_amount.was) depth 12
 
-pub returns-in-At : goal.returns-in-At
+pub returns : goal.returns
 unfolding transfer_body
-returns-in-At c = search reading depth 12
+returns c = search (reading, c.in_ok-after_amount.was) depth 12

@@ -1,13 +1,12 @@
--- `entry_table::rows::put_rows` meets its contract. The invariant: storing the entries ahead from row i on gives the whole table. Assumes nothing.
-use Prim.Native.Nat.{◌≤◌}
-use mathlib.Core.Path.{◌≡◌}
-use lib.ListN.{length}
-use Rattle.entry_walk.specs.code.Walk.{ahead}
-use Rattle.entry_table.proofs.Looping.{Put}
+-- `entry_table::rows::put_rows` meets its contract. The invariant: the rows so far are stored. Assumes nothing.
+use Rattle.std.proofs.Common.{◌≡◌, length, fold}
+use Rattle.std.specs.Iterator.Adapters.{zip_first}
+use Rattle.entry_table.proofs.Looping.{store}
 use Rattle.entry_table.proofs.rows.put_rows.Given as goal
 
-abbrev pub invariant-loop-next : goal.invariant-loop-next
-invariant-loop-next l = (l.i ≤ l.count) × (length l.table ≡ length l.initial.table) × Put l.count l.type_id l.s l.initial.table l.cursor l.i l.table
-
-abbrev pub decreases-loop-next : goal.decreases-loop-next
-decreases-loop-next l = ahead l.cursor
+abbrev pub invariant-loop-i : goal.invariant-loop-i
+invariant-loop-i l = record {
+  last : (zip_first l.i-iterator).end ≡ l.count;
+  long : length l.table ≡ length l.initial.table;
+  stored : l.table ≡ fold store l.initial.table l.yielded;
+}

@@ -2,8 +2,11 @@
 use Rattle.entry_walk.proofs.Advancing.{counted-short, counted-into, counted-entered}
 use Rattle.entry_walk.proofs.steps.advance_counted.Goals as goal
 
-pub returns-in_default : goal.returns-in_default
-returns-in_default c = record { counted_advance = search counted-short; entered = tt }
+pub returns-in_default-clause-counted_advance : goal.returns-in_default-clause-counted_advance
+returns-in_default-clause-counted_advance c = search counted-short
 
-pub returns : goal.returns
-returns c = record { counted_advance = search counted-into; entered = search counted-entered }
+pub returns-clause-counted_advance : goal.returns-clause-counted_advance
+returns-clause-counted_advance c = search counted-into
+
+pub returns-clause-entered : goal.returns-clause-entered
+returns-clause-entered c = search counted-entered

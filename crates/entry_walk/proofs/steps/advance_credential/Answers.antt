@@ -1,10 +1,9 @@
 -- `entry_walk::steps::advance_credential` meets its contract. Assumes nothing.
 use Rattle.entry_walk.proofs.Advancing.{crediting}
-use native.Mathlib.Omega.{arith}
 use Rattle.entry_walk.proofs.steps.advance_credential.Goals as goal
 
-pub returns-in-Refused : goal.returns-in-Refused
-returns-in-Refused c = record { credential_advance = search crediting; shorter = tt }
+pub returns-in_default-clause-credential_advance : goal.returns-in_default-clause-credential_advance
+returns-in_default-clause-credential_advance c = search crediting
 
-pub returns-in-At : goal.returns-in-At
-returns-in-At c = record { credential_advance = search crediting; shorter = omega arith }
+pub returns-clause-credential_advance : goal.returns-clause-credential_advance
+returns-clause-credential_advance c = search crediting

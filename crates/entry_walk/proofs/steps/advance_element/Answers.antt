@@ -1,14 +1,9 @@
 -- `entry_walk::steps::advance_element` meets its contract. Assumes nothing.
-use Rattle.std.proofs.Common.{rules}
 use Rattle.entry_walk.proofs.Advancing.{entering}
-use native.Mathlib.Omega.{arith}
 use Rattle.entry_walk.proofs.steps.advance_element.Goals as goal
 
-pub returns-then-entry_kind-eq-STATE_OUTPUT : goal.returns-then-entry_kind-eq-STATE_OUTPUT
-returns-then-entry_kind-eq-STATE_OUTPUT c = record { element_advance = search entering; shorter = search rules }
+pub returns-in_default-clause-element_advance : goal.returns-in_default-clause-element_advance
+returns-in_default-clause-element_advance c = search entering
 
-pub returns-in-Refused : goal.returns-in-Refused
-returns-in-Refused c = record { element_advance = search entering; shorter = tt }
-
-pub returns-in-Value : goal.returns-in-Value
-returns-in-Value c = record { element_advance = search entering; shorter = omega arith }
+pub returns-clause-element_advance : goal.returns-clause-element_advance
+returns-clause-element_advance c = search entering

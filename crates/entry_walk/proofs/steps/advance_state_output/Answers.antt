@@ -1,10 +1,9 @@
 -- `entry_walk::steps::advance_state_output` meets its contract. Assumes nothing.
 use Rattle.entry_walk.proofs.Advancing.{crediting}
-use native.Mathlib.Omega.{arith}
 use Rattle.entry_walk.proofs.steps.advance_state_output.Goals as goal
 
-pub returns-in-Refused : goal.returns-in-Refused
-returns-in-Refused c = record { state_output_advance = search crediting; shorter = tt }
+pub returns-in_default-clause-state_output_advance : goal.returns-in_default-clause-state_output_advance
+returns-in_default-clause-state_output_advance c = search crediting
 
-pub returns-in-At : goal.returns-in-At
-returns-in-At c = record { state_output_advance = search crediting; shorter = omega arith }
+pub returns-clause-state_output_advance : goal.returns-clause-state_output_advance
+returns-clause-state_output_advance c = search crediting

@@ -2,8 +2,8 @@
 use Rattle.operator.proofs.Uploading.{ending}
 use Rattle.operator.proofs.uploads.cellfacet_upload_end.Goals as goal
 
-pub returns-in-Accepted : goal.returns-in-Accepted
-returns-in-Accepted c = search ending
+pub returns-in-Ok : goal.returns-in-Ok
+returns-in-Ok c = search ending
 
-pub returns-in-Refused : goal.returns-in-Refused
-returns-in-Refused c = search ending
+pub returns-in-Err : goal.returns-in-Err
+returns-in-Err c = search ending

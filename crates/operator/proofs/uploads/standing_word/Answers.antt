@@ -2,8 +2,8 @@
 use Rattle.operator.proofs.Uploading.{standing-words}
 use Rattle.operator.proofs.uploads.standing_word.Goals as goal
 
-pub returns-in-NeedMore : goal.returns-in-NeedMore
-returns-in-NeedMore c = search standing-words
+pub returns-in-None : goal.returns-in-None
+returns-in-None c = search standing-words
 
-pub returns-in-Refused : goal.returns-in-Refused
-returns-in-Refused c = search standing-words
+pub returns-in-Some : goal.returns-in-Some
+returns-in-Some c = search standing-words

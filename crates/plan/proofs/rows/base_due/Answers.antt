@@ -1,9 +1,10 @@
 -- `plan::rows::base_due` meets its contract. Assumes nothing.
-use Rattle.plan.proofs.RowLaws.{row}
+use mathlib.Core.Path.{refl}
+use native.Mathlib.Omega.{arith}
+use Rattle.transaction.specs.Plan.{own_plan}
+use Rattle.transaction.specs.declared.TransactionType.TheVariants as K
+use Rattle.plan.proofs.RowLaws.{past}
 use Rattle.plan.proofs.rows.base_due.Goals as goal
 
-pub returns-then-begun-lt1 : goal.returns-then-begun-lt1
-returns-then-begun-lt1 c = search row
-
-pub returns : goal.returns
-returns c = search row
+pub returns-in_default : goal.returns-in_default
+returns-in_default c = past (own_plan K.Base) c.args.begun 1 refl (omega arith)

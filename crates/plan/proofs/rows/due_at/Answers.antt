@@ -1,18 +1,7 @@
 -- `plan::rows::due_at` meets its contract. Assumes nothing.
-use Rattle.plan.proofs.RowLaws.{by-phase}
+use native.Mathlib.Omega.{arith}
+use Rattle.plan.proofs.RowLaws.{in-own}
 use Rattle.plan.proofs.rows.due_at.Goals as goal
 
-pub returns-then-phase-lt1 : goal.returns-then-phase-lt1
-returns-then-phase-lt1 c = search by-phase
-
-pub returns-then-phase-lt2 : goal.returns-then-phase-lt2
-returns-then-phase-lt2 c = search by-phase
-
-pub returns-then-phase-lt3 : goal.returns-then-phase-lt3
-returns-then-phase-lt3 c = search by-phase
-
-pub returns-then-phase-lt4 : goal.returns-then-phase-lt4
-returns-then-phase-lt4 c = search by-phase
-
-pub returns : goal.returns
-returns c = search by-phase
+pub returns-in_default : goal.returns-in_default
+returns-in_default c = in-own c.own_due.result c.args.type_id c.args.phase (omega arith) c.own_due.ensures

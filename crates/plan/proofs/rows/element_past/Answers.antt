@@ -13,9 +13,3 @@ returns-in-State c = search element-passing depth 12
 
 pub returns-in-Operation : goal.returns-in-Operation
 returns-in-Operation c = search element-passing depth 12
-
-pub returns-in-Imported : goal.returns-in-Imported
-returns-in-Imported c = search element-passing depth 12
-
-pub returns-in-Exported : goal.returns-in-Exported
-returns-in-Exported c = search element-passing depth 12

@@ -1,14 +1,15 @@
+-- `plan::rows::elements_past` meets its contract. Assumes nothing.
 use Rattle.plan.proofs.Passing.{elements-passing}
 use Rattle.plan.proofs.rows.elements_past.Goals as goal
 
-pub loop-left-init : goal.loop-left-init
-loop-left-init c = search elements-passing
+pub loop-init : goal.loop-init
+loop-init c = search elements-passing
 
-pub returns-in-Refused : goal.returns-in-Refused
-returns-in-Refused c = search elements-passing
+pub returns-in_err-at : goal.returns-in_err-at
+returns-in_err-at c = search (elements-passing, c.in_err-at.was)
 
-pub loop-left-preserved : goal.loop-left-preserved
-loop-left-preserved c = search elements-passing
+pub loop-preserved : goal.loop-preserved
+loop-preserved c = search (elements-passing, c.in_ok-at.was)
 
 pub returns : goal.returns
 returns c = search elements-passing

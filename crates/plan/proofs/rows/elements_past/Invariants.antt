@@ -2,8 +2,5 @@
 use Rattle.plan.proofs.Passing.{ElementsOnward}
 use Rattle.plan.proofs.rows.elements_past.Given as goal
 
-abbrev pub invariant-loop-left : goal.invariant-loop-left
-invariant-loop-left l = ElementsOnward l.list l.s l.count l.first l.left l.at
-
-abbrev pub decreases-loop-left : goal.decreases-loop-left
-decreases-loop-left l = l.left
+abbrev pub invariant-loop : goal.invariant-loop
+invariant-loop l = ElementsOnward l.list l.s l.count l.first l.counter l.at

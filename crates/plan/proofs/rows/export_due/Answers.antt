@@ -1,15 +1,10 @@
 -- `plan::rows::export_due` meets its contract. Assumes nothing.
-use Rattle.plan.proofs.RowLaws.{row}
+use mathlib.Core.Path.{refl}
+use native.Mathlib.Omega.{arith}
+use Rattle.transaction.specs.Plan.{own_plan}
+use Rattle.transaction.specs.declared.TransactionType.TheVariants as K
+use Rattle.plan.proofs.RowLaws.{past}
 use Rattle.plan.proofs.rows.export_due.Goals as goal
 
-pub returns-then-begun-lt1 : goal.returns-then-begun-lt1
-returns-then-begun-lt1 c = search row
-
-pub returns-then-begun-lt2 : goal.returns-then-begun-lt2
-returns-then-begun-lt2 c = search row
-
-pub returns-then-begun-lt3 : goal.returns-then-begun-lt3
-returns-then-begun-lt3 c = search row
-
-pub returns : goal.returns
-returns c = search row
+pub returns-in_default : goal.returns-in_default
+returns-in_default c = past (own_plan K.Export) c.args.begun 3 refl (omega arith)

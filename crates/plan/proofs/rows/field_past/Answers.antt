@@ -8,9 +8,6 @@ returns-in-Memo c = search field-passing depth 12
 pub returns-in-Name : goal.returns-in-Name
 returns-in-Name c = search field-passing depth 12
 
-pub returns-in-Symbol : goal.returns-in-Symbol
-returns-in-Symbol c = search field-passing depth 12
-
 pub returns-in-Denomination : goal.returns-in-Denomination
 returns-in-Denomination c = search field-passing depth 12
 

@@ -2,8 +2,8 @@
 use Rattle.test_exports.proofs.Turns.{encoding}
 use Rattle.test_exports.proofs.steps.step_numbers.Goals as goal
 
-pub returns-in-Done : goal.returns-in-Done
-returns-in-Done c = search encoding
+pub returns-in-Ok : goal.returns-in-Ok
+returns-in-Ok c = search encoding
 
-pub returns-in-Refused : goal.returns-in-Refused
-returns-in-Refused c = search encoding
+pub returns-in-Err : goal.returns-in-Err
+returns-in-Err c = search encoding

@@ -1,30 +1,22 @@
 -- `writer::Writer::add_output` meets its contract. Assumes nothing.
-use Rattle.std.proofs.Common.{rules}
 use Rattle.writer_rules.specs.code.Elements.{integers_bytes}
-use Rattle.writer.proofs.Naming.{element-not, element-sane, element-short}
-use Rattle.writer.proofs.Methods.{output-head-wide, output-refused, output-is}
+use Rattle.writer.proofs.Laws.{readied}
+use Rattle.writer.proofs.Naming.{element-unready, element-sane}
+use Rattle.writer.proofs.Methods.{output-refused, output-is}
 use Rattle.writer.proofs.Writer.add_output.Goals as goal
 
-pub returns-then-not-is_element_due : goal.returns-then-not-is_element_due
+pub returns-in-Err : goal.returns-in-Err
 unfolding integers_bytes
-returns-then-not-is_element_due c = search element-not
+returns-in-Err c = search element-unready
 
-pub returns-then-buf-self : goal.returns-then-buf-self
+pub returns-in-Err-rules : goal.returns-in-Err-rules
 unfolding integers_bytes
-returns-then-buf-self c = search element-short
-
-pub returns-in-Refuse : goal.returns-in-Refuse
-unfolding integers_bytes
-returns-in-Refuse c = search output-refused
-
-pub slice_bounds-put_element-end : goal.slice_bounds-put_element-end
-unfolding integers_bytes
-slice_bounds-put_element-end c = search (rules, output-head-wide)
+returns-in-Err-rules c = search (output-refused, readied) depth 8
 
 pub put_element-requires : goal.put_element-requires
 unfolding integers_bytes
-put_element-requires c = search element-sane
+put_element-requires c = search (element-sane, readied) depth 8
 
 pub returns : goal.returns
 unfolding integers_bytes
-returns c = search output-is
+returns c = search (output-is, readied) depth 8

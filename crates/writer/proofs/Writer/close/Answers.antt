@@ -1,24 +1,19 @@
 -- `writer::Writer::close` meets its contract. Assumes nothing.
-use Rattle.writer.proofs.Methods.{close-not, close-small, close-short, close-refused, close-is}
+use Rattle.writer.proofs.Laws.{ready-long}
+use Rattle.writer.proofs.Methods.{not-list, close-not, close-small, close-unready, close-refused, close-is}
 use Rattle.writer.proofs.Writer.close.Goals as goal
 
-pub returns-then-buf-self : goal.returns-then-buf-self
-returns-then-buf-self c = search close-short
+pub returns-in_default : goal.returns-in_default
+returns-in_default c = close-not c.args.self c.args.buf.now _ c.due_at.ensures _ (not-list _ c.in_default.not-List) _ c.not_due.ensures
 
-pub returns-in-Refuse : goal.returns-in-Refuse
-returns-in-Refuse c = search close-refused
+pub returns-in-Err : goal.returns-in-Err
+returns-in-Err c = search close-unready
+
+pub returns-in-Err-list_rules : goal.returns-in-Err-list_rules
+returns-in-Err-list_rules c = search (close-refused, ready-long) depth 8
 
 pub put_segment-requires : goal.put_segment-requires
 put_segment-requires c = search close-small
 
-pub returns-in-Nothing : goal.returns-in-Nothing
-returns-in-Nothing c = search close-not
-
-pub returns-in-Finish : goal.returns-in-Finish
-returns-in-Finish c = search close-not
-
-pub returns-in-Field : goal.returns-in-Field
-returns-in-Field c = search close-not
-
-pub returns-in_default : goal.returns-in_default
-returns-in_default c = search close-is
+pub returns : goal.returns
+returns c = search (close-is, ready-long) depth 8

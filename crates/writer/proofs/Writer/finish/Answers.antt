@@ -13,15 +13,15 @@ pub overflow_add-phase : goal.overflow_add-phase
 overflow_add-phase c = let a = c.args in
     omega (arith, finish-small a.self a.buf.now _ c.end_at.ensures c.if-not-end_at.false)
 
-pub returns-in-Refused : goal.returns-in-Refused
-returns-in-Refused c = let a = c.args in
+pub returns-in-Err : goal.returns-in-Err
+returns-in-Err c = let a = c.args in
     finish-refused a.self a.buf.now _ c.end_at.ensures
     c.if-not-end_at.false memo_most _ _
-    c.append.ensures _ c.in-Refused.is _
+    c.append.ensures _ c.in-Err.is _
     c.refused.ensures
 
-pub returns-in-At : goal.returns-in-At
-returns-in-At c = let a = c.args in
+pub returns-in-Ok : goal.returns-in-Ok
+returns-in-Ok c = let a = c.args in
     finish-done a.self a.buf.now _ c.end_at.ensures
     c.if-not-end_at.false memo_most _ _
-    c.append.ensures _ c.in-At.is _ c.stored.ensures
+    c.append.ensures _ c.in-Ok.is _ c.stored.ensures

@@ -6,8 +6,8 @@ use Rattle.writer.proofs.steps.put_element.Goals as goal
 pub overflow_add-count : goal.overflow_add-count
 overflow_add-count c = omega (arith, (sane-inv c.args.writer c.requires).1)
 
-pub returns-in-Refused : goal.returns-in-Refused
-returns-in-Refused c = search element-refused
+pub returns-in-Err : goal.returns-in-Err
+returns-in-Err c = search element-refused
 
-pub returns-in-At : goal.returns-in-At
-returns-in-At c = search element-done
+pub returns-in-Ok : goal.returns-in-Ok
+returns-in-Ok c = search element-done

@@ -7,10 +7,6 @@ pub returns-then-limit-at : goal.returns-then-limit-at
 returns-then-limit-at c = let a = c.args in
     closing-full a.layout a.s.now a.at a.limit (omega arith) _ c.refuse.ensures
 
-pub returns-then-limit-at-lt4 : goal.returns-then-limit-at-lt4
-returns-then-limit-at-lt4 c = let a = c.args in
-    closing-full a.layout a.s.now a.at a.limit (omega arith) _ c.refuse.ensures
-
 pub returns : goal.returns
 returns c = let a = c.args in
     closing-on a.layout a.s.now a.at _ c.first_wanting-from.ensures a.limit _ c.blanks_end.ensures

@@ -1,11 +1,7 @@
 -- `writer_buffer::blank::put_blanks` meets its contract. The invariant: writing the credentials that are left completes the writing of all. Assumes nothing.
-use Rattle.writer_buffer.proofs.Loops.{cursor, Writing}
+use Prim.Native.Nat.{◌-◌}
+use Rattle.writer_buffer.proofs.Loops.{Writing}
 use Rattle.writer_buffer.proofs.blank.put_blanks.Given as goal
 
-abbrev pub invariant-loop-owed : goal.invariant-loop-owed
-invariant-loop-owed l = Writing l.initial.buf l.end l.type_id (cursor l.initial.phase l.initial.asks l.initial.cursor_at l.initial.elements) l.count l.start
-    l.buf
-    (cursor l.phase l.asks l.cursor_at l.elements) l.owed l.at
-
-abbrev pub decreases-loop-owed : goal.decreases-loop-owed
-decreases-loop-owed l = l.owed
+abbrev pub invariant-loop : goal.invariant-loop
+invariant-loop l = Writing l.initial.buf l.end l.type_id l.initial.cursor l.owed l.start l.buf l.cursor (l.owed - l.counter) l.at

@@ -6,4 +6,4 @@ use Rattle.writer_rules.proofs.elements.operation_rules.Goals as goal
 
 pub returns : goal.returns
 unfolding judged
-returns c = read-judged operation c.args.bytes.now 0 _ c.operation_at-read.ensures _ c.all_read.ensures
+returns c = read-judged operation c.args.bytes.now 0 _ c.operation_at.ensures _ c.all_read.ensures
