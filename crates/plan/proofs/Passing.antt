@@ -31,7 +31,7 @@ use Rattle.transaction.specs.declared.FieldName.{FieldName}
 use Rattle.transaction.specs.declared.FieldName.TheVariants as F
 use Rattle.transaction.specs.declared.ListName.{ListName}
 use Rattle.transaction.specs.declared.ListName.TheVariants as L
-use Rattle.plan.specs.code.Rows.{FieldPast, silent_of, ElementTells, ElementsPast, AskingTells}
+use Rattle.plan.specs.code.Rows.{FieldPast, FieldSigns, silent_of, ElementTells, ElementsPast, AskingTells}
 use Rattle.wire.proofs.Trying.{same-parts}
 
 -- ---- fields
@@ -58,6 +58,9 @@ module _ (s : List ℕ) (at : ℕ) (f : FieldName) (x : Result ℕ Refusal) (y :
 
 pub ruleset field-passing = (memo-past, text-past, denomination-past, chain-past)
 
+pub by-signs : (s : List ℕ) (at : ℕ) (f g : FieldName) (y : ℕ) → f ≡ g → FieldSigns g s at y → FieldSigns f s at y
+by-signs s at f g y q h = subst (λ (g : FieldName). FieldSigns g s at y) (sym q) h
+
 -- ---- elements
 
 module _ (s : List ℕ) (at : ℕ) (l : ListName) (y : Result (ℕ × ℕ) Refusal) where
@@ -67,6 +70,9 @@ module _ (s : List ℕ) (at : ℕ) (l : ListName) (y : Result (ℕ × ℕ) Refus
   pub input-past : (l ≡ L.Input) ⊎ (l ≡ L.Imported) → ((prev : List ℕ) → Tells (input prev) (λ v. length v.indices) s at y) → ElementTells l s at y
   input-past (inl q) h = by-list L.Input q h
   input-past (inr q) h = by-list L.Imported q h
+
+  pub imported-past : l ≡ L.Imported → ((prev : List ℕ) → Tells (input prev) (λ v. length v.indices) s at y) → ElementTells l s at y
+  imported-past q h = input-past (inr q) h
 
   pub operation-past : l ≡ L.Operation → Tells operation (λ v. length v.terms.0) s at y → ElementTells l s at y
   operation-past q h = by-list L.Operation q (λ prev. h)
@@ -79,7 +85,7 @@ module _ (s : List ℕ) (at : ℕ) (l : ListName) (y : Result (ℕ × ℕ) Refus
     pub state-past : l ≡ L.State → ((prev : List ℕ) → Passes (initial_state prev) s at x) → ElementTells l s at y
     state-past q h = by-list L.State q (λ prev v n e. p ∙ ap silent_of (h prev v n e))
 
-pub ruleset element-passing = (input-past, operation-past, output-past, state-past)
+pub ruleset element-passing = (input-past, imported-past, operation-past, output-past, state-past)
 
 -- the type of the credential that an element asks for determines the format of the element
 module _ (s : List ℕ) (at c : ℕ) (y : Result (ℕ × ℕ) Refusal) where

@@ -1,15 +1,16 @@
 -- The code's answer to what is due at a phase is the first segment of the plan there. Assumes nothing.
 use Rattle.std.specs.Prelude.{Result}
 use Rattle.wire.specs.declared.Refusal.{Refusal}
-use Prim.Native.Nat.{ℕ, zero, suc, ◌+◌, ◌-◌, ◌≤◌}
+use Prim.Native.Nat.{ℕ, zero, suc, ◌+◌, ◌-◌, ◌≤◌, ◌<◌}
 use mathlib.Core.Path.{◌≡◌, refl, sym, ap, ◌∙◌, subst, subst₂}
 use mathlib.Core.Bool.{Bool, true, false, false≢true}
 use mathlib.Core.Logic.{◌⊎◌, inl, inr}
 use native.Mathlib.Omega.{arith}
 use native.Mathlib.Numerals.{add-one}
 use mathlib.Core.List.{List}
-use lib.Dec.{leb}
-use borrow.Author.Tests.{leb-true, leb-false}
+use lib.Dec.{eqb, leb}
+use borrow.Author.Tests.{eq-eqb, ne_eqb, leb-true, leb-false}
+use Rattle.wire.specs.Bytes.{pick}
 use Rattle.wire.specs.Series.{series}
 use Rattle.wire.specs.code.Answer.{ended}
 use Rattle.transaction.specs.Plan.{content_of, elements_of, Plan, shut, end, field, many, own_plan, plan, type_of, plan_of}
@@ -22,7 +23,7 @@ use Rattle.plan.specs.declared.Due.TheVariants as D
 use Rattle.plan.specs.Due.{tail, after, due, due_of}
 use Rattle.plan.specs.code.Rows.{last_phase, Live}
 
--- ---- rows: nothing is due past the last segment
+-- ---- rows: by tests of how many segments are begun; nothing is due past the last segment
 
 module _ (p : Plan) (begun : ℕ) where
   pub past : (n : ℕ) → after n p ≡ shut → n ≤ begun → D.Nothing ≡ due_of (after begun p)
@@ -35,6 +36,35 @@ module _ (p : Plan) (begun : ℕ) where
       beyond (suc k) =
           let j : suc k + n ≡ suc (k + n) = omega arith in
           ap (λ (i : ℕ). after i p) j ∙ ap tail (beyond k)
+
+  module _ (z : Due) where
+    pub part-first : begun < 1 → z ≡ due_of p → z ≡ due_of (after begun p)
+    part-first h e = let j : begun ≡ 0 = omega arith in rw j e
+
+    pub part-here : (i j : ℕ) → i ≤ begun → begun < j → j ≡ suc i → z ≡ due_of (after i p) → z ≡ due_of (after begun p)
+    part-here i j h k l e = let j : begun ≡ i = omega arith in rw j e
+
+pub ruleset row = (part-first, part-here, past)
+
+-- ---- types: by tests of the type id, in the order of `type_of` and of `types`
+
+module _ (z : Due) (begun type_id i : ℕ) (a b : TransactionType) where
+  pub type-here : type_id ≡ i → z ≡ due_of (after begun (own_plan a)) → z ≡ due_of (after begun (own_plan (pick (eqb type_id i) a b)))
+  type-here h e = rw (eq-eqb type_id i h) e
+
+  pub type-other : (type_id ≡ i → ⊥) → z ≡ due_of (after begun (own_plan b)) → z ≡ due_of (after begun (own_plan (pick (eqb type_id i) a b)))
+  type-other h e = rw (ne_eqb type_id i h) e
+
+pub ruleset by-type = (type-here, type-other)
+
+module _ (n i : ℕ) (b : Bool) where
+  pub number-here : n ≡ i → true ≡ pick (eqb n i) true b
+  number-here h = rw (eq-eqb n i h)
+
+  pub number-other : (z : Bool) → (n ≡ i → ⊥) → z ≡ b → z ≡ pick (eqb n i) true b
+  number-other z h e = rw (ne_eqb n i h) e
+
+pub ruleset numbers = (number-here, number-other)
 
 -- ---- plans: past the memo, what is due is in the type's own part
 
