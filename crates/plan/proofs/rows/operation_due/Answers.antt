@@ -1,10 +1,8 @@
 -- `plan::rows::operation_due` meets its contract. Assumes nothing.
-use mathlib.Core.Path.{refl}
+use Prim.Native.Nat.{◌≤◌}
 use native.Mathlib.Omega.{arith}
-use Rattle.transaction.specs.Plan.{own_plan}
-use Rattle.transaction.specs.declared.TransactionType.TheVariants as K
-use Rattle.plan.proofs.RowLaws.{past}
+use Rattle.plan.proofs.RowLaws.{row}
 use Rattle.plan.proofs.rows.operation_due.Goals as goal
 
 pub returns-in_default : goal.returns-in_default
-returns-in_default c = past (own_plan K.Operation) c.args.begun 2 refl (omega arith)
+returns-in_default c = let h : 2 ≤ c.args.begun = omega arith in search row
