@@ -30,5 +30,3 @@ pub kept_out : (w : Writer) (s : List ℕ) (v : Result (Unit {0}) Refusal) (w' :
     → after r s ≡ answered v w s w' s'
 unfolding answered
 kept_out w s v w' s' d e r h = rw e (ap (λ (y : Step). after y s) h)
-
--- ---- an open list
