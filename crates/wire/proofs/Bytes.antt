@@ -3,6 +3,7 @@ use Prim.Native.Nat.{ℕ, zero, suc, ◌+◌, ◌-◌, ◌*◌, ◌/◌, ◌%◌
 use mathlib.Core.Path.{◌≡◌, refl, sym, ap, ◌∙◌}
 use mathlib.Core.List.{List, [], ◌∷◌, ◌++◌, append-nil}
 use mathlib.Core.Bool.{Bool, true, false}
+use native.Mathlib.Decide.{dec_le}
 use native.Mathlib.Omega.{arith}
 use native.Mathlib.Numerals.{add-one}
 use native.Mathlib.Nat.{pow-suc, pow-succ', pow-le-pow_right, lt_of_lt_of_le, mul_assoc, add-mul, add_assoc, zero-lt-suc, mod-lt, div-one}
@@ -124,8 +125,24 @@ unfolding below
 below-empty [] = refl
 below-empty (x ∷ xs) = refl
 
--- m is the length of the shorter string
-module _ (a b : List ℕ) (i : ℕ) (y : Bool) (w : below_from a b i ≡ y) (m : ℕ) (s : m ≡ min (length a) (length b)) where
+-- i is below m, which is at most the length of the shorter string
+module _ (a b : List ℕ) (i : ℕ) (y : Bool) (w : below_from a b i ≡ y) (n m k : ℕ) (s : n ≡ min (length a) (length b)) (t : m ≡ min n k) where
+  pub below-differ : i < m → (get_or a i 0 ≡ get_or b i 0 → ⊥) → ltb (get_or a i 0) (get_or b i 0) ≡ y
+  unfolding below below_from
+  below-differ h n =
+      found (rw (drop-cons a i 0 (omega arith), drop-cons b i 0 (omega arith)) (cases (ltb (get_or a i 0) (get_or b i 0)) refl)) w
+    where
+      cases : (t : Bool) → ltb (get_or a i 0) (get_or b i 0) ≡ t
+          → pick t true (pick (ltb (get_or b i 0) (get_or a i 0)) false (below (drop (suc i) a) (drop (suc i) b))) ≡ t
+      cases true e = refl
+      cases false e = rw (lt-ltb (get_or b i 0) (get_or a i 0) (other (ltb-false (get_or a i 0) (get_or b i 0) e)))
+        where
+          other : get_or b i 0 ≤ get_or a i 0 → get_or b i 0 < get_or a i 0
+          other l = apart (get_or a i 0) (get_or b i 0) l n
+            where
+              apart : (x y : ℕ) → y ≤ x → (x ≡ y → ⊥) → y < x
+              apart x y l n = elim (dec_le (suc y) x) [ yes m ↦ m | no m ↦ absurd (n (omega arith)) ]
+
   pub below_on : i < m → get_or a i 0 ≡ get_or b i 0 → below_from a b (i + 1) ≡ y
   unfolding below below_from
   below_on h e =
@@ -138,6 +155,8 @@ module _ (a b : List ℕ) (i : ℕ) (y : Bool) (w : below_from a b i ≡ y) (m :
         le-ltb (get_or a i 0) (get_or b i 0) (omega arith),
         le-ltb (get_or b i 0) (get_or a i 0) (omega arith),
       )) w
+
+pub ruleset separating = (below-differ, below_on)
 
 -- the strings compared, a and b, are p and q
 pub below_parts : (a b p q : List ℕ) (t : Bool) → t ≡ below a b → a ≡ p → b ≡ q → t ≡ below p q

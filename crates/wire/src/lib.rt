@@ -189,18 +189,36 @@ pub fn array_at<const N: usize>(s: &[u8], at: usize) -> [u8; N]
     }
 }
 
-// Compares two byte strings three ways.
+// Compares two byte strings three ways. Inlined, since the compiler knows the length of most of them.
+#[inline(always)]
 pub fn order_of(a: &[u8], b: &[u8]) -> Ordering
     ensures { result ≡ order a.now b.now }
 {
     a.cmp(b)
 }
 
-// Whether `a` is strictly below `b`.
-pub fn is_below(a: &[u8], b: &[u8]) -> bool
+// How many bytes `is_below` compares one by one. Neighbours in a list often differ there, and the library's `cmp` finds that later.
+const NEAR: usize = 8;
+
+// Separate from `is_below`, which is inlined: few strings are compared beyond the bytes near their starts.
+#[inline(never)]
+fn far_below(a: &[u8], b: &[u8]) -> bool
     ensures { result ≡ below a.now b.now }
 {
     order_of(a, b).is_lt()
+}
+
+// Whether `a` is strictly below `b`.
+#[inline(always)]
+pub fn is_below(a: &[u8], b: &[u8]) -> bool
+    ensures { result ≡ below a.now b.now }
+{
+    for i in 0..a.len().min(b.len()).min(NEAR) {
+        if a[i] != b[i] {
+            return a[i] < b[i];
+        }
+    }
+    far_below(a, b)
 }
 
 // Whether, of the adjacent byte ranges from `start` up to `middle` and from `middle` up to `end`, the second is strictly below the first.
@@ -222,7 +240,7 @@ pub fn next_below(s: &[u8], start: usize, middle: usize, end: usize) -> bool
 pub fn address_below(a: [u8; 20], b: [u8; 20]) -> bool
     ensures { result ≡ below a b }
 {
-    is_below(&a, &b)
+    order_of(&a, &b).is_lt()
 }
 
 // Compares keys by identifier, then by index.
