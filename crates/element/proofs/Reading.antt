@@ -21,12 +21,13 @@ use borrow.Author.Tests.{ltb-true, ltb-false, eq-eqb, ne_eqb}
 use Rattle.wire.specs.declared.Refusal.{Refusal}
 use Rattle.wire.specs.Bytes.{Bytes, digits, below, pick, between}
 use Rattle.wire.specs.laws.Bytes.{length_digits}
-use Rattle.wire.specs.Format.{Format, Parsed, took, refused, on_result, read}
+use Rattle.wire.specs.Format.{Format, Parsed, took, refused, on_result, read, Stands}
+use Rattle.wire.specs.laws.Format.{parse-inv}
 use Rattle.wire.proofs.Format.{stands-part, parse-alike-read}
 use Rattle.wire.specs.Numbers.{by, cut_at, unknown_type, out_of_order}
 use Rattle.wire.specs.Fields.{blob, integer}
 use Rattle.wire.specs.laws.Sizes.{length-integer}
-use Rattle.wire.specs.Sequence.{guard, tag, items}
+use Rattle.wire.specs.Sequence.{and_then, guard, tag, items}
 use Rattle.wire.specs.Series.{left, not_below, series, series_from, nondecreasing}
 use Rattle.wire.specs.Parsers.{list_parse}
 use Rattle.wire.specs.code.Answer.{ended, valued, whole_at}
@@ -43,7 +44,7 @@ use Rattle.element.specs.Operations.{OperationType, mint_nft, transfer_nft, oper
 use Rattle.element.specs.Operations.{terms, operation, Fx, secp_fx, nft_fx, fx_code, fx_of, fx_of-code, fx_id, state_outputs, InitialState}
 use Rattle.element.specs.Operations.{initial_state_after, initial_state}
 use Rattle.element.specs.declared.inputs.Key.{Key}
-use Rattle.element.specs.code.Answer.{and_next, in_order, ordered, integer_follows, key_follows, keyed}
+use Rattle.element.specs.code.Answer.{and_next, in_order, ordered, integer_follows, key_follows, keyed, key_of}
 
 -- ---- answers: what an answer with one case for a value and one for a refusal says about the parse
 
@@ -131,33 +132,34 @@ module _ {R : Type 0} (prev : Option Key) (k : Key) (t : Bool) (z X Y : R) (e : 
   pub if-key-not : t ≡ false → key.Good (k.id, k.index) → z ≡ Y → z ≡ pick (below (key_before prev) (key.write (k.id, k.index))) X Y
   if-key-not q i j = rw (key-below prev k h i, found e q) j
 
--- the identifier is read by value
-pub on-id : {R : Type 0} (k : ℕ) (s : List ℕ) (at : ℕ) (z : R) (stop : Refusal → R) (go : List ℕ → ℕ → R) (x : Result ℕ Refusal) (n : ℕ) (id : List ℕ)
-    → x ≡ ended (blob k) s at → x ≡ Ok n → id ≡ whole_at k s at → z ≡ go id n → z ≡ (blob k).parse s at stop go
-on-id k s at z stop go x n id p q h e = W.on-part k s at z stop go x n p q (e ∙ ap (λ b. go b n) (W.whole-next k s at id x n h p q))
+-- a key's index is read with the key, and its identifier by value after it
+key-id : (s : List ℕ) (at : ℕ) (v : List ℕ × ℕ) (n : ℕ) → read key s at ≡ took v n → whole_at 32 s at ≡ v.0
+unfolding key and_then
+key-id s at v n h =
+    let (id, i, ei, e) = parse-inv (blob 32) s at _ v n h in
+    let (index, k, ek, f) = parse-inv (integer 4) s i (λ index k. took (id, index) k) v n e in
+    let same : (id, index) ≡ v = cc in
+    W.whole_part 32 s at id i ei ∙ ap (λ (k : List ℕ × ℕ). k.0) same
 
-same_key : (v : List ℕ × ℕ) (m n : ℕ) (k : Key) → ◌≡◌ {A = Result (Key × ℕ) Refusal} (Ok (record { id = v.0; index = v.1 }, m)) (Ok (k, n))
-    → (v ≡ (k.id, k.index)) × (m ≡ n)
-same_key v m n k e = let (i, j) = same-parts e in (ap (λ (k : Key). (k.id, k.index)) i, j)
+key-parts : (s : List ℕ) (at : ℕ) (v : List ℕ × ℕ) (i : ℕ) (k : Key) → k ≡ key_of s at i → whole_at 32 s at ≡ v.0 → v.1 ≡ i → v ≡ (k.id, k.index)
+key-parts s at v i k h e f = rw (h, e, f) refl
 
-module _ (s : List ℕ) (at : ℕ) (x : Result (Key × ℕ) Refusal) (p : x ≡ keyed s at) where
-  key-took : (k : Key) (n : ℕ) → x ≡ Ok (k, n) → read key s at ≡ took (k.id, k.index) n
-  key-took k n q =
-      let (v, m, t, i) = answer-took key s at Err (λ v n. Ok (record { id = v.0; index = v.1 }, n)) x p (Ok (k, n)) q
-      (λ e j. let z : ◌≡◌ {A = ℕ} 0 1 = cc in omega arith) in
-      let (ev, em) = same_key v m n k i in
-      t ∙ rw (ev, em) refl
+module _ (s : List ℕ) (at : ℕ) (x : Result (ℕ × ℕ) Refusal) (p : x ≡ keyed s at) where
+  key-took : (k : Key) (n i : ℕ) → k ≡ key_of s at i → x ≡ Ok (i, n) → read key s at ≡ took (k.id, k.index) n
+  key-took k n i h q =
+      let (v, m, t, j) = answer-took key s at Err (λ v n. Ok (v.1, n)) x p (Ok (i, n)) q (λ e j. let z : ◌≡◌ {A = ℕ} 0 1 = cc in omega arith) in
+      let (ei, em) = same-parts j in
+      t ∙ rw (key-parts s at v i k h (key-id s at v m t) ei, em) refl
 
-  pub key_read : (k : Key) (n : ℕ) → x ≡ Ok (k, n) → Slice s → key.Good (k.id, k.index)
-  key_read k n q b = (key.sound s at (k.id, k.index) n (slice-bytes s b) (key-took k n q)).0
+  pub key_read : (k : Key) (n i : ℕ) → k ≡ key_of s at i → x ≡ Ok (i, n) → Slice s → key.Good (k.id, k.index)
+  key_read k n i h q b = (key.sound s at (k.id, k.index) n (slice-bytes s b) (key-took k n i h q)).0
 
   module _ {R : Type 0} (z : R) (stop : Refusal → R) (go : List ℕ × ℕ → ℕ → R) where
-    pub on-key : (k : Key) (n : ℕ) → x ≡ Ok (k, n) → z ≡ go (k.id, k.index) n → z ≡ key.parse s at stop go
-    on-key k n q e = e ∙ sym (W.parse-took key s at stop go (k.id, k.index) n (key-took k n q))
+    pub on-key : (k : Key) (n i : ℕ) → k ≡ key_of s at i → x ≡ Ok (i, n) → z ≡ go (k.id, k.index) n → z ≡ key.parse s at stop go
+    on-key k n i h q e = e ∙ sym (W.parse-took key s at stop go (k.id, k.index) n (key-took k n i h q))
 
     pub on-key-refused : (e : Refusal) → x ≡ Err e → z ≡ stop e → z ≡ key.parse s at stop go
-    on-key-refused e q r =
-        on-refused key Err (λ v n. Ok (record { id = v.0; index = v.1 }, n)) s at z stop go x p e q (λ v m j. cc) (λ d j. cc) r
+    on-key-refused e q r = on-refused key Err (λ v n. Ok (v.1, n)) s at z stop go x p e q (λ v m j. cc) (λ d j. cc) r
 
 -- ---- lists: what is left of one, given what the code keeps of the element before
 
@@ -206,25 +208,37 @@ ordered-is {A = A} F s prev at b =
         (turned (below (between at n s) (between prev at s)) (Err (by out_of_order at)) (Ok n))
     cases (refused e) q = refl
 
+-- an element that must not be below the one before: x is the answer of reading F, y is that answer after the order was checked
+module _ {A R : Type 0} (F : Format A) (s : List ℕ) (prev at : ℕ) (z : R) (stop : Refusal → R) (go : A → ℕ → R) (x y : Result ℕ Refusal)
+    (p : x ≡ ended F s at) (q : y ≡ in_order s prev at x) (b : Slice s) where
+  ordered-ended : y ≡ ended (not_below F (between prev at s)) s at
+  ordered-ended = q ∙ ap (in_order s prev at) p ∙ ordered-is F s prev at b
+
+  pub on-ordered : (n : ℕ) → y ≡ Ok n → ((v : A) → Stands s at ((not_below F (between prev at s)).write v) n → z ≡ go v n)
+      → z ≡ (not_below F (between prev at s)).parse s at stop go
+  on-ordered n h e =
+      let (v, t) = W.next-took (not_below F (between prev at s)) s at y n ordered-ended h in
+      e v ((not_below F (between prev at s)).sound s at v n (slice-bytes s b) t).1 ∙ sym (W.parse-took (not_below F (between prev at s)) s at stop go v n t)
+
+  pub on-disordered : (e : Refusal) → y ≡ Err e → z ≡ stop e → z ≡ (not_below F (between prev at s)).parse s at stop go
+  on-disordered e h r = W.stops (not_below F (between prev at s)) R s at z stop go y e ordered-ended h r
+
 -- a list of such elements: what the code makes of the answers `ended F s`, one after another
 pub ordered-list : {A : Type 0} (F : Format A) (s : List ℕ) → Slice s → (n prev at : ℕ)
     → ordered (λ k. ended F s k) s prev at n ≡ ended (series_from (not_below F) (between prev at s) n) s at
 unfolding items list_parse
 ordered-list F s b zero prev at = refl
-ordered-list {A = A} F s b (suc n) prev at =
-    ap (λ r. and_next r (λ m. ordered (λ k. ended F s k) s at m n)) (ordered-is F s prev at b)
-    ∙ cases (read G s at) _ _ _ (G.same s at Err (λ v m. Ok m)) (G.same s at Err (λ v m. ordered (λ k. ended F s k) s at m n))
-    ∙ parse-alike-read G s at Err _ _ (λ v m t.
-    ordered-list F s b n at m
-    ∙ ap (λ (w : List ℕ). ended (series_from (not_below F) w n) s m) (sym (stands-part s at (G.write v) m (G.sound s at v m (slice-bytes s b) t).1)))
+ordered-list {A = A} F s b (suc n) prev at = turn (λ m. ordered-list F s b n at m) (in_order s prev at (ended F s at)) refl
   where
-    G : Format A
-    G = not_below F (between prev at s)
-
-    cases : (o : Parsed A) (x y : Result ℕ Refusal) (go : ℕ → Result ℕ Refusal) → x ≡ on_result o Err (λ v m. Ok m)
-        → y ≡ on_result o Err (λ v m. go m) → and_next x go ≡ y
-    cases (took v m) x y go p q = rw p (sym q)
-    cases (refused e) x y go p q = rw p (sym q)
+    turn : ((m : ℕ) → ordered (λ k. ended F s k) s at m n ≡ ended (series_from (not_below F) (between at m s) n) s m)
+        → (y : Result ℕ Refusal) → y ≡ in_order s prev at (ended F s at)
+        → and_next y (λ m. ordered (λ k. ended F s k) s at m n) ≡ ended (series_from (not_below F) (between prev at s) (suc n)) s at
+    turn rest (Ok m) q =
+        on-ordered F s prev at _ Err _ (ended F s at) (Ok m) refl q b m refl
+        (λ v h.
+        rest m
+        ∙ ap (λ (w : List ℕ). ended (series_from (not_below F) w n) s m) (sym (stands-part s at ((not_below F (between prev at s)).write v) m h)))
+    turn rest (Err e) q = on-disordered F s prev at _ Err _ (ended F s at) (Err e) refl q b e refl refl
 
 pub ordered-start : {A : Type 0} (F : Format A) (s : List ℕ) → Slice s → (n at : ℕ) → ordered (λ k. ended F s k) s at at n ≡ ended (nondecreasing F n) s at
 ordered-start F s b n at = ordered-list F s b n at at ∙ W.list-start (not_below F) (left (not_below F)) s n at Err (λ l k. Ok k) at

@@ -4,7 +4,7 @@ ghost use Rattle.wire.specs.Fields.{integer};
 ghost use Rattle.wire.specs.Series.{increasing, series};
 ghost use Rattle.wire.specs.code.Answer.{ended};
 ghost use Rattle.element.specs.Inputs.{input, spend};
-ghost use Rattle.element.specs.code.Answer.{integer_follows, key_follows, keyed};
+ghost use Rattle.element.specs.code.Answer.{integer_follows, key_follows, keyed, key_of};
 
 use crate::{SECP_INPUT, outputs};
 use wire::{Refusal, Rule};
@@ -23,21 +23,33 @@ pub(crate) fn integer_follows(prev: Option<u64>, integer: u64) -> bool
     prev.is_none_or(|p| p < integer)
 }
 
-// Whether `key` may come after `prev`, the one before it.
+// Whether `key` may come after `prev`, the one before it. A match, inlined: a closure would have both keys copied to pass them.
+#[inline(always)]
 pub(crate) fn key_follows(prev: Option<Key>, key: Key) -> bool
     ensures { result ≡ key_follows prev key }
 {
-    prev.is_none_or(|p| wire::key_below(p.id, p.index, key.id, key.index))
+    match prev {
+        None => true,
+        Some(p) => wire::key_below(p.id, p.index, key.id, key.index),
+    }
 }
 
-// A key, and the offset just past it.
-pub(crate) fn key_at(s: &[u8], at: usize) -> Result<(Key, usize), Refusal>
+// A key's index, and the offset just past the key. Callers read the id: the compiler moves an answer that holds it byte by byte.
+pub(crate) fn key_at(s: &[u8], at: usize) -> Result<(u64, usize), Refusal>
     ensures { result ≡ keyed s.now at }
 {
     let index_at = wire::field_at(s, at, 32)?;
-    let id = wire::array_at::<32>(s, at);
-    let (index, next) = wire::u32_at(s, index_at)?;
-    Ok((Key { id, index }, next))
+    wire::u32_at(s, index_at)
+}
+
+// The key at `at` with this index.
+pub(crate) fn key_of(s: &[u8], at: usize, index: u64) -> Key
+    ensures { result ≡ key_of s.now at index }
+{
+    Key {
+        id: wire::array_at::<32>(s, at),
+        index,
+    }
 }
 
 // `count` address indices from `start` on, each strictly above the one before.
@@ -78,7 +90,8 @@ pub fn inputs_from(s: &[u8], start: usize, count: u64) -> Result<usize, Refusal>
     let mut prev = None;
     let mut at = start;
     for _ in 0..count {
-        let (key, after_key) = key_at(s, at)?;
+        let (index, after_key) = key_at(s, at)?;
+        let key = key_of(s, at, index);
         if !key_follows(prev, key) {
             return Err(wire::refuse(Rule::OutOfOrder, at));
         }

@@ -16,7 +16,8 @@ fn pairs_from(s: &[u8], start: usize, count: u64) -> Result<usize, Refusal>
     let mut prev = None;
     let mut at = start;
     for _ in 0..count {
-        let (key, next) = inputs::key_at(s, at)?;
+        let (index, next) = inputs::key_at(s, at)?;
+        let key = inputs::key_of(s, at, index);
         if !inputs::key_follows(prev, key) {
             return Err(wire::refuse(Rule::OutOfOrder, at));
         }

@@ -4,6 +4,7 @@ use Rattle.wire.specs.declared.Refusal.{Refusal}
 use Rattle.std.specs.Prelude.{ℕ, zero, suc, Bool, true, List, ltb, Ok, Err, Result, Option, Some, None}
 use Rattle.wire.specs.Bytes.{pick, between, below}
 use Rattle.wire.specs.Numbers.{by, out_of_order}
+use Rattle.wire.specs.code.Answer.{whole_at}
 use Rattle.wire.specs.code.Order.{key_below}
 use Rattle.element.specs.declared.inputs.Key.{Key}
 use Rattle.element.specs.Inputs.{key}
@@ -39,6 +40,10 @@ abbrev pub key_follows : Option Key → Key → Bool
 key_follows None k = true
 key_follows (Some p) k = key_below p.id p.index k.id k.index
 
--- a key and the offset just past it
-abbrev pub keyed : List ℕ → ℕ → Result (Key × ℕ) Refusal
-keyed s at = key.parse s at Err (λ v n. Ok (record { id = v.0; index = v.1 }, n))
+-- a key's index and the offset just past the key
+abbrev pub keyed : List ℕ → ℕ → Result (ℕ × ℕ) Refusal
+keyed s at = key.parse s at Err (λ v n. Ok (v.1, n))
+
+-- the key at an offset, with this index
+abbrev pub key_of : List ℕ → ℕ → ℕ → Key
+key_of s at index = record { id = whole_at 32 s at; index = index }

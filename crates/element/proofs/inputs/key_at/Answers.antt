@@ -1,5 +1,5 @@
 -- `element::inputs::key_at` meets its contract. Assumes nothing.
-use Rattle.element.proofs.Reading.{reading, on-id}
+use Rattle.element.proofs.Reading.{reading}
 use Rattle.element.specs.Inputs.{key}
 use Rattle.element.proofs.inputs.key_at.Goals as goal
 
@@ -7,10 +7,6 @@ pub returns-in_err-index_at : goal.returns-in_err-index_at
 unfolding key
 returns-in_err-index_at c = search (reading, c.in_err-index_at.was) depth 12
 
-pub returns-in_err-index : goal.returns-in_err-index
-unfolding key
-returns-in_err-index c = search (reading, on-id, c.in_ok-index_at.was, c.in_err-index.was) depth 12
-
 pub returns : goal.returns
 unfolding key
-returns c = search (reading, on-id, c.in_ok-index_at.was, c.in_ok-index.was) depth 12
+returns c = search (reading, c.in_ok-index_at.was) depth 12

@@ -3,17 +3,17 @@ use Rattle.wire.proofs.Reading.{for_end}
 use Rattle.element.proofs.Reading.{keys}
 use Rattle.element.proofs.operations.pairs_from.Goals as goal
 
-pub returns-in_err-key : goal.returns-in_err-key
+pub returns-in_err-index : goal.returns-in_err-index
 unfolding guard
-returns-in_err-key c = search (keys, c.in_err-key.was) depth 10
+returns-in_err-index c = search (keys, c.in_err-index.was) depth 10
 
 pub returns-then-not-key_follows : goal.returns-then-not-key_follows
 unfolding guard
-returns-then-not-key_follows c = search (keys, c.in_ok-key.was) depth 10
+returns-then-not-key_follows c = search (keys, c.in_ok-index.was) depth 10
 
 pub loop-preserved : goal.loop-preserved
 unfolding guard
-loop-preserved c = search (keys, c.in_ok-key.was) depth 10
+loop-preserved c = search (keys, c.in_ok-index.was) depth 10
 
 pub returns : goal.returns
 unfolding guard
