@@ -1,16 +1,18 @@
 -- Two byte strings compared from an index on, byte by byte and block by block; what a slot holds. Assumes nothing.
 use Rattle.std.proofs.Common.{min, Bor, Option, Some, None}
+use Rattle.std.proofs.Math.Nat.{add-mod_left, mod-le, mod-eq_of_lt}
 use Rattle.std.specs.Option.{unwrap_or}
 use Rattle.std.specs.Slice.{IsGetRangeResult}
-use Prim.Native.Nat.{ℕ, ◌+◌, ◌-◌, ◌≤◌, ◌<◌}
-use mathlib.Core.Path.{◌≡◌, refl, sym, ap, ◌∙◌}
+use Prim.Native.Nat.{ℕ, ◌+◌, ◌-◌, ◌%◌, ◌≤◌, ◌<◌}
+use mathlib.Core.Path.{◌≡◌, refl, sym, ap, ap₂, ◌∙◌}
 use mathlib.Core.Bool.{Bool, true, false, ◌&&◌}
 use mathlib.Core.Logic.{◌⊎◌, inl, inr}
 use mathlib.Core.List.{List, [], ◌∷◌, ◌++◌}
 use native.Mathlib.Decide.{dec_le}
 use native.Mathlib.Omega.{arith}
-use lib.ListN.{length, take, drop, drop_of_length-le, length-append, length-drop, length-take, replicate, length-replicate}
-use lib.Seq.{take_all}
+use native.Mathlib.Numerals.{add-one}
+use lib.ListN.{length, take, drop, get_or, drop_of_length-le, length-append, length-drop, length-take, replicate, length-replicate}
+use lib.Seq.{drop-cons, drop-append-add, take_all}
 use lib.Dec.{eqb}
 use borrow.Author.Tests.{ne_eqb}
 use Rattle.wire.proofs.Bytes.{found}
@@ -26,27 +28,28 @@ and-true : (x : Bool) → (x && true) ≡ x
 and-true true = refl
 and-true false = refl
 
--- ---- byte by byte, x being the result so far, and r and s the bytes that are left
+-- ---- byte by byte, x being the result so far
 
-module _ (x y : Bool) (r s : List ℕ) (w : ((x && same r s) ≡ y) × (length r ≡ length s)) where
-  pub same-on : (u v : List ℕ) (p q : ℕ) → (r ≡ p ∷ u) × (s ≡ q ∷ v) → (((x && eqb p q) && same u v) ≡ y) × (length u ≡ length v)
-  unfolding same
-  same-on u v p q h = (and_assoc x (eqb p q) (same u v) ∙ (rw (h.0, h.1) at w.0), omega (arith, ap length h.0, ap length h.1))
+-- whether a and b are equal from index i on; opaque, so that `search` reads a, b and i off it
+unfoldable pub same_from : List ℕ → List ℕ → ℕ → Bool
+same_from a b i = same (drop i a) (drop i b)
 
-  pub same_end : (length r ≡ 0) ⊎ (length s ≡ 0) → x ≡ y
-  unfolding same
-  same_end h = both (empty h)
-    where
-      empty : (length r ≡ 0) ⊎ (length s ≡ 0) → length r ≡ 0
-      empty (inl n) = n
-      empty (inr n) = omega arith
+pub same-all : (a b : List ℕ) → (true && same_from a b 0) ≡ same a b
+unfolding same_from
+same-all a b = refl
 
-      nil : (l : List ℕ) → length l ≡ 0 → l ≡ []
-      nil [] n = refl
-      nil (p ∷ l) n = absurd (omega arith)
+module _ (a b : List ℕ) (i : ℕ) (x y : Bool) (w : (x && same_from a b i) ≡ y) (l : length a ≡ length b) where
+  pub same-on : i < length a → ((x && eqb (get_or a i 0) (get_or b i 0)) && same_from a b (i + 1)) ≡ y
+  unfolding same same_from
+  same-on h =
+      let k : i < length b = omega arith in
+      and_assoc x (eqb (get_or a i 0) (get_or b i 0)) _ ∙ sym (rw (add-one, drop-cons a i 0, drop-cons b i 0)) ∙ w
 
-      both : length r ≡ 0 → x ≡ y
-      both n = let k : length s ≡ 0 = omega arith in sym (rw (nil r n, nil s k) (and-true x)) ∙ w.0
+  pub same_end : length a ≤ i → x ≡ y
+  unfolding same same_from
+  same_end h =
+      let k : length b ≤ i = omega arith in
+      sym (rw (drop_of_length-le a, drop_of_length-le b) (and-true x)) ∙ w
 
 -- ---- block by block
 
@@ -70,6 +73,28 @@ module _ (r s x y u v : List ℕ) (z t : Bool) (w : same r s ≡ z) (k : length 
 
   pub block-differs : t ≡ false → false ≡ z
   block-differs h = sym (ap (λ (t : Bool). t && same u v) h) ∙ split
+
+-- what of r no whole block takes
+abbrev pub rest_of : List ℕ → List ℕ
+rest_of r = drop (length r - length r % 64) r
+
+-- the first block taken off, the rest is the same
+pub rest-on : (r x u : List ℕ) → r ≡ x ++ u → length x ≡ 64 → rest_of u ≡ rest_of r
+rest-on r x u e l =
+    let n : length r ≡ 64 + length u = ap length e ∙ length-append x u ∙ ap (λ (k : ℕ). k + length u) l in
+    let m : length r % 64 ≡ length u % 64 = ap (λ (k : ℕ). k % 64) n ∙ add-mod_left 64 (length u) in
+    let k : length r - length r % 64 ≡ length x + (length u - length u % 64) = omega (arith, n, m, l, mod-le (length u) 64) in
+    sym (rw (k, e) (drop-append-add x u (length u - length u % 64)))
+
+pub rest_alike : (r s : List ℕ) → length r ≡ length s → length (rest_of r) ≡ length (rest_of s)
+rest_alike r s k = length-drop _ r ∙ ap (λ (n : ℕ). n - (n - n % 64)) k ∙ sym (length-drop _ s)
+
+-- r and s are the rests once no whole block is left
+pub same_rest : (r s u v : List ℕ) (z t : Bool) → same r s ≡ z → length r ≡ length s → rest_of r ≡ u → rest_of s ≡ v → length r < 64 → t ≡ same u v → t ≡ z
+same_rest r s u v z t w k a b h e = e ∙ ap₂ same (sym a ∙ whole r h) (sym b ∙ whole s (omega arith)) ∙ w
+  where
+    whole : (l : List ℕ) → length l < 64 → rest_of l ≡ l
+    whole l h = let q : length l - length l % 64 ≡ 0 = omega (arith, mod-eq_of_lt h) in rw q refl
 
 -- ---- the bytes of a slot, and what cannot be in one
 
