@@ -37,6 +37,8 @@ impl<'a> Iterator for Entries<'a> {
 
     ghost remaining = { λ e. at_most (ahead e.cursor) };
 
+    // Inlined like the steps, so that what takes the rows keeps the cursor in registers.
+    #[inline(always)]
     fn next(&mut self) -> Option<Row> {
         loop {
             match steps::advance(self.bytes, self.type_id, self.cursor) {

@@ -1,4 +1,5 @@
 // Steps from one entry of an accepted transaction to the next. On other bytes the steps end too, but the entries mean nothing.
+// Each step is inlined: a loop over the entries then keeps its cursor in registers, where a call would take and answer it in memory.
 ghost use Rattle.std.specs.Prelude.{◌≡◌, ◌<◌};
 ghost use Rattle.wire.specs.code.Answer.{ended};
 ghost use Rattle.transaction.specs.declared.ListName.TheVariants as L;
@@ -23,6 +24,7 @@ pub fn first() -> Cursor
 }
 
 // Enters the list whose count is at `at`.
+#[inline(always)]
 fn advance_counted(s: &[u8], phase: u32, at: usize) -> Advance
     ensures counted_advance { CountedAdvance phase s.now at result }
     ensures entered { Entered phase result }
@@ -39,6 +41,7 @@ fn advance_counted(s: &[u8], phase: u32, at: usize) -> Advance
 }
 
 // Enters the next segment, or skips it if it is a field.
+#[inline(always)]
 fn advance_later(s: &[u8], type_id: u32, cursor: Cursor) -> Advance
     ensures later_advance { LaterAdvance type_id s.now cursor result }
     ensures shorter { Shorter cursor result }
@@ -60,6 +63,7 @@ fn advance_later(s: &[u8], type_id: u32, cursor: Cursor) -> Advance
 }
 
 // Enters an initial state, just past its FxID and the count of its outputs.
+#[inline(always)]
 fn advance_state(s: &[u8], cursor: Cursor) -> Advance
     requires { 0 < cursor.left }
     ensures element_advance { ElementAdvance L.State s.now cursor result }
@@ -80,6 +84,7 @@ fn advance_state(s: &[u8], cursor: Cursor) -> Advance
 }
 
 // Steps over an element, which is an entry; enters an initial state, whose outputs are the entries.
+#[inline(always)]
 fn advance_element(s: &[u8], list: ListName, cursor: Cursor) -> Advance
     requires { 0 < cursor.left }
     ensures element_advance { ElementAdvance list s.now cursor result }
@@ -107,6 +112,7 @@ fn advance_element(s: &[u8], list: ListName, cursor: Cursor) -> Advance
 }
 
 // The functions that find a row stay apart: one for all would take what is skipped, the kind, and which count goes down.
+#[inline(always)]
 fn advance_state_output(s: &[u8], cursor: Cursor) -> Advance
     requires { 0 < cursor.inner }
     ensures state_output_advance { StateOutputAdvance s.now cursor result }
@@ -137,6 +143,7 @@ fn credential_past(s: &[u8], at: usize) -> Result<usize, Refusal>
     wire::field_at(s, first, transaction::SIGNATURE_WIDTH * signatures as usize)
 }
 
+#[inline(always)]
 fn advance_credential(s: &[u8], cursor: Cursor) -> Advance
     requires { 0 < cursor.left }
     ensures credential_advance { CredentialAdvance s.now cursor result }
@@ -160,6 +167,7 @@ fn advance_credential(s: &[u8], cursor: Cursor) -> Advance
 }
 
 // The entry at a cursor and the cursor just past it; or, at the end of a segment, the cursor in the next one.
+#[inline(always)]
 pub fn advance(s: &[u8], type_id: u32, cursor: Cursor) -> Advance
     ensures advance_ahead { AdvanceAhead type_id s.now cursor result }
     ensures shorter { Shorter cursor result }
