@@ -61,10 +61,12 @@ nth-row (e ∷ es) (suc n) =
     rw (ne_eqb (suc n) 0 (λ q. omega arith), sub-one (suc n)) (nth-row es n)
 
 module _ (s : List ℕ) (type_id : ℕ) (e : Entries) (b : Begins s type_id e) where
-  pub find-nth : (n : ℕ) (r : Option Row) (u : Entries) → ((xs : List Row) × YieldsThen NextRow e xs r u × MatchOption r (length xs ≤ n) (λ _. length xs ≡ n))
-      → Finds n type_id s r
+  -- entry n, by the number m that `nth` was given
+  pub find-nth : (n m : ℕ) (r : Option Row) (u : Entries) → ((xs : List Row) × YieldsThen NextRow e xs r u × MatchOption r (length xs ≤ m) (λ _. length xs ≡ m))
+      → m ≡ n → Finds n type_id s r
   unfolding Finds
-  find-nth n r u h most es a = same r (nth_from_yields_List r u n h (rows-yielded most s type_id es e b a) ∙ nth-row es n)
+  find-nth n m r u h i most es a =
+      same r (nth_from_yields_List r u m h (rows-yielded most s type_id es e b a) ∙ nth-row es m ∙ ap (λ (k : ℕ). row_of (nth es k)) i)
     where
       same : (r : Option Row) {x : Option Row} → option_map (λ r. r) r ≡ x → r ≡ x
       same (Some r) h = h
