@@ -243,7 +243,8 @@ pub fn address_below(a: [u8; 20], b: [u8; 20]) -> bool
     order_of(&a, &b).is_lt()
 }
 
-// Compares keys by identifier, then by index.
+// Compares keys by identifier, then by index. Inlined, since keys that are passed are copied.
+#[inline(always)]
 pub fn key_below(a: [u8; 32], a_index: u64, b: [u8; 32], b_index: u64) -> bool
     ensures { result ≡ key_below a a_index b b_index }
 {
