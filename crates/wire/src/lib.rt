@@ -222,17 +222,18 @@ pub fn is_below(a: &[u8], b: &[u8]) -> bool
 }
 
 // Whether, of the adjacent byte ranges from `start` up to `middle` and from `middle` up to `end`, the second is strictly below the first.
+#[inline(always)]
 pub fn next_below(s: &[u8], start: usize, middle: usize, end: usize) -> bool
     ensures { result ≡ below (between middle end s.now) (between start middle s.now) }
 {
     if s.len() < end {
-        return is_below(between(s, middle, end), between(s, start, middle));
+        return far_below(between(s, middle, end), between(s, start, middle));
     }
     if end < middle {
-        return is_below(between(s, middle, end), between(s, start, middle));
+        return far_below(between(s, middle, end), between(s, start, middle));
     }
     if middle < start {
-        return is_below(between(s, middle, end), between(s, start, middle));
+        return far_below(between(s, middle, end), between(s, start, middle));
     }
     is_below(&s[middle..end], &s[start..middle])
 }
